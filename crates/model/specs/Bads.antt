@@ -1,0 +1,74 @@
+-- Document 01, "Ceilings and bads": the rows of bads; refusal 6 (bad).
+use Prim.Native.Nat.{ℕ, zero, suc, _+_, _*_, _-_}
+use mathlib.Core.Bool.{Bool, true, false, _&&_, _||_}
+use mathlib.Core.List.{List, [], _∷_}
+use mathlib.Core.Option.{Option, some, none, Option·map}
+use lib.ListN.{replicate}
+use lib.Dec.{leb, ltb, eqb}
+use Rattle.model.specs.declared.Sizes.{Sizes}
+use Rattle.model.specs.declared.Verdict.{Verdict}
+use Rattle.model.specs.declared.Verdict.the-variants.{Bad}
+use Rattle.model.specs.Words.{Columns, left, right, columns}
+use Rattle.model.specs.Verdict.{Check}
+use Rattle.model.specs.Message.{bads-at}
+use Rattle.model.specs.Reader.{Grammar, fits, after, first-wrong}
+use Rattle.model.specs.Rows.{Program, tag, is-head}
+use Rattle.model.specs.Heads.{is-class}
+use Rattle.model.specs.Letters.{letters}
+
+-- "Bads: B bads, E rows; tags, numbers"
+unfoldable pub bad-rows : List ℕ → Sizes → Columns
+bad-rows ws s = columns ws (s .conditions) (bads-at s + 2) (bads-at s + 2 + s .conditions)
+
+pub data Part : Type 0 where
+  bad : Part  -- its first item
+  subject : Part  -- (41, head) or (42, letter)
+  minimum : Part  -- (43, minimum from 1)
+  further : Part  -- another item, or the end
+
+-- "A bad is items (40, class), (41, head) or (42, letter), (43, minimum from 1), then (44, 0)"
+abbrev pub item : List Part
+item = subject ∷ minimum ∷ further ∷ []
+
+unfoldable pub bad-step : Program → Grammar Part
+bad-step p bad t n = fits (eqb t 40 && is-class p n) item
+bad-step p subject t n = fits (eqb t 41 && is-head (tag p n) || eqb t 42 && ltb n (letters p)) []
+bad-step p minimum t n = fits (eqb t 43 && leb 1 n) []
+bad-step p further t n = elim (eqb t 44) [ true ↦ fits (eqb n 0) [] | false ↦ fits (eqb t 40 && is-class p n) item ]
+
+-- 6: "form, class, head, letter, no item, or not B bads: first such tag, a row after B bads included; rows ending early: the word past the tags"
+unfoldable pub bad-check : List ℕ → Sizes → Program → Check
+bad-check ws s p =
+    Option·map (λ r. Bad (bads-at s + 2 + r)) (first-wrong (bad-step p) (bad-rows ws s) (replicate (s .bads) bad))
+
+-- the first row of bad number j
+unfoldable pub bad-row : Program → Columns → ℕ → ℕ
+bad-row p rows j = after (bad-step p) rows (replicate j bad) 0
+
+-- what an item asks the count of: "(40, class), (41, head) or (42, letter)"
+pub data Counted : Type 0 where
+  state-of : (class head : ℕ) → Counted
+  letter-of : (class letter : ℕ) → Counted
+
+unfoldable pub counted : Columns → ℕ → Counted
+counted rows r =
+    elim (eqb (left rows (r + 1)) 41) [
+      | true ↦ state-of (right rows r) (right rows (r + 1))
+      | false ↦ letter-of (right rows r) (right rows (r + 1))
+    ]
+
+-- "it is met when every item is, an item when its count is at least its minimum": by the counts, from row r on; n rows are left
+unfoldable pub met-from : (Counted → ℕ) → Columns → ℕ → ℕ → Bool
+met-from counts rows zero r = true
+met-from counts rows (suc n) r =
+    elim (eqb (left rows r) 40) [
+      | true ↦ leb (right rows (r + 2)) (counts (counted rows r)) && met-from counts rows n (r + 3)
+      | false ↦ true
+    ]
+
+unfoldable pub met : (Counted → ℕ) → Columns → ℕ → Bool
+met counts rows r = met-from counts rows (rows .size - r) r
+
+unfoldable pub bads-opens : Unit {0}
+unfolding bad-rows bad-step bad-check bad-row counted met-from met
+bads-opens = tt

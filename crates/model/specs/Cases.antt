@@ -1,0 +1,313 @@
+-- Document 01, "Station A" and the cases that it lists under "Proved", and cases of our own that tell wrong verifiers apart. proofs/Cases.antt
+-- proves by computation that the definitions give what stands here: number, place, part handed on and every lent word.
+use Prim.Native.Nat.{ℕ, _+_, _*_, _/_, _%_}
+use mathlib.Core.List.{List, [], _∷_, _++_, map}
+use lib.ListN.{length, take, set, replicate}
+use Rattle.model.specs.Rules.{from-all}
+use Rattle.model.specs.Verdict.{number, place}
+use Rattle.model.specs.Verify.{verdict, lent-after, part-handed}
+
+-- The parts of a message, from their rows or entries
+
+abbrev pub Pairs : Type 0
+Pairs = List (ℕ × ℕ)
+
+unfoldable pub arrays : Pairs → List ℕ
+arrays ps = map (λ x. x .0) ps ++ map (λ x. x .1) ps
+
+unfoldable pub program-words : ℕ → ℕ → ℕ → Pairs → List ℕ
+program-words names constructors functions rows = length rows ∷ names ∷ constructors ∷ functions ∷ arrays rows
+
+unfoldable pub bad-words : ℕ → Pairs → List ℕ
+bad-words bads rows = bads ∷ length rows ∷ arrays rows
+
+unfoldable pub table-words : Pairs → Pairs → Pairs → List ℕ
+table-words flow mail states = length flow ∷ length mail ∷ length states ∷ arrays (flow ++ mail ++ states)
+
+unfoldable pub bound-words : ℕ → Pairs → List ℕ
+bound-words bounds entries = bounds ∷ length entries ∷ arrays entries
+
+-- little-endian
+unfoldable pub to-bytes : List ℕ → List ℕ
+to-bytes ws = from-all ws (λ w. w % 256 ∷ w / 256 ∷ [])
+
+-- What a verifier is handed, and what it is to answer
+
+pub record Case : Type 0 where
+  pub bytes : List ℕ
+  pub lent : List ℕ
+  pub expected : List ℕ
+
+-- number, place, the part handed on and the lent words afterwards, as one list
+unfoldable pub outcome : ℕ → ℕ → List ℕ → List ℕ → List ℕ
+outcome n at part after = (n ∷ at ∷ length part ∷ part) ++ after
+
+unfoldable pub obtained : Case → List ℕ
+obtained k =
+    let v = verdict (k .bytes) (length (k .lent)) in
+    outcome (number v) (place v) (part-handed (k .bytes) (length (k .lent))) (lent-after (k .bytes) (k .lent))
+
+-- n lent words, each 9
+unfoldable pub lend : ℕ → List ℕ
+lend n = replicate n 9
+
+-- refused with this number and place: an empty part, and the lent words as they came
+unfoldable pub refused : ℕ → List ℕ → ℕ → ℕ → Case
+refused lent bytes n at = record { bytes = bytes; lent = lend lent; expected = outcome n at [] (lend lent) }
+
+-- safe: the bytes of the program part, the listing, and `beyond` words that stay
+unfoldable pub safe : ℕ → List ℕ → List ℕ → List ℕ → Case
+safe beyond program bytes listing =
+    record {
+      bytes = bytes;
+      lent = lend (length listing + beyond);
+      expected = outcome 0 0 (to-bytes program) (listing ++ lend beyond);
+    }
+
+-- Station A
+
+-- "Sizes 10 3 1 0; rows 0 to 9": an address x, a message m, sent to oneself and received
+unfoldable pub a-program : List ℕ
+a-program = program-words 3 1 0 ((10, 0) ∷ (7, 0) ∷ (2, 1) ∷ (20, 0) ∷ (5, 2) ∷ (21, 0) ∷ (21, 1) ∷ (9, 1) ∷ (31, 0) ∷ (1, 0) ∷ [])
+
+-- "Bads 1 4"
+unfoldable pub a-bads : List ℕ
+a-bads = bad-words 1 ((40, 10) ∷ (42, 0) ∷ (43, 2) ∷ (44, 0) ∷ [])
+
+-- "Tables 3 1 5"
+unfoldable pub a-tables : List ℕ
+a-tables = table-words ((0, 10) ∷ (1, 2) ∷ (2, 2) ∷ []) ((10, 2) ∷ []) ((10, 1) ∷ (10, 2) ∷ (10, 4) ∷ (10, 7) ∷ (10, 9) ∷ [])
+
+-- "Ceilings 5 11"
+unfoldable pub a-bounds : List ℕ
+a-bounds = bound-words 5 ((0, 1) ∷ (6, 0) ∷ (1, 1) ∷ (6, 0) ∷ (2, 1) ∷ (6, 0) ∷ (3, 1) ∷ (5, 1) ∷ (6, 0) ∷ (4, 1) ∷ (6, 0) ∷ [])
+
+unfoldable pub a-words : List ℕ
+a-words = a-program ++ a-bads ++ a-tables ++ a-bounds
+
+-- station A with another word, with other tables, with other bounds
+unfoldable pub with-word : ℕ → ℕ → List ℕ
+with-word i w = to-bytes (set a-words i w)
+
+unfoldable pub with-tables : List ℕ → List ℕ
+with-tables tables = to-bytes (a-program ++ a-bads ++ tables ++ a-bounds)
+
+unfoldable pub with-bounds : List ℕ → List ℕ
+with-bounds bounds = to-bytes (a-program ++ a-bads ++ a-tables ++ bounds)
+
+-- "`5 1 4 10`, `50 0`, `51 1`, `50 1`, `51 2`, `50 2`, `51 3`, `53 5`, `50 3`, `51 4`, `52 5`"
+unfoldable pub a-listing : List ℕ
+a-listing =
+    5 ∷ 1 ∷ 4 ∷ 10 ∷
+    50 ∷ 51 ∷ 50 ∷ 51 ∷ 50 ∷ 51 ∷ 53 ∷ 50 ∷ 51 ∷ 52 ∷
+    0 ∷ 1 ∷ 1 ∷ 2 ∷ 2 ∷ 3 ∷ 5 ∷ 3 ∷ 4 ∷ 5 ∷ []
+
+-- "Proved": the twelve cases, in the paper's order
+unfoldable pub proved-cases : List Case
+proved-cases =
+    -- no bytes: 1 at 0
+    refused 30 [] 1 0 ∷
+    -- A: 0 at 0
+    safe 6 a-program (to-bytes a-words) a-listing ∷
+    -- R 1,025: 2 at 0
+    refused 30 (with-word 0 1025) 2 0 ∷
+    -- a byte more: 1 at 79
+    refused 30 (to-bytes a-words ++ (0 ∷ [])) 1 79 ∷
+    -- row 4 (5,1): 4 at 8 (the number of row r is word 14 + r)
+    refused 30 (with-word 18 1) 4 8 ∷
+    -- row 5 (21,2): 5 at 9
+    refused 30 (with-word 19 2) 5 9 ∷
+    -- minimum 1: 12 at 26 (the minimum is word 32)
+    refused 30 (with-word 32 1) 12 26 ∷
+    -- no mail entry, M 0: 8 at 42
+    refused 30 (with-tables (table-words ((0, 10) ∷ (1, 2) ∷ (2, 2) ∷ []) [] ((10, 1) ∷ (10, 2) ∷ (10, 4) ∷ (10, 7) ∷ (10, 9) ∷ []))) 8 42 ∷
+    -- first ceiling gone: 11 at 55
+    refused 30 (with-bounds (bound-words 4 ((1, 1) ∷ (6, 0) ∷ (2, 1) ∷ (6, 0) ∷ (3, 1) ∷ (5, 1) ∷ (6, 0) ∷ (4, 1) ∷ (6, 0) ∷ []))) 11 55 ∷
+    -- last gone: 13 at 63
+    refused 30 (with-bounds (bound-words 4 ((0, 1) ∷ (6, 0) ∷ (1, 1) ∷ (6, 0) ∷ (2, 1) ∷ (6, 0) ∷ (3, 1) ∷ (5, 1) ∷ (6, 0) ∷ []))) 13 63 ∷
+    -- one ceiling, counters 0 to 4 unbounded, counter 5 at 65,534, minimum 65,535: 13 at 57
+    refused 30
+    (to-bytes (set (a-program ++ a-bads ++ a-tables ++ bound-words 1 ((0, 65535) ∷ (1, 65535) ∷ (2, 65535) ∷ (3, 65535) ∷ (4, 65535) ∷ (5, 65534) ∷ (6, 0) ∷ [])) 32 65535))
+    13 57 ∷
+    -- lent 23 words: 14 at 24
+    refused 23 (to-bytes a-words) 14 24 ∷
+    []
+
+-- Cases of our own. Each expected answer is worked out by hand from document 01, in the comment.
+
+-- Two branches and two receives. x = self; m = c0; send x m; receive { y -> receive { c0 -> y }; _ -> x }. A message of letter 0 can go
+-- into the second receive by the first branch, or be passed over into the second branch; at the second receive it can be read too.
+unfoldable pub two-receives : List ℕ
+two-receives = program-words 4 1 0 ((10, 0) ∷ (7, 0) ∷ (2, 1) ∷ (20, 0) ∷ (5, 2) ∷ (21, 0) ∷ (21, 1) ∷ (9, 2) ∷ (30, 3) ∷ (9, 1) ∷ (31, 0) ∷ (1, 3) ∷ (32, 0) ∷ (1, 0) ∷ [])
+
+unfoldable pub two-receives-bads : List ℕ
+two-receives-bads = bad-words 1 ((40, 14) ∷ (42, 0) ∷ (43, 2) ∷ (44, 0) ∷ [])
+
+-- flow: x holds class 14, m and what the send yields and y hold row 2; mail (14, 2); the states given
+unfoldable pub two-receives-with : Pairs → List ℕ
+two-receives-with states =
+    to-bytes
+    (two-receives ++ two-receives-bads ++ table-words ((0, 14) ∷ (1, 2) ∷ (2, 2) ∷ (3, 2) ∷ []) ((14, 2) ∷ []) states ++
+    bound-words 6 ((0, 1) ∷ (8, 0) ∷ (1, 1) ∷ (8, 0) ∷ (2, 1) ∷ (8, 0) ∷ (3, 1) ∷ (7, 1) ∷ (8, 0) ∷ (4, 1) ∷ (8, 0) ∷ (6, 1) ∷ (8, 0) ∷ []))
+
+-- seven states, counter 7 for (14, 0). State 3, at row 7, has a rule for each branch: to state 4 (row 9) and to state 6 (row 13), each reading 7;
+-- state 4, at row 9, has a rule to state 5 (row 11), reading 7 too
+unfoldable pub two-receives-listing : List ℕ
+two-receives-listing =
+    7 ∷ 1 ∷ 6 ∷ 16 ∷
+    50 ∷ 51 ∷ 50 ∷ 51 ∷ 50 ∷ 51 ∷ 53 ∷ 50 ∷ 51 ∷ 52 ∷ 50 ∷ 51 ∷ 52 ∷ 50 ∷ 51 ∷ 52 ∷
+    0 ∷ 1 ∷ 1 ∷ 2 ∷ 2 ∷ 3 ∷ 7 ∷ 3 ∷ 4 ∷ 7 ∷ 3 ∷ 6 ∷ 7 ∷ 4 ∷ 5 ∷ 7 ∷ []
+
+-- One function, two callers. f(a) = a; b = c0; r = f(b); s = f(r); s. Giving back from row 4 leads behind either call.
+unfoldable pub two-callers : List ℕ
+two-callers = program-words 5 1 1 ((10, 0) ∷ (11, 0) ∷ (22, 1) ∷ (23, 1) ∷ (1, 1) ∷ (2, 2) ∷ (20, 0) ∷ (4, 3) ∷ (21, 0) ∷ (22, 1) ∷ (21, 2) ∷ (4, 4) ∷ (21, 0) ∷ (22, 1) ∷ (21, 3) ∷ (1, 4) ∷ [])
+
+-- f holds row 1, the others row 5 (the build). One process: a bound for each state. The bad: two processes at the build.
+unfoldable pub two-callers-evidence : List ℕ
+two-callers-evidence =
+    bad-words 1 ((40, 16) ∷ (41, 5) ∷ (43, 2) ∷ (44, 0) ∷ []) ++
+    table-words ((0, 1) ∷ (1, 5) ∷ (2, 5) ∷ (3, 5) ∷ (4, 5) ∷ []) [] ((16, 4) ∷ (16, 5) ∷ (16, 7) ∷ (16, 11) ∷ (16, 15) ∷ []) ++
+    bound-words 5 ((0, 1) ∷ (5, 0) ∷ (1, 1) ∷ (5, 0) ∷ (2, 1) ∷ (5, 0) ∷ (3, 1) ∷ (5, 0) ∷ (4, 1) ∷ (5, 0) ∷ [])
+
+-- state 0, at row 4, has a rule to the rest of each call: states 3 (row 11) and 4 (row 15)
+unfoldable pub two-callers-listing : List ℕ
+two-callers-listing =
+    5 ∷ 0 ∷ 5 ∷ 10 ∷
+    50 ∷ 51 ∷ 50 ∷ 51 ∷ 50 ∷ 51 ∷ 50 ∷ 51 ∷ 50 ∷ 51 ∷
+    0 ∷ 3 ∷ 0 ∷ 4 ∷ 1 ∷ 2 ∷ 2 ∷ 0 ∷ 3 ∷ 0 ∷ []
+
+-- A name two levels deep. a = c0; b = c1(a); d = c1(b); case d of { c1(c1(x)) -> x }
+unfoldable pub nested : List ℕ
+nested = program-words 4 2 0 ((10, 0) ∷ (10, 1) ∷ (2, 0) ∷ (20, 0) ∷ (2, 1) ∷ (20, 1) ∷ (21, 0) ∷ (2, 2) ∷ (20, 1) ∷ (21, 1) ∷ (8, 2) ∷ (25, 1) ∷ (31, 1) ∷ (31, 1) ∷ (30, 3) ∷ (1, 3) ∷ [])
+
+-- the given flow; no mail; one process
+unfoldable pub nested-with : Pairs → List ℕ
+nested-with flow =
+    to-bytes
+    (nested ++ bad-words 1 ((40, 16) ∷ (41, 2) ∷ (43, 2) ∷ (44, 0) ∷ []) ++
+    table-words flow [] ((16, 2) ∷ (16, 4) ∷ (16, 7) ∷ (16, 10) ∷ (16, 15) ∷ []) ++
+    bound-words 5 ((0, 1) ∷ (5, 0) ∷ (1, 1) ∷ (5, 0) ∷ (2, 1) ∷ (5, 0) ∷ (3, 1) ∷ (5, 0) ∷ (4, 1) ∷ (5, 0) ∷ []))
+
+unfoldable pub nested-listing : List ℕ
+nested-listing =
+    5 ∷ 0 ∷ 4 ∷ 8 ∷
+    50 ∷ 51 ∷ 50 ∷ 51 ∷ 50 ∷ 51 ∷ 50 ∷ 51 ∷
+    0 ∷ 1 ∷ 1 ∷ 2 ∷ 2 ∷ 3 ∷ 3 ∷ 4 ∷ []
+
+-- A target of two classes. w() = receive { y -> y }; g(t) = (m = c0; r = send t m; r); p = spawn w; a = g(p); q = self; b = g(q); b. The parameter
+-- t may be class 15 (the spawn row) or class 27 (the start).
+unfoldable pub two-classes : List ℕ
+two-classes = program-words 10 1 2 ((10, 0) ∷ (11, 0) ∷ (22, 0) ∷ (9, 1) ∷ (30, 1) ∷ (1, 1) ∷ (11, 2) ∷ (22, 1) ∷ (23, 3) ∷ (2, 4) ∷ (20, 0) ∷ (5, 5) ∷ (21, 3) ∷ (21, 4) ∷ (1, 5) ∷ (6, 6) ∷ (21, 0) ∷ (4, 7) ∷ (21, 2) ∷ (22, 1) ∷ (21, 6) ∷ (7, 8) ∷ (4, 9) ∷ (21, 2) ∷ (22, 1) ∷ (21, 8) ∷ (1, 9) ∷ [])
+
+-- The given mail. States 0 (15,3), 1 (15,5), 2 (27,9), 3 (27,11), 4 (27,14), 5 (27,15), 6 (27,17), 7 (27,21), 8 (27,22), 9 (27,26); letter counters 10 for
+-- (15, 0) and 11 for (27, 0). Nothing leads to state 5, so one bound keeps it at 1 and all else unbounded. The bad: two processes at row 15.
+unfoldable pub two-classes-with : Pairs → List ℕ
+two-classes-with mail =
+    to-bytes
+    (two-classes ++ bad-words 1 ((40, 27) ∷ (41, 15) ∷ (43, 2) ∷ (44, 0) ∷ []) ++
+    table-words ((0, 1) ∷ (1, 9) ∷ (2, 6) ∷ (3, 15) ∷ (3, 27) ∷ (4, 9) ∷ (5, 9) ∷ (6, 15) ∷ (7, 9) ∷ (8, 27) ∷ (9, 9) ∷ []) mail
+    ((15, 3) ∷ (15, 5) ∷ (27, 9) ∷ (27, 11) ∷ (27, 14) ∷ (27, 15) ∷ (27, 17) ∷ (27, 21) ∷ (27, 22) ∷ (27, 26) ∷ []) ++
+    bound-words 1 ((0, 65535) ∷ (1, 65535) ∷ (2, 65535) ∷ (3, 65535) ∷ (4, 65535) ∷ (5, 1) ∷ (6, 65535) ∷ (7, 65535) ∷ (8, 65535) ∷ (9, 65535) ∷ (10, 65535) ∷ (11, 65535) ∷ (12, 0) ∷ []))
+
+-- state 3, the send, puts into either class's mailboxes; state 4 gives back behind either call; state 5 starts a process in state 0
+unfoldable pub two-classes-listing : List ℕ
+two-classes-listing =
+    10 ∷ 2 ∷ 10 ∷ 24 ∷
+    50 ∷ 51 ∷ 52 ∷ 50 ∷ 51 ∷ 50 ∷ 51 ∷ 53 ∷ 50 ∷ 51 ∷ 53 ∷ 50 ∷ 51 ∷ 50 ∷ 51 ∷ 50 ∷ 51 ∷ 54 ∷ 50 ∷ 51 ∷ 50 ∷ 51 ∷ 50 ∷ 51 ∷
+    0 ∷ 1 ∷ 10 ∷ 2 ∷ 3 ∷ 3 ∷ 4 ∷ 10 ∷ 3 ∷ 4 ∷ 11 ∷ 4 ∷ 7 ∷ 4 ∷ 9 ∷ 5 ∷ 6 ∷ 0 ∷ 6 ∷ 2 ∷ 7 ∷ 8 ∷ 8 ∷ 2 ∷ []
+
+-- A constructor pattern over an argument name without values. g(n) = (b = c1(n); b), never called; a = c0; case a of { c1(_) -> a; c0 -> g }.
+-- The tables say too much: a may be the row 5, c1(n). But n holds nothing, so the first branch matches nothing, and state (18, 15) is not wanted.
+unfoldable pub no-argument : List ℕ
+no-argument = program-words 4 2 1 ((10, 0) ∷ (10, 1) ∷ (11, 0) ∷ (22, 1) ∷ (23, 1) ∷ (2, 2) ∷ (20, 1) ∷ (21, 1) ∷ (1, 2) ∷ (2, 3) ∷ (20, 0) ∷ (8, 3) ∷ (25, 2) ∷ (31, 1) ∷ (32, 0) ∷ (1, 3) ∷ (31, 0) ∷ (1, 0) ∷ [])
+
+-- the bad, a process at row 15, has no counter and is never met
+unfoldable pub no-argument-evidence : List ℕ
+no-argument-evidence =
+    bad-words 1 ((40, 18) ∷ (41, 15) ∷ (43, 1) ∷ (44, 0) ∷ []) ++
+    table-words ((0, 2) ∷ (3, 5) ∷ (3, 9) ∷ []) [] ((18, 9) ∷ (18, 11) ∷ (18, 17) ∷ []) ++
+    bound-words 3 ((0, 1) ∷ (3, 0) ∷ (1, 1) ∷ (3, 0) ∷ (2, 1) ∷ (3, 0) ∷ [])
+
+unfoldable pub no-argument-listing : List ℕ
+no-argument-listing =
+    3 ∷ 0 ∷ 2 ∷ 4 ∷
+    50 ∷ 51 ∷ 50 ∷ 51 ∷
+    0 ∷ 1 ∷ 1 ∷ 2 ∷ []
+
+-- A rule whose from is its to. f() = (r = f(); r); s = f(); s. The body of f is the call itself.
+unfoldable pub endless : List ℕ
+endless = program-words 3 0 1 ((11, 0) ∷ (22, 0) ∷ (4, 1) ∷ (21, 0) ∷ (22, 0) ∷ (1, 1) ∷ (4, 2) ∷ (21, 0) ∷ (22, 0) ∷ (1, 2) ∷ [])
+
+-- one process, in state 0 or 1; the rule from 0 to 0 takes one and then adds one
+unfoldable pub endless-evidence : List ℕ
+endless-evidence =
+    bad-words 1 ((40, 10) ∷ (41, 2) ∷ (43, 2) ∷ (44, 0) ∷ []) ++ table-words ((0, 0) ∷ []) [] ((10, 2) ∷ (10, 6) ∷ []) ++
+    bound-words 2 ((0, 1) ∷ (2, 0) ∷ (1, 1) ∷ (2, 0) ∷ [])
+
+unfoldable pub endless-listing : List ℕ
+endless-listing =
+    2 ∷ 0 ∷ 2 ∷ 4 ∷
+    50 ∷ 51 ∷ 50 ∷ 51 ∷
+    0 ∷ 0 ∷ 1 ∷ 0 ∷ []
+
+-- A rule whose new state is its from. f() = (p = spawn f; p); q = spawn f; q. The body of f is the spawn at row 2: a process of class 2 starts one of
+-- class 2 at the same place.
+unfoldable pub brood : List ℕ
+brood = program-words 3 0 1 ((11, 0) ∷ (22, 0) ∷ (6, 1) ∷ (21, 0) ∷ (1, 1) ∷ (6, 2) ∷ (21, 0) ∷ (1, 2) ∷ [])
+
+-- One process at row 2 of class 2 at any time, any number of ended ones: state 0 loses one and gains one. The bad, two at (2, 2), is not met.
+unfoldable pub brood-evidence : List ℕ
+brood-evidence =
+    bad-words 1 ((40, 2) ∷ (41, 2) ∷ (43, 2) ∷ (44, 0) ∷ []) ++
+    table-words ((0, 0) ∷ (1, 2) ∷ (2, 5) ∷ []) [] ((2, 2) ∷ (2, 4) ∷ (5, 2) ∷ (5, 4) ∷ (8, 5) ∷ (8, 7) ∷ []) ++
+    bound-words 3 ((4, 1) ∷ (6, 0) ∷ (2, 1) ∷ (5, 1) ∷ (6, 0) ∷ (0, 1) ∷ (1, 65535) ∷ (3, 1) ∷ (5, 1) ∷ (6, 0) ∷ [])
+
+unfoldable pub brood-listing : List ℕ
+brood-listing =
+    6 ∷ 0 ∷ 3 ∷ 9 ∷
+    50 ∷ 51 ∷ 54 ∷ 50 ∷ 51 ∷ 54 ∷ 50 ∷ 51 ∷ 54 ∷
+    0 ∷ 1 ∷ 0 ∷ 2 ∷ 3 ∷ 0 ∷ 4 ∷ 5 ∷ 2 ∷ []
+
+unfoldable pub own-cases : List Case
+own-cases =
+    -- every branch, every receive state: see the listing
+    safe 2 two-receives (two-receives-with ((14, 1) ∷ (14, 2) ∷ (14, 4) ∷ (14, 7) ∷ (14, 9) ∷ (14, 11) ∷ (14, 13) ∷ [])) two-receives-listing ∷
+    -- without the state of the second branch, row 13, state 3 lacks it: the first columns begin at word 45, four of flow and one of mail, 45 + 5 + 3
+    refused 40 (two-receives-with ((14, 1) ∷ (14, 2) ∷ (14, 4) ∷ (14, 7) ∷ (14, 9) ∷ (14, 11) ∷ [])) 8 53 ∷
+    -- without the state behind the second receive, row 11, state 4 lacks it
+    refused 40 (two-receives-with ((14, 1) ∷ (14, 2) ∷ (14, 4) ∷ (14, 7) ∷ (14, 9) ∷ (14, 13) ∷ [])) 8 54 ∷
+    -- give back to each caller
+    safe 0 two-callers (to-bytes (two-callers ++ two-callers-evidence)) two-callers-listing ∷
+    -- x, two levels deep, holds row 2
+    safe 1 nested (nested-with ((0, 2) ∷ (1, 4) ∷ (2, 7) ∷ (3, 2) ∷ [])) nested-listing ∷
+    -- x left empty: state 3, the case, lacks it: the first columns begin at word 49, three of flow, 49 + 3 + 3
+    refused 40 (nested-with ((0, 2) ∷ (1, 4) ∷ (2, 7) ∷ [])) 8 55 ∷
+    -- x holding what is one level deep only, row 4
+    refused 40 (nested-with ((0, 2) ∷ (1, 4) ∷ (2, 7) ∷ (3, 4) ∷ [])) 8 56 ∷
+    -- a send to both classes
+    safe 3 two-classes (two-classes-with ((15, 9) ∷ (27, 9) ∷ [])) two-classes-listing ∷
+    -- without the second class's mail state 3, the send, lacks it: the first columns begin at word 71, eleven of flow, one of mail, 71 + 12 + 3
+    refused 60 (two-classes-with ((15, 9) ∷ [])) 8 86 ∷
+    -- an argument name without values
+    safe 0 no-argument (to-bytes (no-argument ++ no-argument-evidence)) no-argument-listing ∷
+    -- from = to
+    safe 0 endless (to-bytes (endless ++ endless-evidence)) endless-listing ∷
+    -- new state = from
+    safe 0 brood (to-bytes (brood ++ brood-evidence)) brood-listing ∷
+    -- K = 0: the start lies under no ceiling; with entries: the first is one too many
+    refused 30 (with-bounds (bound-words 0 [])) 11 55 ∷
+    refused 30 (with-bounds (bound-words 0 ((6, 0) ∷ []))) 10 57 ∷
+    -- a ceiling of its closing entry alone is in form and covers nothing that is needed
+    safe 0 a-program (with-bounds (bound-words 6 ((6, 0) ∷ (0, 1) ∷ (6, 0) ∷ (1, 1) ∷ (6, 0) ∷ (2, 1) ∷ (6, 0) ∷ (3, 1) ∷ (5, 1) ∷ (6, 0) ∷ (4, 1) ∷ (6, 0) ∷ []))) a-listing ∷
+    -- the last word of each part with its second byte missing: the parts end at words 24, 34, 55 and 79
+    refused 30 (take 47 (to-bytes a-words)) 1 0 ∷
+    refused 30 (take 67 (to-bytes a-words)) 1 24 ∷
+    refused 30 (take 109 (to-bytes a-words)) 1 34 ∷
+    refused 30 (take 157 (to-bytes a-words)) 1 55 ∷
+    -- the last of the sizes with its second byte missing
+    refused 30 (take 7 (to-bytes a-words)) 1 0 ∷
+    []
+
+unfoldable pub cases-opens : Unit {0}
+unfolding arrays program-words bad-words table-words bound-words to-bytes outcome obtained lend refused safe a-program a-bads a-tables a-bounds a-words with-word with-tables with-bounds a-listing proved-cases two-receives two-receives-bads two-receives-with two-receives-listing two-callers two-callers-evidence two-callers-listing nested nested-with nested-listing two-classes two-classes-with two-classes-listing no-argument no-argument-evidence no-argument-listing endless endless-evidence endless-listing brood brood-evidence brood-listing own-cases
+cases-opens = tt

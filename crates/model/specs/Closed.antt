@@ -1,0 +1,144 @@
+-- Document 01, "Closed tables": what each state wants; refusal 8 (open).
+use Prim.Native.Nat.{ℕ, zero, suc, _+_, _-_}
+use mathlib.Core.Bool.{Bool, true, false, not, _&&_, _||_}
+use mathlib.Core.List.{List, [], _∷_}
+use mathlib.Core.Option.{Option, some, none}
+use lib.ListN.{getD, replicate}
+use lib.Dec.{ltb, eqb}
+use Rattle.model.specs.declared.Sizes.{Sizes}
+use Rattle.model.specs.declared.Verdict.{Verdict}
+use Rattle.model.specs.declared.Verdict.the-variants.{Open}
+use Rattle.model.specs.Limits.{maxDepth}
+use Rattle.model.specs.Index.{implies, any, all, first}
+use Rattle.model.specs.Verdict.{Check, _>>_, unless}
+use Rattle.model.specs.Message.{tables-at}
+use Rattle.model.specs.Rows.{Program, size, tag, num, arity, pattern, past-items}
+use Rattle.model.specs.Heads.{Call, call-at, Head, head-at, gives, builds, makes, calls, sends, spawns, selfs, cases, receives, no-head, branch-body, is-class, parameters, body, takes, innermost, start}
+use Rattle.model.specs.Tables.{Tables, has, each, some-of, State, state, state-at, has-state}
+
+-- the row of subpattern i of the constructor pattern at row q, which may be d levels deep
+unfoldable pub subpattern : Program → ℕ → ℕ → ℕ → ℕ
+subpattern p d q i = past-items p (replicate i (pattern (d - 1))) (q + 1)
+
+-- the name of argument i of the value built at row v
+unfoldable pub argument : Program → ℕ → ℕ → ℕ
+argument p v i = num p (v + 2 + i)
+
+-- v is a build row of the constructor of the pattern at row q
+unfoldable pub same-constructor : Program → ℕ → ℕ → Bool
+same-constructor p q v = eqb (tag p v) 2 && eqb (num p (v + 1)) (num p q)
+
+-- "A name or any-pattern may match everything. A constructor pattern may match a build row of that constructor if each subpattern may match some
+-- value of the argument name." The pattern at row q may be d levels deep.
+unfoldable pub may-match : Program → Tables → ℕ → ℕ → ℕ → Bool
+may-match p t zero q v = true
+may-match p t (suc d) q v =
+    elim (eqb (tag p q) 31) [
+      | true ↦
+          same-constructor p q v &&
+          all 0 (arity p (num p q)) (λ i. some-of (t .flow) (argument p v i) (may-match p t d (subpattern p (suc d) q i)))
+      | false ↦ true
+    ]
+
+-- "A pattern name holds each value at its spot, reached only through values that may match": the names of the pattern at row q hold what a
+-- match with v gives them
+unfoldable pub names-hold : Program → Tables → ℕ → ℕ → ℕ → Bool
+names-hold p t zero q v = true
+names-hold p t (suc d) q v =
+    elim (eqb (tag p q) 31) [
+      | true ↦
+          all 0 (arity p (num p q))
+          (λ i. each (t .flow) (argument p v i)
+          (λ w. implies (may-match p t d (subpattern p (suc d) q i) w) (names-hold p t d (subpattern p (suc d) q i) w)))
+      | false ↦ implies (eqb (tag p q) 30) (has (t .flow) (num p q) v)
+    ]
+
+-- the branch whose pattern stands at row q may match v
+unfoldable pub may-take : Program → Tables → ℕ → ℕ → Bool
+may-take p t q v = may-match p t maxDepth q v
+
+-- "each branch that may match: its names' values, state (c, branch)"
+unfoldable pub branches-closed : Program → Tables → ℕ → List ℕ → ℕ → Bool
+branches-closed p t c [] v = true
+branches-closed p t c (q ∷ qs) v =
+    implies (may-take p t q v) (names-hold p t maxDepth q v && has-state t (state c (branch-body p q))) && branches-closed p t c qs v
+
+-- the callee may be the function f, with equal count
+unfoldable pub may-call : Program → Tables → Call → ℕ → Bool
+may-call p t call f = has (t .flow) (call .callee) f && takes p f (call .count)
+
+-- "parameters hold the arguments' values"
+unfoldable pub passes : Tables → Call → List ℕ → Bool
+passes t call names =
+    all 0 (call .count) (λ i. each (t .flow) (getD (call .arguments) i 0) (λ v. has (t .flow) (getD names i 0) v))
+
+-- "call: for each function the callee may be, with equal count: parameters hold the arguments' values; state (c, its body)"
+unfoldable pub call-closed : Program → Tables → ℕ → Call → Bool
+call-closed p t c call =
+    each (t .flow) (call .callee)
+    (λ f. implies (takes p f (call .count))
+    (passes t call (parameters p f) && has-state t (state c (body p f))))
+
+-- the state with number i is at a call of class c whose callee may be f
+unfoldable pub returns-to : Program → Tables → ℕ → ℕ → ℕ → Bool
+returns-to p t c f i =
+    let s : State = state-at t i in
+    eqb (s .class) c && (eqb (tag p (s .location)) 4 && may-call p t (call-at p (s .location)) f)
+
+-- "the call's name holds the values; state (c, call's rest)"
+unfoldable pub return-closed : Program → Tables → ℕ → ℕ → Call → Bool
+return-closed p t c n call =
+    each (t .flow) n (λ v. has (t .flow) (call .name) v) && has-state t (state c (call .rest))
+
+-- "give back, inside the innermost function f: for each state (c, call) whose callee may be f with equal count ... In the start expression: nothing."
+unfoldable pub give-closed : Program → Tables → ℕ → ℕ → Option ℕ → Bool
+give-closed p t c n none = true
+give-closed p t c n (some f) =
+    all 0 (t .states .size) (λ i. implies (returns-to p t c f i) (return-closed p t c n (call-at p (state-at t i .location))))
+
+-- "send: for each class d the target may be and value v of the message: mail (d, v), the name holds v, state (c, rest)"
+unfoldable pub send-closed : Program → Tables → ℕ → ℕ → ℕ → ℕ → ℕ → Bool
+send-closed p t c n target message r =
+    each (t .flow) target
+    (λ d. implies (is-class p d)
+    (each (t .flow) message (λ v. has (t .mail) d v && (has (t .flow) n v && has-state t (state c r)))))
+
+-- "spawn: for each function without parameters it may be: the name holds r, states (c, rest) and (r, body)"
+unfoldable pub spawn-closed : Program → Tables → ℕ → ℕ → ℕ → ℕ → ℕ → Bool
+spawn-closed p t c at n function r =
+    each (t .flow) function
+    (λ f. implies (takes p f 0) (has (t .flow) n at && (has-state t (state c r) && has-state t (state at (body p f)))))
+
+-- "Then, for each state (c, r)": everything that it wants is there
+unfoldable pub state-closed : Program → Tables → State → Bool
+state-closed p t s =
+    let c : ℕ = s .class in
+    let at : ℕ = s .location in
+    elim (head-at p at) [
+      | gives n ↦ give-closed p t c n (innermost p at)
+      | builds n k ns r ↦ has (t .flow) n at && has-state t (state c r)
+      | makes n r ↦ has (t .flow) n at && has-state t (state c r)
+      | calls call ↦ call-closed p t c call
+      | sends n target message r ↦ send-closed p t c n target message r
+      | spawns n function r ↦ spawn-closed p t c at n function r
+      | selfs n r ↦ has (t .flow) n c && has-state t (state c r)
+      | cases n qs ↦ each (t .flow) n (branches-closed p t c qs)
+      | receives qs ↦ each (t .mail) c (branches-closed p t c qs)
+      | no-head ↦ true
+    ]
+
+-- "Wanted first: each tag 11 name holds its own row, and state (R, start)"
+unfoldable pub opening-closed : Program → Tables → Bool
+opening-closed p t =
+    all 0 (size p) (λ r. implies (eqb (tag p r) 11) (has (t .flow) (num p r) r)) && has-state t (state (size p) (start p))
+
+-- 8: "an opening entry missing: size F; else the first state that lacks something, its first column's word"
+unfoldable pub open-check : Sizes → Program → Tables → Check
+open-check s p t =
+    let i : ℕ = first 0 (t .states .size) (λ k. not (state-closed p t (state-at t k))) in
+    unless (opening-closed p t) (Open (tables-at s)) >>
+    unless (eqb i (t .states .size)) (Open (tables-at s + 3 + s .flows + s .mails + i))
+
+unfoldable pub closed-opens : Unit {0}
+unfolding subpattern argument same-constructor may-match names-hold may-take branches-closed may-call passes call-closed returns-to return-closed give-closed send-closed spawn-closed state-closed opening-closed open-check
+closed-opens = tt

@@ -1,0 +1,162 @@
+-- The three demands on a verifier, as types over the definitions: what is to be proved of `verdict`, `lent-after` and `part-handed`.
+use Prim.Native.Nat.{ℕ, _+_, _*_, _≤_, _<_}
+use mathlib.Core.Logic.{_↔_, _⊎_}
+use mathlib.Core.Path.{_≡_}
+use mathlib.Core.Bool.{Bool, true, false}
+use mathlib.Core.List.{List, [], _∷_, _++_, List·Memᴰ}
+use mathlib.Core.Option.{Option, some, none}
+use lib.ListN.{length, take, getD, replicate}
+use Rattle.model.specs.declared.Sizes.{Sizes}
+use Rattle.model.specs.declared.Verdict.{Verdict}
+use Rattle.model.specs.declared.Verdict.the-variants.{Safe}
+use Rattle.model.specs.Limits.{maxRows, maxNames, maxConstructors, maxFunctions, maxBads, minBadRows, maxBadRows, maxFlows, maxMails, maxStates, maxBounds, maxBoundEntries, maxCounters, omega-limit}
+use Rattle.model.specs.Words.{Columns, left, right}
+use Rattle.model.specs.Message.{end-at}
+use Rattle.model.specs.Reader.{first-wrong}
+use Rattle.model.specs.Rows.{Program, size, tag, num, is-head, is-name, step, whole}
+use Rattle.model.specs.Scopes.{binds, uses, binds-name, in-scope}
+use Rattle.model.specs.Heads.{is-class}
+use Rattle.model.specs.Values.{Processes}
+use Rattle.model.specs.Run.{step-of, run}
+use Rattle.model.specs.Letters.{processes-at, messages-of}
+use Rattle.model.specs.Bads.{bad-step, bad, bad-row, met, state-of, letter-of}
+use Rattle.model.specs.Tables.{Tables, is-value}
+use Rattle.model.specs.Wanted.{Closed}
+use Rattle.model.specs.Counters.{counter-count}
+use Rattle.model.specs.Rules.{Rule, rules}
+use Rattle.model.specs.Listing.{system-words, written, listed-rules}
+use Rattle.model.specs.Markings.{Marking, usable, fire, initial, fire-all, count-in}
+use Rattle.model.specs.Bounds.{Bounds, bound-entries, bound-step, bounds-of}
+use Rattle.model.specs.Verify.{Message, message, verdict, lent-after, part-handed}
+
+-- the bytes of a message are bytes: every list that a slice of bytes holds is so
+abbrev pub Bytes : List ℕ → Type 0
+Bytes bytes = (i : ℕ) → getD bytes i 0 < 256
+
+-- Demand 1: every message gets a verdict (`verdict` is a function of any bytes), and a refusal leaves the lent words unchanged and hands on nothing.
+pub record Refusal-changes-nothing : Type 0 where
+  pub lent-unchanged : (bytes lent : List ℕ) → (verdict bytes (length lent) ≡ Safe → ⊥) → lent-after bytes lent ≡ lent
+  pub nothing-handed : (bytes : List ℕ) (lent : ℕ) → (verdict bytes lent ≡ Safe → ⊥) → part-handed bytes lent ≡ []
+
+-- Demand 2: "The verdict is safe exactly when ..."
+
+abbrev pub Between : ℕ → ℕ → ℕ → Type 0
+Between least most n = (least ≤ n) × (n ≤ most)
+
+-- "the limits ... suffice"
+pub record Within-limits (s : Sizes) : Type 0 where
+  pub rows : Between 1 maxRows (s .rows)
+  pub names : Between 1 maxNames (s .names)
+  pub constructors : s .constructors ≤ maxConstructors
+  pub functions : s .functions ≤ maxFunctions
+  pub bads : Between 1 maxBads (s .bads)
+  pub conditions : Between minBadRows maxBadRows (s .conditions)
+  pub flows : s .flows ≤ maxFlows
+  pub mails : s .mails ≤ maxMails
+  pub states : s .states ≤ maxStates
+  pub bounds : s .bounds ≤ maxBounds
+  pub limits : s .limits ≤ maxBoundEntries
+
+-- "the program is well formed": its rows fit, each name below V is bound in one place, each name read is in scope
+pub record Well-formed (p : Program) : Type 0 where
+  pub rows-fit : first-wrong (step p) (p .rows) (whole p) ≡ none
+  pub bound-once : (q r : ℕ) → q < size p → r < size p → binds (tag p q) ≡ true → binds (tag p r) ≡ true → num p q ≡ num p r → q ≡ r
+  pub bound : (n : ℕ) → n < p .names → (b : ℕ) × (b < size p) × (binds-name p n b ≡ true)
+  pub scoped : (r : ℕ) → r < size p → uses (tag p r) ≡ true → (b : ℕ) × (b < size p) × (binds-name p (num p r) b ≡ true) × (in-scope p b r ≡ true)
+
+-- one pair is below another
+abbrev pub Pair-below : ℕ → ℕ → ℕ → ℕ → Type 0
+Pair-below a b a′ b′ = (a < a′) ⊎ ((a ≡ a′) × (b < b′))
+
+-- each entry is in its range, and the list ascends strictly
+pub record Listed (legal-left legal-right : ℕ → Bool) (c : Columns) : Type 0 where
+  pub left-legal : (i : ℕ) → i < c .size → legal-left (left c i) ≡ true
+  pub right-legal : (i : ℕ) → i < c .size → legal-right (right c i) ≡ true
+  pub ascending : (i j : ℕ) → i < j → j < c .size → Pair-below (left c i) (right c i) (left c j) (right c j)
+
+-- "the rest of the message is in form"
+pub record In-form (m : Message) : Type 0 where
+  pub bads : first-wrong (bad-step (m .program)) (m .bads) (replicate (m .sizes .bads) bad) ≡ none
+  pub flow : Listed (is-name (m .program)) (is-value (m .program)) (m .tables .flow)
+  pub mail : Listed (is-class (m .program)) (is-value (m .program)) (m .tables .mail)
+  pub states : Listed (is-class (m .program)) (λ r. is-head (tag (m .program) r)) (m .tables .states)
+  pub bounds : first-wrong (bound-step (m .bounds .counters)) (bound-entries (m .words) (m .sizes)) (bounds-of (m .sizes .bounds)) ≡ none
+
+-- "Counts lie under a ceiling when each is at most its limit there, or that is unbounded"
+abbrev pub Under : Bounds → ℕ → Marking → Type 0
+Under bs k m = (x : ℕ) → x < bs .counters → (bs .limit k x ≡ omega-limit) ⊎ (m x ≤ bs .limit k x)
+
+-- under one of the ceilings
+abbrev pub Under-one : Bounds → Marking → Type 0
+Under-one bs m = (k : ℕ) × (k < bs .size) × Under bs k m
+
+-- bad number j is met by the counts
+abbrev pub Met : Message → Marking → ℕ → Type 0
+Met m counts j = met (count-in (m .program) (m .tables) counts) (m .bads) (bad-row (m .program) (m .bads) j) ≡ true
+
+-- "the counts under the ceilings contain the start, are kept by each derived rule and meet no named bad count"
+pub record Inductive (m : Message) : Type 0 where
+  pub contain-start : Under-one (m .bounds) (initial (m .program) (m .tables))
+  pub kept : (counts : Marking) (ρ : Rule) → Under-one (m .bounds) counts → List·Memᴰ ρ (rules (m .program) (m .tables)) → usable ρ counts ≡ true → Under-one (m .bounds) (fire ρ counts)
+  pub meet-no-bad : (counts : Marking) (j : ℕ) → Under-one (m .bounds) counts → j < m .sizes .bads → Met m counts j → ⊥
+
+-- everything that a safe message has
+pub record Sound (bytes : List ℕ) (lent : ℕ) : Type 0 where
+  pub whole : length bytes ≡ 2 * end-at (message bytes .sizes)
+  pub limits : Within-limits (message bytes .sizes)
+  pub program : Well-formed (message bytes .program)
+  pub form : In-form (message bytes)
+  pub closed : Closed (message bytes .program) (message bytes .tables)
+  pub counters : counter-count (message bytes .program) (message bytes .tables) ≤ maxCounters
+  pub bounded : Inductive (message bytes)
+  pub space : length (system-words (message bytes .program) (message bytes .tables)) ≤ lent
+
+abbrev pub Safe-exactly : Type 0
+Safe-exactly = (bytes : List ℕ) (lent : ℕ) → Bytes bytes → (verdict bytes lent ≡ Safe) ↔ Sound bytes lent
+
+-- "The system written is then the one that the analysis defines": its words, and behind them those that were there
+abbrev pub System-written : Type 0
+System-written =
+    (bytes lent : List ℕ) → verdict bytes (length lent) ≡ Safe → lent-after bytes lent ≡ written (system-words (message bytes .program) (message bytes .tables)) lent
+
+-- Demand 3: "the station's run and the counters' run"
+
+-- one rule for a step made, none for a number that makes none
+pub data Matches (system : List Rule) : Option Processes → Option Rule → Type 0 where
+  made : (qs : Processes) (ρ : Rule) → List·Memᴰ ρ system → Matches system (some qs) (some ρ)
+  not-made : Matches system none none
+
+-- the rules used, without the places where none was
+unfoldable pub used : List (Option Rule) → List Rule
+used [] = []
+used (none ∷ os) = used os
+used (some ρ ∷ os) = ρ ∷ used os
+
+-- "the two have equal counts: of processes in each class and place, and of messages of each letter in each class's mailboxes"
+pub record Equal-counts (m : Message) (qs : Processes) (counts : Marking) : Type 0 where
+  pub processes : (c r : ℕ) → processes-at qs c r ≡ count-in (m .program) (m .tables) counts (state-of c r)
+  pub messages : (c l : ℕ) → messages-of (m .program) qs c l ≡ count-in (m .program) (m .tables) counts (letter-of c l)
+
+-- after some numbers of a list: the rules used so far are a run, and its counts are those of the station, under one ceiling, meeting no bad
+pub record Together (m : Message) (numbers : List ℕ) (options : List (Option Rule)) : Type 0 where
+  pub counts : Marking
+  pub is-run : fire-all (used options) (initial (m .program) (m .tables)) ≡ some counts
+  pub equal : Equal-counts m (run (m .program) numbers) counts
+  pub bounded : Under-one (m .bounds) counts
+  pub no-bad : (j : ℕ) → j < m .sizes .bads → Met m counts j → ⊥
+
+-- the whole list, with its rules: at the start and after each number
+pub record Followed (m : Message) (system : List Rule) (numbers : List ℕ) (options : List (Option Rule)) : Type 0 where
+  pub as-long : length options ≡ length numbers
+  pub each-step : (k : ℕ) → k < length numbers → Matches system (step-of (m .program) (run (m .program) (take k numbers)) (getD numbers k 0)) (getD options k none)
+  pub throughout : (k : ℕ) → k ≤ length numbers → Together m (take k numbers) (take k options)
+
+-- Every list of process numbers has its rules of the written words; a longer list's rules go on from a shorter one's.
+pub record All-runs-followed (m : Message) (system : List Rule) : Type 0 where
+  pub rules-for : List ℕ → List (Option Rule)
+  pub goes-on : (numbers more : List ℕ) → take (length numbers) (rules-for (numbers ++ more)) ≡ rules-for numbers
+  pub followed : (numbers : List ℕ) → Followed m system numbers (rules-for numbers)
+
+abbrev pub Runs-stay-counted : Type 0
+Runs-stay-counted =
+    (bytes lent : List ℕ) → Bytes bytes → verdict bytes (length lent) ≡ Safe → All-runs-followed (message bytes) (listed-rules (lent-after bytes lent))

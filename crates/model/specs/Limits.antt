@@ -1,0 +1,68 @@
+-- Document 01, "The message", Limits: each limit by its name, once. (src/lib.rt has the same numbers as constants for the code; antt
+-- can't cite a constant of Rattle, and a contract of the code that reads one is refused where the two differ.)
+use Prim.Native.Nat.{ℕ}
+
+-- R 1 to 1,024
+abbrev pub maxRows : ℕ
+maxRows = 1024
+
+-- V 1 to 512
+abbrev pub maxNames : ℕ
+maxNames = 512
+
+-- C and G to 64
+abbrev pub maxConstructors : ℕ
+maxConstructors = 64
+
+abbrev pub maxFunctions : ℕ
+maxFunctions = 64
+
+-- B 1 to 16
+abbrev pub maxBads : ℕ
+maxBads = 16
+
+-- bad rows 4 to 256
+abbrev pub minBadRows : ℕ
+minBadRows = 4
+
+abbrev pub maxBadRows : ℕ
+maxBadRows = 256
+
+-- F to 4,096
+abbrev pub maxFlows : ℕ
+maxFlows = 4096
+
+-- M and S to 512
+abbrev pub maxMails : ℕ
+maxMails = 512
+
+abbrev pub maxStates : ℕ
+maxStates = 512
+
+-- K to 256
+abbrev pub maxBounds : ℕ
+maxBounds = 256
+
+-- ceiling entries to 8,192
+abbrev pub maxBoundEntries : ℕ
+maxBoundEntries = 8192
+
+-- counters to 512
+abbrev pub maxCounters : ℕ
+maxCounters = 512
+
+-- Arity, parameters and a call's count to 8
+abbrev pub maxArity : ℕ
+maxArity = 8
+
+-- branches 1 to 16
+abbrev pub maxBranches : ℕ
+maxBranches = 16
+
+-- pattern depth to 4 (a name has depth 1)
+abbrev pub maxDepth : ℕ
+maxDepth = 4
+
+-- "limits 1 to 65,535, the last meaning unbounded"
+abbrev pub omega-limit : ℕ
+omega-limit = 65535

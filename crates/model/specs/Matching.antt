@@ -1,0 +1,68 @@
+-- Document 01, "How a station runs": which branch takes a value, and what it binds.
+use Prim.Native.Nat.{ℕ, zero, suc, _+_, _-_}
+use mathlib.Core.Bool.{Bool, true, false}
+use mathlib.Core.List.{List, [], _∷_}
+use mathlib.Core.Option.{Option, some, none}
+use lib.Dec.{eqb}
+use Rattle.model.specs.Rows.{Program, size, tag, num}
+use Rattle.model.specs.Heads.{branch-body}
+use Rattle.model.specs.Values.{Value, closure, built, address, Bindings, empty, bind, join}
+
+-- the arguments of a value that has this constructor
+unfoldable pub arguments-of : ℕ → Value → Option Bindings
+arguments-of k (closure f held) = none
+arguments-of k (built r k′ vs) = elim (eqb k k′) [ true ↦ some vs | false ↦ none ]
+arguments-of k (address i) = none
+
+-- The values still to be matched stand in order, and so do the pattern rows from q on: a name takes its value, a constructor puts the arguments
+-- in its value's place, any value is passed over. n rows are left; `held` are the bindings in force, the names matched so far in front.
+unfoldable pub match-rows : Program → ℕ → ℕ → Bindings → Bindings → Option Bindings
+match-rows p zero q empty held = some held
+match-rows p zero q (bind m v vs) held = none
+match-rows p (suc n) q empty held = some held
+match-rows p (suc n) q (bind m v vs) held =
+    elim (eqb (tag p q) 31) [
+      | true ↦ elim (arguments-of (num p q) v) [ none ↦ none | some inner ↦ match-rows p n (q + 1) (join inner vs) held ]
+      | false ↦
+          elim (eqb (tag p q) 30) [
+            | true ↦ match-rows p n (q + 1) vs (bind (num p q) v held)
+            | false ↦ match-rows p n (q + 1) vs held
+          ]
+    ]
+
+-- the bindings after a match of the pattern at row q with a value
+unfoldable pub match : Program → Bindings → ℕ → Value → Option Bindings
+match p held q v = match-rows p (size p - q) q (bind 0 v empty) held
+
+-- where a branch goes on, and with which bindings
+pub record Taken : Type 0 where
+  pub location : ℕ
+  pub held : Bindings
+
+-- "the first such branch", "its first matching branch"
+unfoldable pub first-branch : Program → Bindings → List ℕ → Value → Option Taken
+first-branch p held [] v = none
+first-branch p held (q ∷ qs) v =
+    elim (match p held q v) [ none ↦ first-branch p held qs v | some held′ ↦ some (record { location = branch-body p q; held = held′ }) ]
+
+-- what a receive takes, and the mailbox without it
+pub record Received : Type 0 where
+  pub taken : Taken
+  pub mailbox : List Value
+
+-- "A receive takes the earliest message that any branch matches"
+unfoldable pub receive-from : Program → Bindings → List ℕ → List Value → Option Received
+receive-from p held qs [] = none
+receive-from p held qs (v ∷ vs) =
+    elim (first-branch p held qs v) [
+      | some t ↦ some (record { taken = t; mailbox = vs })
+      | none ↦
+          elim (receive-from p held qs vs) [
+            | none ↦ none
+            | some r ↦ some (record { taken = r .taken; mailbox = v ∷ r .mailbox })
+          ]
+    ]
+
+unfoldable pub matching-opens : Unit {0}
+unfolding arguments-of match-rows match first-branch receive-from
+matching-opens = tt

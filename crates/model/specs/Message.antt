@@ -1,0 +1,114 @@
+-- Document 01, "The message": four parts back to back, their sizes, limits and positions; refusals 1 (length) and 2 (size).
+use Prim.Native.Nat.{ℕ, _+_, _*_}
+use mathlib.Core.Bool.{Bool, true, false, _&&_}
+use mathlib.Core.List.{List, [], _∷_}
+use mathlib.Core.Option.{Option, some, none}
+use lib.ListN.{length, getD}
+use lib.Dec.{leb}
+use Rattle.model.specs.declared.Sizes.{Sizes}
+use Rattle.model.specs.declared.Verdict.{Verdict}
+use Rattle.model.specs.declared.Verdict.the-variants.{Length, Size}
+use Rattle.model.specs.Limits.{maxRows, maxNames, maxConstructors, maxFunctions, maxBads, minBadRows, maxBadRows, maxFlows, maxMails, maxStates, maxBounds, maxBoundEntries}
+use Rattle.model.specs.Words.{words}
+use Rattle.model.specs.Verdict.{Check, _>>_, unless}
+
+-- "four parts back to back. Each part is its sizes, then two parallel arrays": the word at which a part begins, by the sizes before it
+abbrev pub bads-from : ℕ → ℕ
+bads-from rows = 4 + 2 * rows
+
+abbrev pub tables-from : ℕ → ℕ → ℕ
+tables-from rows bad-rows = bads-from rows + 2 + 2 * bad-rows
+
+abbrev pub bounds-from : ℕ → ℕ → ℕ → ℕ
+bounds-from rows bad-rows entries = tables-from rows bad-rows + 3 + 2 * entries
+
+unfoldable pub bads-at : Sizes → ℕ
+bads-at s = bads-from (s .rows)
+
+unfoldable pub tables-at : Sizes → ℕ
+tables-at s = tables-from (s .rows) (s .conditions)
+
+unfoldable pub bounds-at : Sizes → ℕ
+bounds-at s = bounds-from (s .rows) (s .conditions) (s .flows + s .mails + s .states)
+
+-- "the word past the ceilings"
+unfoldable pub end-at : Sizes → ℕ
+end-at s = bounds-at s + 2 + 2 * s .limits
+
+-- "Program: R rows, V names, C constructors, G functions. Bads: B bads, E rows. Tables: F flow, M mail, S state entries. Ceilings: K
+-- ceilings, E entries": a size that is not there reads as 0
+unfoldable pub sizes : List ℕ → Sizes
+sizes ws =
+    let rows : ℕ = getD ws 0 0 in
+    let b : ℕ = bads-from rows in
+    let bad-rows : ℕ = getD ws (b + 1) 0 in
+    let t : ℕ = tables-from rows bad-rows in
+    let k : ℕ = bounds-from rows bad-rows (getD ws t 0 + getD ws (t + 1) 0 + getD ws (t + 2) 0) in
+    record {
+      rows = rows;
+      names = getD ws 1 0;
+      constructors = getD ws 2 0;
+      functions = getD ws 3 0;
+      bads = getD ws b 0;
+      conditions = bad-rows;
+      flows = getD ws t 0;
+      mails = getD ws (t + 1) 0;
+      states = getD ws (t + 2) 0;
+      bounds = getD ws k 0;
+      limits = getD ws (k + 1) 0;
+    }
+
+-- a size and its limits, both allowed
+pub record Limited : Type 0 where
+  pub size : ℕ
+  pub least : ℕ
+  pub most : ℕ
+
+abbrev pub limited : ℕ → ℕ → ℕ → Limited
+limited size least most = record { size = size; least = least; most = most }
+
+-- 2: "a size outside its limits: the first such size"
+unfoldable pub sizes-check : ℕ → List Limited → Check
+sizes-check at [] = none
+sizes-check at (l ∷ ls) =
+    elim (leb (l .least) (l .size) && leb (l .size) (l .most)) [ true ↦ sizes-check (at + 1) ls | false ↦ some (Size at) ]
+
+-- "1 and 2 go together, part by part: sizes whole, sizes within limits, arrays whole"; 1: "a part is not whole: its first word"
+unfoldable pub part-check : List ℕ → ℕ → List Limited → ℕ → Check
+part-check ws at ls elements =
+    unless (leb (at + length ls) (length ws)) (Length at) >>
+    (sizes-check at ls >> unless (leb (at + length ls + 2 * elements) (length ws)) (Length at))
+
+unfoldable pub program-part : List ℕ → Sizes → Check
+program-part ws s =
+    part-check ws 0
+    (limited (s .rows) 1 maxRows ∷ limited (s .names) 1 maxNames ∷ limited (s .constructors) 0 maxConstructors ∷ limited (s .functions) 0 maxFunctions ∷ [])
+    (s .rows)
+
+unfoldable pub bads-part : List ℕ → Sizes → Check
+bads-part ws s = part-check ws (bads-at s) (limited (s .bads) 1 maxBads ∷ limited (s .conditions) minBadRows maxBadRows ∷ []) (s .conditions)
+
+unfoldable pub tables-part : List ℕ → Sizes → Check
+tables-part ws s =
+    part-check ws (tables-at s)
+    (limited (s .flows) 0 maxFlows ∷ limited (s .mails) 0 maxMails ∷ limited (s .states) 0 maxStates ∷ [])
+    (s .flows + s .mails + s .states)
+
+unfoldable pub bounds-part : List ℕ → Sizes → Check
+bounds-part ws s =
+    part-check ws (bounds-at s) (limited (s .bounds) 0 maxBounds ∷ limited (s .limits) 0 maxBoundEntries ∷ []) (s .limits)
+
+-- 1: "bytes remain: the word past the ceilings"
+unfoldable pub nothing-left : List ℕ → Sizes → Check
+nothing-left bytes s = unless (leb (length bytes) (2 * end-at s)) (Length (end-at s))
+
+-- refusals 1 and 2 of a message
+unfoldable pub parts-check : List ℕ → Check
+parts-check bytes =
+    let ws : List ℕ = words bytes in
+    let s : Sizes = sizes ws in
+    program-part ws s >> (bads-part ws s >> (tables-part ws s >> (bounds-part ws s >> nothing-left bytes s)))
+
+unfoldable pub message-opens : Unit {0}
+unfolding bads-at tables-at bounds-at end-at sizes sizes-check part-check program-part bads-part tables-part bounds-part nothing-left parts-check
+message-opens = tt

@@ -1,0 +1,107 @@
+-- Document 01, "The gate's refusals": the verdict, the words of the lent slice afterwards, the part handed on.
+use Prim.Native.Nat.{ℕ, _+_, _*_}
+use mathlib.Core.Bool.{Bool, true, false}
+use mathlib.Core.List.{List, [], _∷_}
+use mathlib.Core.Option.{Option, some, none}
+use lib.ListN.{length, take}
+use Rattle.model.specs.declared.Sizes.{Sizes}
+use Rattle.model.specs.declared.Verdict.{Verdict}
+use Rattle.model.specs.declared.Verdict.the-variants.{Safe, Length, Size, Row, Name, Scope, Bad, Entry, Open, Counters, Ceiling, Start, Met, Leak, Space}
+use Rattle.model.specs.Words.{Columns, words}
+use Rattle.model.specs.Verdict.{Check, _>>_}
+use Rattle.model.specs.Message.{sizes, bads-at, parts-check}
+use Rattle.model.specs.Rows.{Program, program, row-check}
+use Rattle.model.specs.Scopes.{name-check, scope-check}
+use Rattle.model.specs.Bads.{bad-rows, bad-check}
+use Rattle.model.specs.Tables.{Tables, tables, entry-check}
+use Rattle.model.specs.Closed.{open-check}
+use Rattle.model.specs.Counters.{counter-count, counter-check}
+use Rattle.model.specs.Rules.{rules}
+use Rattle.model.specs.Listing.{system-words, written, space-check}
+use Rattle.model.specs.Bounds.{Bounds, bounds, bound-check, start-check, met-check, leak-check}
+
+-- a message taken apart
+pub record Message : Type 0 where
+  pub words : List ℕ
+  pub sizes : Sizes
+  pub program : Program
+  pub bads : Columns
+  pub tables : Tables
+  pub bounds : Bounds
+
+unfoldable pub message : List ℕ → Message
+message bytes =
+    let ws : List ℕ = words bytes in
+    let s : Sizes = sizes ws in
+    let p : Program = program ws s in
+    let t : Tables = tables ws s in
+    record { words = ws; sizes = s; program = p; bads = bad-rows ws s; tables = t; bounds = bounds ws s (counter-count p t) }
+
+-- refusals 3 to 5: the program
+unfoldable pub program-check : Program → Check
+program-check p = row-check p >> (name-check p >> scope-check p)
+
+-- refusals 6 to 9: bads and tables
+unfoldable pub evidence-check : Message → Check
+evidence-check m =
+    bad-check (m .words) (m .sizes) (m .program) >>
+    (entry-check (m .sizes) (m .program) (m .tables) >>
+    (open-check (m .sizes) (m .program) (m .tables) >> counter-check (m .sizes) (m .program) (m .tables)))
+
+-- refusals 10 to 13: the bounds
+unfoldable pub bounds-check : Message → Check
+bounds-check m =
+    bound-check (m .words) (m .sizes) (counter-count (m .program) (m .tables)) >>
+    (start-check (m .sizes) (m .program) (m .tables) (m .bounds) >>
+    (met-check (m .sizes) (m .program) (m .tables) (m .bounds) (m .bads) >>
+    leak-check (m .words) (m .sizes) (m .bounds) (rules (m .program) (m .tables))))
+
+-- refusals 3 to 14: a message whose parts are whole, and the number of lent words
+unfoldable pub message-check : Message → ℕ → Check
+message-check m lent =
+    program-check (m .program) >> (evidence-check m >> (bounds-check m >> space-check (m .program) (m .tables) lent))
+
+-- "Checked in that order, each over the whole message"
+unfoldable pub check : List ℕ → ℕ → Check
+check bytes lent = parts-check bytes >> message-check (message bytes) lent
+
+-- the answer: the first refusal, or safe
+unfoldable pub answer : Check → Verdict
+answer none = Safe
+answer (some v) = v
+
+-- the verdict on the bytes of a message, with so many words lent
+unfoldable pub verdict : List ℕ → ℕ → Verdict
+verdict bytes lent = answer (check bytes lent)
+
+-- what is so after safe, or else
+unfoldable pub if-safe : {A : Type 0} → Verdict → A → A → A
+if-safe Safe a b = a
+if-safe (Length at) a b = b
+if-safe (Size at) a b = b
+if-safe (Row at) a b = b
+if-safe (Name at) a b = b
+if-safe (Scope at) a b = b
+if-safe (Bad at) a b = b
+if-safe (Entry at) a b = b
+if-safe (Open at) a b = b
+if-safe (Counters at) a b = b
+if-safe (Ceiling at) a b = b
+if-safe (Start at) a b = b
+if-safe (Met at) a b = b
+if-safe (Leak at) a b = b
+if-safe (Space at) a b = b
+
+-- the lent words afterwards: the system and "Words beyond stay"; after a refusal as they came
+unfoldable pub lent-after : List ℕ → List ℕ → List ℕ
+lent-after bytes lent =
+    let m : Message = message bytes in
+    if-safe (verdict bytes (length lent)) (written (system-words (m .program) (m .tables)) lent) lent
+
+-- "On 0 the loader is handed the program's own bytes of the message, its part with the four sizes, not a copy; otherwise an empty part."
+unfoldable pub part-handed : List ℕ → ℕ → List ℕ
+part-handed bytes lent = take (if-safe (verdict bytes lent) (2 * bads-at (message bytes .sizes)) 0) bytes
+
+unfoldable pub verify-opens : Unit {0}
+unfolding message program-check evidence-check bounds-check message-check check answer verdict if-safe lent-after part-handed
+verify-opens = tt

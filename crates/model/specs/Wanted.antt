@@ -1,0 +1,126 @@
+-- Document 01, "Closed tables", said outright: each sentence is a way to want an entry, and tables are closed when each wanted entry is there.
+-- (Closed.antt says the same as a test.)
+use Prim.Native.Nat.{ℕ, zero, suc, _+_, _<_}
+use mathlib.Core.Path.{_≡_}
+use mathlib.Core.Bool.{Bool, true, false}
+use mathlib.Core.List.{List, [], _∷_, List·Memᴰ}
+use mathlib.Core.Option.{Option, some, none}
+use lib.ListN.{getD}
+use lib.Dec.{eqb}
+use Rattle.model.specs.Limits.{maxDepth}
+use Rattle.model.specs.Words.{Columns, left, right}
+use Rattle.model.specs.Rows.{Program, size, tag, num, arity}
+use Rattle.model.specs.Heads.{Call, call-at, head-at, gives, builds, makes, calls, sends, spawns, selfs, cases, receives, branch-body, is-class, parameters, body, takes, innermost, start}
+use Rattle.model.specs.Tables.{Tables}
+use Rattle.model.specs.Closed.{subpattern, argument, same-constructor}
+
+-- the list has the pair
+pub record Member (c : Columns) (a b : ℕ) : Type 0 where
+  pub at : ℕ
+  pub below : at < c .size
+  pub first : left c at ≡ a
+  pub second : right c at ≡ b
+
+-- what can be wanted
+pub data Entry : Type 0 where
+  flow : (name value : ℕ) → Entry
+  mail : (class value : ℕ) → Entry
+  state : (class head : ℕ) → Entry
+
+abbrev pub Present : Tables → Entry → Type 0
+Present t (flow n v) = Member (t .flow) n v
+Present t (mail c v) = Member (t .mail) c v
+Present t (state c r) = Member (t .states) c r
+
+-- "A name or any-pattern may match everything. A constructor pattern may match a build row of that constructor if each subpattern may match some
+-- value of the argument name."
+abbrev pub MayMatch : Program → Tables → ℕ → ℕ → ℕ → Type 0
+MayMatch p t zero q v = Unit {0}
+MayMatch p t (suc d) q v =
+    elim (eqb (tag p q) 31) [
+      | true ↦
+          (same-constructor p q v ≡ true) ×
+          ((i : ℕ) → i < arity p (num p q) →
+          (w : ℕ) × Member (t .flow) (argument p v i) w × MayMatch p t d (subpattern p (suc d) q i) w)
+      | false ↦ Unit {0}
+    ]
+
+-- "A pattern name holds each value at its spot, reached only through values that may match": where the pattern at row q meets v, w is at the spot
+-- of the name n
+abbrev pub AtSpot : Program → Tables → ℕ → ℕ → ℕ → ℕ → ℕ → Type 0
+AtSpot p t zero q v n w = ⊥
+AtSpot p t (suc d) q v n w =
+    elim (eqb (tag p q) 31) [
+      | true ↦
+          (i : ℕ) × (i < arity p (num p q)) ×
+          ((u : ℕ) × Member (t .flow) (argument p v i) u × MayMatch p t d (subpattern p (suc d) q i) u ×
+          AtSpot p t d (subpattern p (suc d) q i) u n w)
+      | false ↦ (tag p q ≡ 30) × (num p q ≡ n) × (v ≡ w)
+    ]
+
+-- the callee may be the function f, with equal count
+abbrev pub MayCall : Program → Tables → Call → ℕ → Type 0
+MayCall p t call f = Member (t .flow) (call .callee) f × (takes p f (call .count) ≡ true)
+
+-- "for each value of the name, or of c's mail, and each branch that may match": the branch at row q may take v in state (c, at)
+pub data MayTake (p : Program) (t : Tables) (c at : ℕ) : ℕ → ℕ → Type 0 where
+  by-case : (n : ℕ) (qs : List ℕ) (q v : ℕ) → head-at p at ≡ cases n qs → List·Memᴰ q qs → Member (t .flow) n v → MayMatch p t maxDepth q v → MayTake p t c at q v
+  by-receive : (qs : List ℕ) (q v : ℕ) → head-at p at ≡ receives qs → List·Memᴰ q qs → Member (t .mail) c v → MayMatch p t maxDepth q v → MayTake p t c at q v
+
+-- "give back, inside the innermost function f: for each state (c, call) whose callee may be f with equal count": giving back the name n at row `at`
+-- may lead behind the call
+pub record Returns (p : Program) (t : Tables) (c at n f call : ℕ) : Type 0 where
+  pub gives-back : head-at p at ≡ gives n
+  pub inside : innermost p at ≡ some f
+  pub waits : Member (t .states) c call
+  pub is-call : tag p call ≡ 4
+  pub may-call : MayCall p t (call-at p call) f
+
+-- "send: for each class d the target may be and value v of the message"
+pub record Sends (p : Program) (t : Tables) (at n r d v : ℕ) : Type 0 where
+  pub target : ℕ
+  pub message : ℕ
+  pub sends-at : head-at p at ≡ sends n target message r
+  pub to-class : Member (t .flow) target d
+  pub class : is-class p d ≡ true
+  pub value : Member (t .flow) message v
+
+-- "spawn: for each function without parameters it may be"
+pub record Spawns (p : Program) (t : Tables) (at n r f : ℕ) : Type 0 where
+  pub function : ℕ
+  pub spawns-at : head-at p at ≡ spawns n function r
+  pub may-be : Member (t .flow) function f
+  pub no-parameters : takes p f 0 ≡ true
+
+pub data Wanted (p : Program) (t : Tables) : Entry → Type 0 where
+  -- "Wanted first: each tag 11 name holds its own row, and state (R, start)"
+  global-name : (r : ℕ) → tag p r ≡ 11 → Wanted p t (flow (num p r) r)
+  first-state : Wanted p t (state (size p) (start p))
+  -- "build, function: the name holds r; self: the name holds c. State (c, rest)."
+  build-name : (c at n k r : ℕ) (ns : List ℕ) → Member (t .states) c at → head-at p at ≡ builds n k ns r → Wanted p t (flow n at)
+  build-rest : (c at n k r : ℕ) (ns : List ℕ) → Member (t .states) c at → head-at p at ≡ builds n k ns r → Wanted p t (state c r)
+  function-name : (c at n r : ℕ) → Member (t .states) c at → head-at p at ≡ makes n r → Wanted p t (flow n at)
+  function-rest : (c at n r : ℕ) → Member (t .states) c at → head-at p at ≡ makes n r → Wanted p t (state c r)
+  self-name : (c at n r : ℕ) → Member (t .states) c at → head-at p at ≡ selfs n r → Wanted p t (flow n c)
+  self-rest : (c at n r : ℕ) → Member (t .states) c at → head-at p at ≡ selfs n r → Wanted p t (state c r)
+  -- "call: for each function the callee may be, with equal count: parameters hold the arguments' values; state (c, its body)"
+  call-parameter : (c at f i v : ℕ) (call : Call) → Member (t .states) c at → head-at p at ≡ calls call → MayCall p t call f → i < call .count → Member (t .flow) (getD (call .arguments) i 0) v → Wanted p t (flow (getD (parameters p f) i 0) v)
+  call-body : (c at f : ℕ) (call : Call) → Member (t .states) c at → head-at p at ≡ calls call → MayCall p t call f → Wanted p t (state c (body p f))
+  -- "the call's name holds the values; state (c, call's rest). In the start expression: nothing."
+  return-name : (c at n f call v : ℕ) → Member (t .states) c at → Returns p t c at n f call → Member (t .flow) n v → Wanted p t (flow (call-at p call .name) v)
+  return-rest : (c at n f call : ℕ) → Member (t .states) c at → Returns p t c at n f call → Wanted p t (state c (call-at p call .rest))
+  -- "mail (d, v), the name holds v, state (c, rest)"
+  send-mail : (c at n r d v : ℕ) → Member (t .states) c at → Sends p t at n r d v → Wanted p t (mail d v)
+  send-name : (c at n r d v : ℕ) → Member (t .states) c at → Sends p t at n r d v → Wanted p t (flow n v)
+  send-rest : (c at n r d v : ℕ) → Member (t .states) c at → Sends p t at n r d v → Wanted p t (state c r)
+  -- "the name holds r, states (c, rest) and (r, body)"
+  spawn-name : (c at n r f : ℕ) → Member (t .states) c at → Spawns p t at n r f → Wanted p t (flow n at)
+  spawn-rest : (c at n r f : ℕ) → Member (t .states) c at → Spawns p t at n r f → Wanted p t (state c r)
+  spawn-body : (c at n r f : ℕ) → Member (t .states) c at → Spawns p t at n r f → Wanted p t (state at (body p f))
+  -- "its names' values, state (c, branch)"
+  branch-name : (c at q v n w : ℕ) → Member (t .states) c at → MayTake p t c at q v → AtSpot p t maxDepth q v n w → Wanted p t (flow n w)
+  branch-state : (c at q v : ℕ) → Member (t .states) c at → MayTake p t c at q v → Wanted p t (state c (branch-body p q))
+
+-- "Extra entries are allowed."
+abbrev pub Closed : Program → Tables → Type 0
+Closed p t = (e : Entry) → Wanted p t e → Present t e
