@@ -1,1 +1,3 @@
 pub mod Cases
+pub mod Logic
+pub mod Index

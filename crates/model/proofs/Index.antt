@@ -1,0 +1,342 @@
+-- Laws of the loops of specs/Index.antt. For each: what it gives at the end and after one turn (for a loop of the code), and what it says of
+-- the indices (for a proof about the model).
+use Prim.Native.Nat.{ℕ, zero, suc, _+_, _-_, _≤_, _<_}
+use native.Mathlib.Decide.{ℕ-discrete, decLt}
+use native.Mathlib.Omega.{arith}
+use mathlib.Core.Path.{_≡_, refl, sym, _∙_, ap, subst}
+use mathlib.Core.Bool.{Bool, true, false}
+use mathlib.Core.Logic.{_⊎_, inl, inr, ⊎-elim}
+use mathlib.Core.List.{List, [], _∷_, _++_, List·Memᴰ, Memᴰ·append-left, Memᴰ·append-right, List·Memᴰ·append-cases, List·Memᴰ·not-nil, List·Memᴰ·eq-of-singleton, List·Memᴰ·head, List·Memᴰ·tail}
+use mathlib.Core.Option.{Option, some, none, Option·some-injective, Option·none-ne-some}
+use lib.ListN.{length, length-append}
+use Rattle.model.specs.Index.{anyIn, allIn, firstIn, countIn, gatherIn, any, all, first, count, gather, last, only}
+use Rattle.model.proofs.Logic.{true-false, test}
+
+-- k is an index from i below e
+abbrev pub Within : ℕ → ℕ → ℕ → Type 0
+Within i e k = (i ≤ k) × (k < e)
+
+-- k is i itself, or behind it
+at-or-behind : {A : Type 0} (i k : ℕ) → i ≤ k → (k ≡ i → A) → (i + 1 ≤ k → A) → A
+at-or-behind i k h here behind = elim (ℕ-discrete k i) [ yes e ↦ here e | no ne ↦ behind (omega arith) ]
+
+-- e - i is one more than what is left after a turn
+turn : (i e : ℕ) → i < e → e - i ≡ suc (e - (i + 1))
+turn i e h = omega arith
+
+over : (i e : ℕ) → e ≤ i → e - i ≡ zero
+over i e h = omega arith
+
+-- any
+
+anyIn-pass : (n i : ℕ) (f : ℕ → Bool) → f i ≡ true → anyIn (suc n) i f ≡ true
+unfolding anyIn
+anyIn-pass n i f t = rw (t, anyIn)
+
+anyIn-fail : (n i : ℕ) (f : ℕ → Bool) → f i ≡ false → anyIn (suc n) i f ≡ anyIn n (i + 1) f
+unfolding anyIn
+anyIn-fail n i f t = rw (t, anyIn)
+
+pub any-end : (i e : ℕ) (f : ℕ → Bool) → e ≤ i → any i e f ≡ false
+unfolding any anyIn
+any-end i e f h = rw (over i e h)
+
+pub any-hit : (i e : ℕ) (f : ℕ → Bool) → i < e → f i ≡ true → any i e f ≡ true
+unfolding any
+any-hit i e f h t = rw (turn i e h) (anyIn-pass (e - (i + 1)) i f t)
+
+pub any-miss : (i e : ℕ) (f : ℕ → Bool) → i < e → f i ≡ false → any i e f ≡ any (i + 1) e f
+unfolding any
+any-miss i e f h t = rw (turn i e h) (anyIn-fail (e - (i + 1)) i f t)
+
+anyIn-intro : (n i k : ℕ) (f : ℕ → Bool) → i ≤ k → k < i + n → f k ≡ true → anyIn n i f ≡ true
+anyIn-intro zero i k f lo hi t = absurd (omega arith)
+anyIn-intro (suc n) i k f lo hi t =
+    test (f i) (anyIn-pass n i f)
+    (λ e. anyIn-fail n i f e ∙
+    at-or-behind i k lo (λ h. true-false t (ap f h ∙ e)) (λ h. anyIn-intro n (i + 1) k f h (omega arith) t))
+
+anyIn-elim : (n i : ℕ) (f : ℕ → Bool) → anyIn n i f ≡ true → (k : ℕ) × Within i (i + n) k × (f k ≡ true)
+unfolding anyIn
+anyIn-elim zero i f h = true-false h refl
+anyIn-elim (suc n) i f h =
+    test (f i) (λ e. (i, (omega arith, omega arith), e))
+    (λ e. let (k, w, t) = anyIn-elim n (i + 1) f (sym (anyIn-fail n i f e) ∙ h) in (k, (omega arith, omega arith), t))
+
+-- an index that passes
+pub any-intro : (i e k : ℕ) (f : ℕ → Bool) → i ≤ k → k < e → f k ≡ true → any i e f ≡ true
+unfolding any
+any-intro i e k f lo hi t = anyIn-intro (e - i) i k f lo (omega arith) t
+
+pub any-elim : (i e : ℕ) (f : ℕ → Bool) → any i e f ≡ true → (k : ℕ) × Within i e k × (f k ≡ true)
+unfolding any
+any-elim i e f h =
+    let (k, w, t) = anyIn-elim (e - i) i f h in
+    (k, (w .0, omega arith), t)
+
+-- none does
+pub any-none : (i e k : ℕ) (f : ℕ → Bool) → any i e f ≡ false → i ≤ k → k < e → f k ≡ false
+any-none i e k f h lo hi = test (f k) (λ t. true-false (any-intro i e k f lo hi t) h) (λ e. e)
+
+pub none-any : (i e : ℕ) (f : ℕ → Bool) → ((k : ℕ) → i ≤ k → k < e → f k ≡ false) → any i e f ≡ false
+none-any i e f h = test (any i e f) (λ t. let (k, w, p) = any-elim i e f t in true-false p (h k (w .0) (w .1))) (λ z. z)
+
+-- all
+
+allIn-pass : (n i : ℕ) (f : ℕ → Bool) → f i ≡ true → allIn (suc n) i f ≡ allIn n (i + 1) f
+unfolding allIn
+allIn-pass n i f t = rw (t, allIn)
+
+allIn-fail : (n i : ℕ) (f : ℕ → Bool) → f i ≡ false → allIn (suc n) i f ≡ false
+unfolding allIn
+allIn-fail n i f t = rw (t, allIn)
+
+pub all-end : (i e : ℕ) (f : ℕ → Bool) → e ≤ i → all i e f ≡ true
+unfolding all allIn
+all-end i e f h = rw (over i e h)
+
+pub all-hit : (i e : ℕ) (f : ℕ → Bool) → i < e → f i ≡ true → all i e f ≡ all (i + 1) e f
+unfolding all
+all-hit i e f h t = rw (turn i e h) (allIn-pass (e - (i + 1)) i f t)
+
+pub all-miss : (i e : ℕ) (f : ℕ → Bool) → i < e → f i ≡ false → all i e f ≡ false
+unfolding all
+all-miss i e f h t = rw (turn i e h) (allIn-fail (e - (i + 1)) i f t)
+
+allIn-elim : (n i k : ℕ) (f : ℕ → Bool) → allIn n i f ≡ true → i ≤ k → k < i + n → f k ≡ true
+allIn-elim zero i k f h lo hi = absurd (omega arith)
+allIn-elim (suc n) i k f h lo hi =
+    test (f i)
+    (λ e. at-or-behind i k lo (λ z. ap f z ∙ e)
+    (λ z. allIn-elim n (i + 1) k f (sym (allIn-pass n i f e) ∙ h) z (omega arith)))
+    (λ e. true-false h (allIn-fail n i f e))
+
+allIn-intro : (n i : ℕ) (f : ℕ → Bool) → ((k : ℕ) → i ≤ k → k < i + n → f k ≡ true) → allIn n i f ≡ true
+unfolding allIn
+allIn-intro zero i f h = refl
+allIn-intro (suc n) i f h =
+    allIn-pass n i f (h i (omega arith) (omega arith)) ∙
+    allIn-intro n (i + 1) f (λ k lo hi. h k (omega arith) (omega arith))
+
+pub all-elim : (i e k : ℕ) (f : ℕ → Bool) → all i e f ≡ true → i ≤ k → k < e → f k ≡ true
+unfolding all
+all-elim i e k f h lo hi = allIn-elim (e - i) i k f h lo (omega arith)
+
+pub all-intro : (i e : ℕ) (f : ℕ → Bool) → ((k : ℕ) → i ≤ k → k < e → f k ≡ true) → all i e f ≡ true
+unfolding all
+all-intro i e f h = allIn-intro (e - i) i f (λ k lo hi. h k lo (omega arith))
+
+-- first
+
+firstIn-pass : (n i : ℕ) (f : ℕ → Bool) → f i ≡ true → firstIn (suc n) i f ≡ i
+unfolding firstIn
+firstIn-pass n i f t = rw (t, firstIn)
+
+firstIn-fail : (n i : ℕ) (f : ℕ → Bool) → f i ≡ false → firstIn (suc n) i f ≡ firstIn n (i + 1) f
+unfolding firstIn
+firstIn-fail n i f t = rw (t, firstIn)
+
+pub first-end : (i e : ℕ) (f : ℕ → Bool) → e ≤ i → first i e f ≡ i
+unfolding first firstIn
+first-end i e f h = rw (over i e h)
+
+pub first-hit : (i e : ℕ) (f : ℕ → Bool) → i < e → f i ≡ true → first i e f ≡ i
+unfolding first
+first-hit i e f h t = rw (turn i e h) (firstIn-pass (e - (i + 1)) i f t)
+
+pub first-miss : (i e : ℕ) (f : ℕ → Bool) → i < e → f i ≡ false → first i e f ≡ first (i + 1) e f
+unfolding first
+first-miss i e f h t = rw (turn i e h) (firstIn-fail (e - (i + 1)) i f t)
+
+-- what the first index is: from i up to the end, passing unless it is the end, with none before it
+pub record First (i e : ℕ) (f : ℕ → Bool) (k : ℕ) : Type 0 where
+  pub from : i ≤ k
+  pub upto : k ≤ e
+  pub passes : k < e → f k ≡ true
+  pub before : (j : ℕ) → i ≤ j → j < k → f j ≡ false
+
+firstIn-is : (n i : ℕ) (f : ℕ → Bool) → First i (i + n) f (firstIn n i f)
+unfolding firstIn
+firstIn-is zero i f =
+    record { from = omega arith; upto = omega arith; passes = λ h. absurd (omega arith); before = λ j a b. absurd (omega arith) }
+firstIn-is (suc n) i f =
+    test (f i)
+    (λ e. rw (firstIn-pass n i f e)
+    (record { from = omega arith; upto = omega arith; passes = λ h. e; before = λ j a b. absurd (omega arith) }))
+    (λ e. let r = firstIn-is n (i + 1) f in
+    rw (firstIn-fail n i f e)
+    (record {
+      from = omega arith;
+      upto = omega arith;
+      passes = λ h. r .passes (omega arith);
+      before = λ j a b. at-or-behind i j a (λ z. ap f z ∙ e) (λ z. r .before j z b);
+    }))
+
+pub first-is : (i e : ℕ) (f : ℕ → Bool) → i ≤ e → First i e f (first i e f)
+unfolding first
+first-is i e f h = let z : i + (e - i) ≡ e = omega arith in rw z at (firstIn-is (e - i) i f)
+
+-- the first index is the only one that is so
+pub first-unique : (i e k : ℕ) (f : ℕ → Bool) → i ≤ e → First i e f k → first i e f ≡ k
+first-unique i e k f h r = elim (decLt (first i e f) k) [
+  | yes a ↦ true-false (s .passes (omega (arith, r .upto))) (r .before (first i e f) (s .from) a)
+  | no a ↦ elim (decLt k (first i e f)) [
+    | yes b ↦ true-false (r .passes (omega (arith, s .upto))) (s .before k (r .from) b)
+    | no b ↦ omega arith
+  ]
+]
+  where
+    s : First i e f (first i e f)
+    s = first-is i e f h
+
+-- there is one exactly where the first is below the end
+pub first-below : (i e k : ℕ) (f : ℕ → Bool) → i ≤ k → k < e → f k ≡ true → first i e f ≤ k
+first-below i e k f lo hi t = elim (decLt k (first i e f)) [
+  | yes b ↦ true-false t (first-is i e f (omega arith) .before k lo b)
+  | no b ↦ omega arith
+]
+
+-- count
+
+countIn-pass : (n i : ℕ) (f : ℕ → Bool) → f i ≡ true → countIn (suc n) i f ≡ 1 + countIn n (i + 1) f
+unfolding countIn
+countIn-pass n i f t = rw (t, countIn)
+
+countIn-fail : (n i : ℕ) (f : ℕ → Bool) → f i ≡ false → countIn (suc n) i f ≡ countIn n (i + 1) f
+unfolding countIn
+countIn-fail n i f t = rw (t, countIn)
+
+pub count-end : (i e : ℕ) (f : ℕ → Bool) → e ≤ i → count i e f ≡ 0
+unfolding count countIn
+count-end i e f h = rw (over i e h)
+
+pub count-hit : (i e : ℕ) (f : ℕ → Bool) → i < e → f i ≡ true → count i e f ≡ 1 + count (i + 1) e f
+unfolding count
+count-hit i e f h t = rw (turn i e h) (countIn-pass (e - (i + 1)) i f t)
+
+pub count-miss : (i e : ℕ) (f : ℕ → Bool) → i < e → f i ≡ false → count i e f ≡ count (i + 1) e f
+unfolding count
+count-miss i e f h t = rw (turn i e h) (countIn-fail (e - (i + 1)) i f t)
+
+countIn-split : (n m i : ℕ) (f : ℕ → Bool) → countIn (n + m) i f ≡ countIn n i f + countIn m (i + n) f
+unfolding countIn
+countIn-split zero m i f = let a : zero + m ≡ m = omega arith in let b : i + zero ≡ i = omega arith in rw (a, b) (omega arith)
+countIn-split (suc n) m i f =
+    let a : suc n + m ≡ suc (n + m) = omega arith in
+    let b : i + suc n ≡ i + 1 + n = omega arith in
+    let r = countIn-split n m (i + 1) f in
+    rw (a, b)
+    (test (f i)
+    (λ e. rw (countIn-pass (n + m) i f e, countIn-pass n i f e) (omega arith))
+    (λ e. rw (countIn-fail (n + m) i f e, countIn-fail n i f e) (omega arith)))
+
+-- up to k, and from k on
+pub count-split : (i k e : ℕ) (f : ℕ → Bool) → i ≤ k → k ≤ e → count i e f ≡ count i k f + count k e f
+unfolding count
+count-split i k e f a b =
+    let x : e - i ≡ (k - i) + (e - k) = omega arith in
+    let y : i + (k - i) ≡ k = omega arith in
+    rw x (rw y at (countIn-split (k - i) (e - k) i f))
+
+-- one index more
+pub count-last : (i e : ℕ) (f : ℕ → Bool) → i ≤ e → f e ≡ true → count i (e + 1) f ≡ count i e f + 1
+count-last i e f h t =
+    count-split i e (e + 1) f h (omega arith) ∙
+    ap (λ n. count i e f + n) (count-hit e (e + 1) f (omega arith) t ∙ ap (λ n. 1 + n) (count-end (e + 1) (e + 1) f (omega arith)))
+
+pub count-last-miss : (i e : ℕ) (f : ℕ → Bool) → i ≤ e → f e ≡ false → count i (e + 1) f ≡ count i e f
+count-last-miss i e f h t =
+    let z = count-end (e + 1) (e + 1) f (omega arith) in
+    let s = count-split i e (e + 1) f h (omega arith) in
+    let m = count-miss e (e + 1) f (omega arith) t in
+    omega arith
+
+-- gather
+
+pub gather-end : {A : Type 0} (i e : ℕ) (f : ℕ → List A) → e ≤ i → gather i e f ≡ []
+unfolding gather gatherIn
+gather-end i e f h = rw (over i e h)
+
+pub gather-turn : {A : Type 0} (i e : ℕ) (f : ℕ → List A) → i < e → gather i e f ≡ f i ++ gather (i + 1) e f
+unfolding gather gatherIn
+gather-turn i e f h = rw (turn i e h)
+
+gatherIn-intro : {A : Type 0} (n i k : ℕ) (f : ℕ → List A) (a : A) → i ≤ k → k < i + n → List·Memᴰ a (f k) → List·Memᴰ a (gatherIn n i f)
+unfolding gatherIn
+gatherIn-intro zero i k f a lo hi m = absurd (omega arith)
+gatherIn-intro (suc n) i k f a lo hi m =
+    at-or-behind i k lo (λ z. Memᴰ·append-left (gatherIn n (i + 1) f) (subst (λ j. List·Memᴰ a (f j)) z m))
+    (λ z. Memᴰ·append-right (f i) (gatherIn-intro n (i + 1) k f a z (omega arith) m))
+
+gatherIn-elim : {A : Type 0} (n i : ℕ) (f : ℕ → List A) (a : A) → List·Memᴰ a (gatherIn n i f) → (k : ℕ) × Within i (i + n) k × List·Memᴰ a (f k)
+unfolding gatherIn
+gatherIn-elim zero i f a m = absurd (List·Memᴰ·not-nil m)
+gatherIn-elim (suc n) i f a m =
+    ⊎-elim (λ h. (i, (omega arith, omega arith), h))
+    (λ h. let (k, w, t) = gatherIn-elim n (i + 1) f a h in (k, (omega arith, omega arith), t))
+    (List·Memᴰ·append-cases (f i) m)
+
+pub gather-intro : {A : Type 0} (i e k : ℕ) (f : ℕ → List A) (a : A) → i ≤ k → k < e → List·Memᴰ a (f k) → List·Memᴰ a (gather i e f)
+unfolding gather
+gather-intro i e k f a lo hi m = gatherIn-intro (e - i) i k f a lo (omega arith) m
+
+pub gather-elim : {A : Type 0} (i e : ℕ) (f : ℕ → List A) (a : A) → List·Memᴰ a (gather i e f) → (k : ℕ) × Within i e k × List·Memᴰ a (f k)
+unfolding gather
+gather-elim i e f a m =
+    let (k, w, t) = gatherIn-elim (e - i) i f a m in
+    (k, (w .0, omega arith), t)
+
+-- last
+
+pub last-hit : (n : ℕ) (f : ℕ → Bool) → f n ≡ true → last (suc n) f ≡ some n
+unfolding last
+last-hit n f t = rw (t, last)
+
+pub last-miss : (n : ℕ) (f : ℕ → Bool) → f n ≡ false → last (suc n) f ≡ last n f
+unfolding last
+last-miss n f t = rw (t, last)
+
+-- the last index below n that passes, given with none behind it
+pub last-is : (n k : ℕ) (f : ℕ → Bool) → k < n → f k ≡ true → ((j : ℕ) → k < j → j < n → f j ≡ false) → last n f ≡ some k
+last-is zero k f h t none-behind = absurd (omega arith)
+last-is (suc n) k f h t none-behind = elim (ℕ-discrete k n) [
+  | yes z ↦ last-hit n f (sym (ap f z) ∙ t) ∙ ap some (sym z)
+  | no z ↦ last-miss n f (none-behind n (omega arith) (omega arith)) ∙ last-is n k f (omega arith) t (λ j a b. none-behind j a (omega arith))
+]
+
+pub last-none : (n : ℕ) (f : ℕ → Bool) → ((j : ℕ) → j < n → f j ≡ false) → last n f ≡ none
+unfolding last
+last-none zero f h = refl
+last-none (suc n) f h = last-miss n f (h n (omega arith)) ∙ last-none n f (λ j a. h j (omega arith))
+
+-- what a last index is
+pub record Last (n : ℕ) (f : ℕ → Bool) (k : ℕ) : Type 0 where
+  pub below : k < n
+  pub passes : f k ≡ true
+  pub behind : (j : ℕ) → k < j → j < n → f j ≡ false
+
+pub last-elim : (n k : ℕ) (f : ℕ → Bool) → last n f ≡ some k → Last n f k
+unfolding last
+last-elim zero k f h = absurd (Option·none-ne-some k h)
+last-elim (suc n) k f h =
+    test (f n)
+    (λ e. let z = Option·some-injective n k (sym (last-hit n f e) ∙ h) in
+    record { below = omega arith; passes = sym (ap f z) ∙ e; behind = λ j a b. absurd (omega arith) })
+    (λ e. let r = last-elim n k f (sym (last-miss n f e) ∙ h) in
+    record {
+      below = omega arith;
+      passes = r .passes;
+      behind = λ j a b. elim (ℕ-discrete j n) [ yes z ↦ ap f z ∙ e | no z ↦ r .behind j a (omega arith) ];
+    })
+
+-- only
+
+pub only-intro : {A : Type 0} (b : Bool) (a : A) → b ≡ true → List·Memᴰ a (only b a)
+unfolding only
+only-intro true a h = List·Memᴰ·head refl
+only-intro false a h = true-false h refl
+
+pub only-elim : {A : Type 0} (b : Bool) (a x : A) → List·Memᴰ x (only b a) → (b ≡ true) × (x ≡ a)
+unfolding only
+only-elim true a x m = (refl, List·Memᴰ·eq-of-singleton m)
+only-elim false a x m = absurd (List·Memᴰ·not-nil m)
