@@ -1,3 +1,4 @@
 pub mod Cases
 pub mod Logic
 pub mod Index
+pub mod Reader
