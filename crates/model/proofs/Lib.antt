@@ -2,3 +2,4 @@ pub mod Cases
 pub mod Logic
 pub mod Index
 pub mod Reader
+pub mod Covering
