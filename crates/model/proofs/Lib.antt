@@ -2,4 +2,15 @@ pub mod Cases
 pub mod Logic
 pub mod Index
 pub mod Reader
+pub mod Heads
+pub mod Exact
+pub mod Listed
+pub mod Numbering
+pub mod Bounded
 pub mod Covering
+pub mod Grow
+pub mod Lookups
+pub mod Counting
+pub mod Follow
+pub mod Acts
+pub mod RuleAt

@@ -46,12 +46,12 @@ from-letters p test f = gather 0 (letters p) (λ l. only (test l) (f l))
 unfoldable pub letter-of-some : Program → Columns → ℕ → (ℕ → Bool) → ℕ → Bool
 letter-of-some p c a test l = some-of c a (λ v. eqb (row-letter p v) l && test v)
 
--- The rules of the state with number i: "one rule per case above, repeats from one state dropped. Order: by state; then function, call row or
+-- The rules of the state s, which has number i: "one rule per case above, repeats from one state dropped. Order: by state; then function, call row or
 -- branch; send by class; then letter". Values of one letter, and values that one branch may match, share their rule.
-unfoldable pub state-rules : Program → Tables → ℕ → List Rule
-state-rules p t i =
-    let c : ℕ = state-at t i .class in
-    let at : ℕ = state-at t i .location in
+unfoldable pub state-rules : Program → Tables → ℕ → State → List Rule
+state-rules p t i s =
+    let c : ℕ = s .class in
+    let at : ℕ = s .location in
     let to : ℕ → Effect → Rule = λ r effect. rule i (state-index t (state c r)) effect in
     elim (head-at p at) [
       | gives n ↦
@@ -81,7 +81,7 @@ state-rules p t i =
 
 -- all rules, by state
 unfoldable pub rules : Program → Tables → List Rule
-rules p t = gather 0 (t .states .size) (state-rules p t)
+rules p t = gather 0 (t .states .size) (λ i. state-rules p t i (state-at t i))
 
 unfoldable pub rules-opens : Unit {0}
 unfolding from-each from-all from-letters letter-of-some state-rules rules

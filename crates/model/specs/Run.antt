@@ -10,7 +10,7 @@ use Rattle.model.specs.Heads.{Call, call-at, Head, head-at, gives, build
 use Rattle.model.specs.Values.{Value, closure, built, address, Bindings, empty, bind, value-of, values-of, bind-all, Frame, Process, process, Processes}
 use Rattle.model.specs.Matching.{Taken, first-branch, Received, receive-from}
 
-_>>=_ : {A B : Type 0} → Option A → (A → Option B) → Option B
+unfoldable pub _>>=_ : {A B : Type 0} → Option A → (A → Option B) → Option B
 _>>=_ none f = none
 _>>=_ (some a) f = f a
 

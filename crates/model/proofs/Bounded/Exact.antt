@@ -1,0 +1,95 @@
+-- Refusals 10 to 13 are exact: they refuse nothing exactly where the bounds are in form and are an inductive invariant of the system that no
+-- bad meets; and what refusals 12 and 13 tell.
+use Prim.Native.Nat.{ℕ, _≤_, _<_}
+use mathlib.Core.Path.{_≡_, refl}
+use mathlib.Core.Bool.{true}
+use mathlib.Core.Logic.{_↔_}
+use mathlib.Core.List.{List, List·Memᴰ}
+use mathlib.Core.Option.{some, none}
+use Rattle.model.specs.declared.Verdict.{Verdict}
+use Rattle.model.specs.Limits.{omega-limit}
+use Rattle.model.specs.Words.{words, right}
+use Rattle.model.specs.Message.{sizes}
+use Rattle.model.specs.Reader.{first-wrong}
+use Rattle.model.specs.Rows.{step, whole}
+use Rattle.model.specs.Heads.{is-class}
+use Rattle.model.specs.Tables.{is-value}
+use Rattle.model.specs.Counters.{counter-count}
+use Rattle.model.specs.Rules.{Rule, rules}
+use Rattle.model.specs.Markings.{Marking, usable, fire}
+use Rattle.model.specs.Bounds.{bound-entries, bound-step, bounds-of, bounds, bound-check, met-check, leak-check}
+use Rattle.model.specs.Verify.{Message, message, bounds-check}
+use Rattle.model.specs.Demands.{Bytes, Listed, Under-one, Met, Inductive}
+use Rattle.model.proofs.Bounded.Words.{short-words, short-minimum, short-limit}
+use Rattle.model.proofs.Bounded.Checks.{map-exact, then-exact}
+use Rattle.model.proofs.Bounded.Counters.{Keys}
+use Rattle.model.proofs.Bounded.Keys.{keys-below, program-end}
+use Rattle.model.proofs.Bounded.Met.{Bad-met, met-check-exact, met-check-refuses}
+use Rattle.model.proofs.Bounded.Fire.{Shaped}
+use Rattle.model.proofs.Bounded.Shaped.{rules-shaped}
+use Rattle.model.proofs.Bounded.Leak.{Leaks, start-check-exact, leak-check-exact, leak-check-refuses}
+
+-- the keys of mail of a message whose rows fit and whose mail is in range
+pub message-keys : (bytes : List ℕ) → first-wrong (step (message bytes .program)) (message bytes .program .rows) (whole (message bytes .program)) ≡ none → Listed (is-class (message bytes .program)) (is-value (message bytes .program)) (message bytes .tables .mail) → Keys (message bytes .program) (message bytes .tables)
+unfolding message
+message-keys bytes fit mail = keys-below (message bytes .program) (program-end (words bytes) (sizes (words bytes))) fit (message bytes .tables) mail
+
+module _ (bytes : List ℕ) (short : Bytes bytes) where
+  abbrev m : Message
+  m = message bytes
+
+  -- a message's bounds have a limit for each counter
+  counters : m .bounds .counters ≡ counter-count (m .program) (m .tables)
+  unfolding message bounds
+  counters = refl
+
+  limits : (k x : ℕ) → m .bounds .limit k x ≤ omega-limit
+  unfolding message
+  limits k x = short-limit (words bytes) (sizes (words bytes)) _ k x (short-words bytes short)
+
+  minimums : (i : ℕ) → right (m .bads) i ≤ omega-limit
+  unfolding message
+  minimums i = short-minimum (words bytes) (sizes (words bytes)) i (short-words bytes short)
+
+  -- the bounds are in form, as `In-form` says it
+  abbrev pub Bounds-in-form : Type 0
+  Bounds-in-form = first-wrong (bound-step (m .bounds .counters)) (bound-entries (m .words) (m .sizes)) (bounds-of (m .sizes .bounds)) ≡ none
+
+  bound-check-exact : (bound-check (m .words) (m .sizes) (counter-count (m .program) (m .tables)) ≡ none) ↔ Bounds-in-form
+  unfolding bound-check
+  bound-check-exact = rw (← counters) (map-exact _ (first-wrong (bound-step (m .bounds .counters)) (bound-entries (m .words) (m .sizes)) (bounds-of (m .sizes .bounds))))
+
+  module _ (keys : Keys (m .program) (m .tables)) where
+    shaped : (ρ : Rule) → List·Memᴰ ρ (rules (m .program) (m .tables)) → Shaped (m .bounds .counters) ρ
+    shaped = rw counters (rules-shaped (m .program) (m .tables) keys)
+
+    pub met-exact : (met-check (m .sizes) (m .program) (m .tables) (m .bounds) (m .bads) ≡ none) ↔ ((counts : Marking) (j : ℕ) → Under-one (m .bounds) counts → j < m .sizes .bads → Met m counts j → ⊥)
+    met-exact = met-check-exact (m .program) (m .tables) (m .bounds) (m .bads) keys counters minimums (m .sizes)
+
+    pub met-refuses : (v : Verdict) → met-check (m .sizes) (m .program) (m .tables) (m .bounds) (m .bads) ≡ some v → Bad-met (m .program) (m .tables) (m .bounds) (m .bads) (m .sizes) v
+    met-refuses = met-check-refuses (m .program) (m .tables) (m .bounds) (m .bads) keys counters minimums (m .sizes)
+
+    pub leak-exact : (leak-check (m .words) (m .sizes) (m .bounds) (rules (m .program) (m .tables)) ≡ none) ↔ ((counts : Marking) (ρ : Rule) → Under-one (m .bounds) counts → List·Memᴰ ρ (rules (m .program) (m .tables)) → usable ρ counts ≡ true → Under-one (m .bounds) (fire ρ counts))
+    leak-exact = leak-check-exact (m .bounds) (rules (m .program) (m .tables)) limits shaped (m .words) (m .sizes)
+
+    pub leak-refuses : (v : Verdict) → leak-check (m .words) (m .sizes) (m .bounds) (rules (m .program) (m .tables)) ≡ some v → Leaks (m .words) (m .sizes) (m .bounds) (rules (m .program) (m .tables)) v
+    leak-refuses = leak-check-refuses (m .bounds) (rules (m .program) (m .tables)) limits shaped (m .words) (m .sizes)
+
+    pub bounds-check-exact : (bounds-check m ≡ none) ↔ (Bounds-in-form × Inductive m)
+    unfolding bounds-check
+    bounds-check-exact =
+        let start = start-check-exact (m .sizes) (m .program) (m .tables) (m .bounds) in (
+          λ h.
+              let (form, h₁) = then-exact _ _ .0 h in
+              let (starts, h₂) = then-exact _ _ .0 h₁ in
+              let (meets, keeps) = then-exact _ _ .0 h₂ in
+              (bound-check-exact .0 form, record { contain-start = start .0 starts; kept = leak-exact .0 keeps; meet-no-bad = met-exact .0 meets }),
+          λ h. let (form, inductive) = h in
+              then-exact _ _ .1 (
+                bound-check-exact .1 form,
+                then-exact _ _ .1 (
+                  start .1 (inductive .contain-start),
+                  then-exact _ _ .1 (met-exact .1 (inductive .meet-no-bad), leak-exact .1 (inductive .kept)),
+                ),
+              ),
+        )

@@ -1,0 +1,123 @@
+-- Refusals 11 and 13 are exact: from counts under a bound a rule leads out of all bounds exactly where one does from the bound's highest counts.
+use Prim.Native.Nat.{ℕ, _+_, _≤_, _<_}
+use mathlib.Core.Path.{_≡_, refl, sym}
+use mathlib.Core.Bool.{Bool, true, false, not, _&&_}
+use mathlib.Core.Logic.{⊎-elim, _↔_}
+use mathlib.Core.List.{List, [], _∷_, List·Memᴰ, List·Memᴰ·head, List·Memᴰ·tail, List·Memᴰ·not-nil, List·Memᴰ·cases-cons}
+use mathlib.Core.Option.{some, none}
+use borrow.Author.Tests.{not-true, not-false}
+use Rattle.model.specs.declared.Sizes.{Sizes}
+use Rattle.model.specs.declared.Verdict.{Verdict}
+use Rattle.model.specs.declared.Verdict.the-variants.{Start, Leak}
+use Rattle.model.specs.Limits.{omega-limit}
+use Rattle.model.specs.Message.{bounds-at}
+use Rattle.model.specs.Rows.{Program}
+use Rattle.model.specs.Tables.{Tables}
+use Rattle.model.specs.Rules.{Rule}
+use Rattle.model.specs.Markings.{Marking, usable, fire, initial}
+use Rattle.model.specs.Bounds.{Bounds, bound-entries, bound-entry, under-some, highest, start-check, leads-out, leak-check}
+use Rattle.model.specs.Demands.{Under, Under-one}
+use Rattle.model.proofs.Logic.{true-false, test, and-left, and-right, and-false-right, or-cases, or-false-left, or-false-right}
+use Rattle.model.proofs.Bounded.Under.{under-some-exact, highest-under}
+use Rattle.model.proofs.Bounded.Checks.{unless-exact, first-check-exact, first-check-refuses}
+use Rattle.model.proofs.Bounded.Fire.{Shaped, usable-at-highest, fire-allowed}
+
+-- refusal 11: the start lies under one of the bounds
+pub start-check-exact : (s : Sizes) (p : Program) (t : Tables) (bs : Bounds) → (start-check s p t bs ≡ none) ↔ Under-one bs (initial p t)
+unfolding start-check
+start-check-exact s p t bs =
+    let passes = unless-exact (under-some bs (initial p t)) (Start (bounds-at s)) in
+    let lies = under-some-exact bs (initial p t) in
+    (λ h. lies .0 (passes .0 h), λ h. passes .1 (lies .1 h))
+
+-- a rule that can be used at the counts and leads out of all bounds
+pub record Leads-out (bs : Bounds) (ρs : List Rule) (m : Marking) : Type 0 where
+  pub rule : Rule
+  pub listed : List·Memᴰ rule ρs
+  pub used : usable rule m ≡ true
+  pub out : Under-one bs (fire rule m) → ⊥
+
+leads-out-elim : (bs : Bounds) (ρs : List Rule) (m : Marking) → leads-out bs ρs m ≡ true → Leads-out bs ρs m
+unfolding leads-out
+leads-out-elim bs [] m h = true-false h refl
+leads-out-elim bs (ρ ∷ ρs) m h =
+    ⊎-elim
+    (λ e. let fails = not-true (under-some bs (fire ρ m)) (and-right (usable ρ m) _ e) in
+    record {
+      rule = ρ;
+      listed = List·Memᴰ·head refl;
+      used = and-left (usable ρ m) _ e;
+      out = λ u. true-false (under-some-exact bs (fire ρ m) .1 u) fails;
+    })
+    (λ e. let r = leads-out-elim bs ρs m e in record { rule = r .rule; listed = List·Memᴰ·tail (r .listed); used = r .used; out = r .out })
+    (or-cases (usable ρ m && not (under-some bs (fire ρ m))) _ h)
+
+-- where none leads out, each that can be used leads under one of the bounds
+leads-out-none : (bs : Bounds) (ρs : List Rule) (m : Marking) (ρ : Rule) → leads-out bs ρs m ≡ false → List·Memᴰ ρ ρs → usable ρ m ≡ true → under-some bs (fire ρ m) ≡ true
+unfolding leads-out
+leads-out-none bs [] m ρ h i u = absurd (List·Memᴰ·not-nil i)
+leads-out-none bs (σ ∷ ρs) m ρ h i u =
+    ⊎-elim
+    (λ e. let here = or-false-left (usable σ m && not (under-some bs (fire σ m))) _ h in
+    rw e (not-false _ (and-false-right (usable σ m) _ here (rw e at u))))
+    (λ j. leads-out-none bs ρs m ρ (or-false-right (usable σ m && not (under-some bs (fire σ m))) _ h) j u)
+    (List·Memᴰ·cases-cons i)
+
+-- from counts under bound k each rule that can be used leads under one of the bounds
+abbrev pub Kept-from : Bounds → List Rule → ℕ → Type 0
+Kept-from bs ρs k = (m : Marking) (ρ : Rule) → Under bs k m → List·Memᴰ ρ ρs → usable ρ m ≡ true → Under-one bs (fire ρ m)
+
+-- what refusal 13 tells: a bound and its first entry's word, counts under it that a rule leads out of all bounds, and that none leads out of an
+-- earlier one
+pub record Leaks (ws : List ℕ) (s : Sizes) (bs : Bounds) (ρs : List Rule) (v : Verdict) : Type 0 where
+  pub bound : ℕ
+  pub below : bound < bs .size
+  pub refused : v ≡ Leak (bounds-at s + 2 + bound-entry (bs .counters) (bound-entries ws s) bound)
+  pub counts : Marking
+  pub under : Under bs bound counts
+  pub leads-out : Leads-out bs ρs counts
+  pub earlier : (k : ℕ) → k < bound → Kept-from bs ρs k
+
+module _ (bs : Bounds) (ρs : List Rule) (short : (k x : ℕ) → bs .limit k x ≤ omega-limit) (shaped : (ρ : Rule) → List·Memᴰ ρ ρs → Shaped (bs .counters) ρ) where
+  -- the highest counts answer for all counts under a bound
+  pub leads-out-exact : (k : ℕ) → (leads-out bs ρs (highest (bs .limit k)) ≡ false) ↔ Kept-from bs ρs k
+  leads-out-exact k = (
+    λ h m ρ u i used.
+        let s = shaped ρ i in
+        let (k′, below′, u′) = under-some-exact bs (fire ρ (highest (bs .limit k))) .0
+        (leads-out-none bs ρs (highest (bs .limit k)) ρ h i (usable-at-highest (bs .counters) ρ s (bs .limit k) m u used)) in
+        (k′, below′, fire-allowed (bs .counters) ρ s (bs .limit k) m u (bs .limit k′) (short k′) u′),
+    λ h. test (leads-out bs ρs (highest (bs .limit k)))
+        (λ e. let r = leads-out-elim bs ρs (highest (bs .limit k)) e in
+        absurd (r .out (h (highest (bs .limit k)) (r .rule) (highest-under bs k) (r .listed) (r .used)))) (λ e. e),
+  )
+
+  module _ (ws : List ℕ) (s : Sizes) where
+    abbrev leaks : ℕ → Bool
+    leaks k = leads-out bs ρs (highest (bs .limit k))
+
+    abbrev refusal : ℕ → Verdict
+    refusal k = Leak (bounds-at s + 2 + bound-entry (bs .counters) (bound-entries ws s) k)
+
+    -- refusal 13: each rule keeps the counts that lie under one of the bounds
+    pub leak-check-exact : (leak-check ws s bs ρs ≡ none) ↔ ((m : Marking) (ρ : Rule) → Under-one bs m → List·Memᴰ ρ ρs → usable ρ m ≡ true → Under-one bs (fire ρ m))
+    unfolding leak-check
+    leak-check-exact =
+        let e = first-check-exact (bs .size) leaks refusal in (
+          λ h m ρ u. let (k, below, lies) = u in leads-out-exact k .0 (e .0 h k below) m ρ lies,
+          λ h. e .1 (λ k below. leads-out-exact k .1 (λ m ρ lies. h m ρ (k, below, lies))),
+        )
+
+    pub leak-check-refuses : (v : Verdict) → leak-check ws s bs ρs ≡ some v → Leaks ws s bs ρs v
+    unfolding leak-check
+    leak-check-refuses v h =
+        let r = first-check-refuses (bs .size) leaks refusal v h in
+        record {
+          bound = r .at;
+          below = r .below;
+          refused = sym (r .refused);
+          counts = highest (bs .limit (r .at));
+          under = highest-under bs (r .at);
+          leads-out = leads-out-elim bs ρs _ (r .passes);
+          earlier = λ k before. leads-out-exact k .0 (r .before k before);
+        }

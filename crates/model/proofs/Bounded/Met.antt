@@ -1,0 +1,117 @@
+-- Refusal 12 is exact: a bound allows counts that meet a bad exactly where its highest counts do.
+use Prim.Native.Nat.{ℕ, zero, suc, _+_, _-_, _≤_, _<_}
+use native.Mathlib.Omega.{arith}
+use mathlib.Core.Path.{_≡_, refl, sym}
+use mathlib.Core.Bool.{Bool, true, false}
+use mathlib.Core.Logic.{_⊎_, inl, inr, ⊎-elim, _↔_}
+use mathlib.Core.Option.{Option, some, none}
+use lib.Dec.{leb, eqb}
+use borrow.Author.Tests.{leb-true, le-leb}
+use Rattle.model.specs.declared.Sizes.{Sizes}
+use Rattle.model.specs.declared.Verdict.{Verdict}
+use Rattle.model.specs.declared.Verdict.the-variants.{Met}
+use Rattle.model.specs.Limits.{omega-limit}
+use Rattle.model.specs.Words.{Columns, left, right}
+use Rattle.model.specs.Message.{bads-at}
+use Rattle.model.specs.Rows.{Program}
+use Rattle.model.specs.Tables.{Tables}
+use Rattle.model.specs.Bads.{Counted, counted, met-from, met, bad-row}
+use Rattle.model.specs.Counters.{counter-count, counter-of}
+use Rattle.model.specs.Markings.{Marking, standing, count-in}
+use Rattle.model.specs.Bounds.{Bounds, highest, bad-allowed, met-check}
+use Rattle.model.specs.Demands.{Under, Under-one}
+use Rattle.model.proofs.Logic.{true-false, test, and-left, and-right, and-intro}
+use Rattle.model.proofs.Index.{any-none, any-elim}
+use Rattle.model.proofs.Bounded.Under.{below-highest, highest-under-one}
+use Rattle.model.proofs.Bounded.Counters.{Keys, counter-below}
+use Rattle.model.proofs.Bounded.Checks.{first-check-exact, first-check-refuses}
+
+-- counts that are as high, or past every minimum, meet what the lower ones meet
+met-from-higher : (low high : Counted → ℕ) (rows : Columns) (n r : ℕ) → ((k : Counted) → (low k ≤ high k) ⊎ (omega-limit ≤ high k)) → ((i : ℕ) → right rows i ≤ omega-limit) → met-from low rows n r ≡ true → met-from high rows n r ≡ true
+unfolding met-from
+met-from-higher low high rows zero r higher short h = refl
+met-from-higher low high rows (suc n) r higher short h =
+    test (eqb (left rows r) 40)
+    (λ e. let both = rw (e, met-from) at h in
+    let reached = leb-true (right rows (r + 2)) (low (counted rows r)) (and-left _ (met-from low rows n (r + 3)) both) in
+    let minimum = short (r + 2) in
+    let reaches : right rows (r + 2) ≤ high (counted rows r) = ⊎-elim (λ z. omega arith) (λ z. omega arith) (higher (counted rows r)) in
+    rw (e, met-from)
+    (and-intro _ _ (le-leb _ _ reaches) (met-from-higher low high rows n (r + 3) higher short (and-right (leb (right rows (r + 2)) (low (counted rows r))) _ both))))
+    (λ e. rw (e, met-from))
+
+-- the counts of a state or letter, by its counter
+higher-standing : (low high : Marking) (counters : ℕ) (x : Option ℕ) → ((y : ℕ) → x ≡ some y → y < counters) → ((y : ℕ) → y < counters → (low y ≤ high y) ⊎ (omega-limit ≤ high y)) → (standing low x ≤ standing high x) ⊎ (omega-limit ≤ standing high x)
+unfolding standing
+higher-standing low high counters none below higher = inl (omega arith)
+higher-standing low high counters (some y) below higher = higher y (below y refl)
+
+module _ (p : Program) (t : Tables) (bs : Bounds) (rows : Columns) where
+  -- the counts meet the bad whose first row is r
+  abbrev Meets : Marking → ℕ → Type 0
+  Meets m r = met (count-in p t m) rows r ≡ true
+
+  abbrev allows : ℕ → Bool
+  allows j = bad-allowed p t bs rows (bad-row p rows j)
+
+  abbrev refusal : Sizes → ℕ → Verdict
+  refusal s j = Met (bads-at s + 2 + bad-row p rows j)
+
+  -- what refusal 12 tells: a bad, met by counts under a bound, its first tag's word, and that no counts under a bound meet an earlier one
+  pub record Bad-met (s : Sizes) (v : Verdict) : Type 0 where
+    pub bad : ℕ
+    pub below : bad < s .bads
+    pub refused : v ≡ refusal s bad
+    pub counts : Marking
+    pub under : Under-one bs counts
+    pub meets : Meets counts (bad-row p rows bad)
+    pub earlier : (j : ℕ) (m : Marking) → j < bad → Under-one bs m → Meets m (bad-row p rows j) → ⊥
+
+  -- some bound allows a bad: its highest counts meet it
+  pub bad-allowed-elim : (r : ℕ) → bad-allowed p t bs rows r ≡ true → (k : ℕ) × (k < bs .size) × Meets (highest (bs .limit k)) r
+  unfolding bad-allowed
+  bad-allowed-elim r h = let (k, w, e) = any-elim 0 (bs .size) _ h in (k, w .1, e)
+
+  module _ (keys : Keys p t) (counters : bs .counters ≡ counter-count p t) (short : (i : ℕ) → right rows i ≤ omega-limit) where
+    -- what counts under a bound meet, its highest counts meet
+    pub highest-meet : (k : ℕ) (m : Marking) (r : ℕ) → Under bs k m → Meets m r → Meets (highest (bs .limit k)) r
+    unfolding met count-in
+    highest-meet k m r u h =
+        met-from-higher (count-in p t m) (count-in p t (highest (bs .limit k))) rows (rows .size - r) r
+        (λ c. higher-standing m (highest (bs .limit k)) (bs .counters) (counter-of p t c)
+        (λ y e. rw counters (counter-below p t keys c y e))
+        (λ y below. ⊎-elim (λ z. inl z) (λ z. inr (omega arith)) (below-highest (bs .limit k) y (m y) (u y below))))
+        short h
+
+    -- no bound allows a bad exactly where no counts under a bound meet it
+    pub bad-allowed-exact : (r : ℕ) → (bad-allowed p t bs rows r ≡ false) ↔ ((m : Marking) → Under-one bs m → Meets m r → ⊥)
+    unfolding bad-allowed
+    bad-allowed-exact r = (
+      λ h m u meets. true-false (highest-meet (u .0) m r (u .2) meets) (any-none 0 (bs .size) (u .0) _ h (omega arith) (u .1)),
+      λ h. test (bad-allowed p t bs rows r)
+          (λ e. let (k, below, meets) = bad-allowed-elim r e in absurd (h _ (highest-under-one bs k below) meets)) (λ e. e),
+    )
+
+    module _ (s : Sizes) where
+      pub met-check-exact : (met-check s p t bs rows ≡ none) ↔ ((m : Marking) (j : ℕ) → Under-one bs m → j < s .bads → Meets m (bad-row p rows j) → ⊥)
+      unfolding met-check
+      met-check-exact =
+          let e = first-check-exact (s .bads) allows (refusal s) in (
+            λ h m j u below. bad-allowed-exact (bad-row p rows j) .0 (e .0 h j below) m u,
+            λ h. e .1 (λ j below. bad-allowed-exact (bad-row p rows j) .1 (λ m u. h m j u below)),
+          )
+
+      pub met-check-refuses : (v : Verdict) → met-check s p t bs rows ≡ some v → Bad-met s v
+      unfolding met-check
+      met-check-refuses v h =
+          let r = first-check-refuses (s .bads) allows (refusal s) v h in
+          let (k, below, meets) = bad-allowed-elim (bad-row p rows (r .at)) (r .passes) in
+          record {
+            bad = r .at;
+            below = r .below;
+            refused = sym (r .refused);
+            counts = highest (bs .limit k);
+            under = highest-under-one bs k below;
+            meets = meets;
+            earlier = λ j m before. bad-allowed-exact (bad-row p rows j) .0 (r .before j before) m;
+          }

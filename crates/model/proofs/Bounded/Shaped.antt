@@ -1,0 +1,106 @@
+-- Every rule of the system leaves a state's counter and reads no other than a letter's: it takes no counter twice.
+use Prim.Native.Nat.{ℕ, _<_}
+use native.Mathlib.Omega.{arith}
+use mathlib.Core.Path.{_≡_, refl, sym, ap₂, subst}
+use mathlib.Core.Bool.{Bool, true, false}
+use mathlib.Core.Logic.{⊎-elim}
+use mathlib.Core.List.{List, [], _∷_, List·Memᴰ, List·Memᴰ·not-nil, List·Memᴰ·eq-of-singleton, List·Memᴰ·append-cases}
+use lib.Dec.{eqb}
+use borrow.Author.Tests.{eqb-true, eq-eqb}
+use Rattle.model.specs.Index.{gather, only}
+use Rattle.model.specs.Words.{Columns, left, right}
+use Rattle.model.specs.Rows.{Program}
+use Rattle.model.specs.Heads.{Head, head-at, gives, builds, makes, calls, sends, spawns, selfs, cases, receives, no-head, is-class, takes, innermost}
+use Rattle.model.specs.Letters.{letters, row-letter}
+use Rattle.model.specs.Tables.{Tables, some-of, State, state, state-at}
+use Rattle.model.specs.Counters.{letter-key, has-letter, counter-count}
+use Rattle.model.specs.Rules.{reads, Rule, rule, from-each, from-all, from-letters, letter-of-some, state-rules, rules}
+use Rattle.model.proofs.Logic.{and-left, and-right}
+use Rattle.model.proofs.Index.{any-intro, any-elim, gather-elim, only-elim}
+use Rattle.model.proofs.Reader.{by-option}
+use Rattle.model.proofs.Bounded.Counters.{Keys, letter-index-from, letter-index-below}
+use Rattle.model.proofs.Bounded.Fire.{Shaped}
+
+-- each element of a list has the property; what the ways to make a list hand on
+abbrev Each : {A : Type 0} → (A → Type 0) → List A → Type 0
+Each {A} P xs = (x : A) → List·Memᴰ x xs → P x
+
+each-none : {A : Type 0} (P : A → Type 0) → Each P []
+each-none P x m = absurd (List·Memᴰ·not-nil m)
+
+each-one : {A : Type 0} (P : A → Type 0) (a : A) → P a → Each P (a ∷ [])
+each-one P a h x m = subst P (sym (List·Memᴰ·eq-of-singleton m)) h
+
+each-only : {A : Type 0} (P : A → Type 0) (b : Bool) (a : A) → (b ≡ true → P a) → Each P (only b a)
+each-only P b a h x m = let (e, same) = only-elim b a x m in subst P (sym same) (h e)
+
+each-where : {A : Type 0} (P : A → Type 0) (b : Bool) (xs : List A) → Each P xs → Each P (elim b [ true ↦ xs | false ↦ [] ])
+each-where P true xs h = h
+each-where P false xs h = each-none P
+
+each-gather : {A : Type 0} (P : A → Type 0) (i e : ℕ) (f : ℕ → List A) → ((k : ℕ) → k < e → Each P (f k)) → Each P (gather i e f)
+each-gather P i e f h x m = let (k, w, n) = gather-elim i e f x m in h k (w .1) x n
+
+each-from-each : {A : Type 0} (P : A → Type 0) (c : Columns) (a : ℕ) (f : ℕ → List A) → ((v : ℕ) → Each P (f v)) → Each P (from-each c a f)
+unfolding from-each
+each-from-each P c a f h = each-gather P 0 (c .size) _ (λ k below. each-where P (eqb (left c k) a) (f (right c k)) (h (right c k)))
+
+each-from-all : {A B : Type 0} (P : A → Type 0) (bs : List B) (f : B → List A) → ((b : B) → Each P (f b)) → Each P (from-all bs f)
+unfolding from-all
+each-from-all P [] f h = each-none P
+each-from-all P (b ∷ bs) f h = λ x m. ⊎-elim (λ n. h b x n) (λ n. each-from-all P bs f h x n) (List·Memᴰ·append-cases (f b) m)
+
+each-from-letters : {A : Type 0} (P : A → Type 0) (p : Program) (passes : ℕ → Bool) (f : ℕ → A) → ((l : ℕ) → passes l ≡ true → P (f l)) → Each P (from-letters p passes f)
+unfolding from-letters
+each-from-letters P p passes f h = each-gather P 0 (letters p) _ (λ l below. each-only P (passes l) (f l) (h l))
+
+module _ (p : Program) (t : Tables) where
+  -- a value of that letter in the class's mail makes the letter one of mail
+  letter-of-mail : (c l : ℕ) (passes : ℕ → Bool) → letter-of-some p (t .mail) c passes l ≡ true → has-letter p t (letter-key p c l) ≡ true
+  unfolding letter-of-some some-of has-letter
+  letter-of-mail c l passes h =
+      let (i, w, e) = any-elim 0 (t .mail .size) _ h in
+      let class = eqb-true (left (t .mail) i) c (and-left _ _ e) in
+      let letter = eqb-true (row-letter p (right (t .mail) i)) l (and-left _ (passes (right (t .mail) i)) (and-right (eqb (left (t .mail) i) c) _ e)) in
+      any-intro 0 (t .mail .size) i _ (w .0) (w .1) (eq-eqb _ _ (ap₂ (letter-key p) class letter))
+
+  module _ (keys : Keys p t) (i : ℕ) (below : i < t .states .size) (s : State) where
+    abbrev Good : Rule → Type 0
+    Good = Shaped (counter-count p t)
+
+    below-all : i < counter-count p t
+    unfolding counter-count
+    below-all = omega arith
+
+    -- by the head at which the state stands
+    head-shaped : (h : Head) → head-at p (s .location) ≡ h → Each Good (state-rules p t i s)
+    unfolding state-rules
+    head-shaped (gives n) e =
+        by-option (innermost p (s .location)) (λ z. rw (e, state-rules) (rw z (each-none Good)))
+        (λ f z. rw (e, state-rules) (rw z (each-gather Good 0 (t .states .size) _ (λ j w. each-only Good _ _ (λ v. (below-all, tt))))))
+    head-shaped (builds n k ns r) e = rw (e, state-rules) (each-one Good _ (below-all, tt))
+    head-shaped (makes n r) e = rw (e, state-rules) (each-one Good _ (below-all, tt))
+    head-shaped (calls call) e =
+        rw (e, state-rules) (each-from-each Good (t .flow) (call .callee) _ (λ f. each-only Good _ _ (λ v. (below-all, tt))))
+    head-shaped (sends n target message r) e =
+        rw (e, state-rules)
+        (each-from-each Good (t .flow) target _
+        (λ d. each-where Good (is-class p d) _ (each-from-letters Good p _ _ (λ l v. (below-all, tt)))))
+    head-shaped (spawns n function r) e =
+        rw (e, state-rules) (each-from-each Good (t .flow) function _ (λ f. each-only Good _ _ (λ v. (below-all, tt))))
+    head-shaped (selfs n r) e = rw (e, state-rules) (each-one Good _ (below-all, tt))
+    head-shaped (cases n qs) e = rw (e, state-rules) (each-from-all Good qs _ (λ q. each-only Good _ _ (λ v. (below-all, tt))))
+    head-shaped (receives qs) e =
+        rw (e, state-rules)
+        (each-from-all Good qs _
+        (λ q. each-from-letters Good p _ _
+        (λ l v. let c : ℕ = s .class in
+        let behind = letter-index-from p t c l in
+        (below-all, (letter-index-below p t keys c l (letter-of-mail c l _ v), λ z. omega arith)))))
+    head-shaped no-head e = rw (e, state-rules) (each-none Good)
+
+  pub rules-shaped : Keys p t → (ρ : Rule) → List·Memᴰ ρ (rules p t) → Shaped (counter-count p t) ρ
+  unfolding rules
+  rules-shaped keys =
+      each-gather (Shaped (counter-count p t)) 0 (t .states .size) (λ i. state-rules p t i (state-at t i))
+      (λ i below. head-shaped keys i below (state-at t i) (head-at p (state-at t i .location)) refl)

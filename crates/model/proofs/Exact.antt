@@ -1,0 +1,15 @@
+-- Each check of refusals 1 to 8 says what the conditions of specs/Demands.antt and specs/Wanted.antt say.
+pub mod Tests
+pub mod Checks
+pub mod Answer
+pub mod Parts
+pub mod Reading
+pub mod Rows
+pub mod Names
+pub mod Entries
+pub mod Members
+pub mod MayMatch
+pub mod States
+pub mod Closed
+pub mod Refusals
+pub mod Sound

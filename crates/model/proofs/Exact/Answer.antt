@@ -1,0 +1,123 @@
+-- No refusal is the verdict safe, so a message is safe exactly where nothing is refused.
+use Prim.Native.Nat.{ℕ, _+_}
+use mathlib.Core.Path.{_≡_, refl, ap, subst}
+use mathlib.Core.Bool.{Bool, _&&_}
+use mathlib.Core.Logic.{_↔_, ⊎-elim}
+use mathlib.Core.List.{List, [], _∷_}
+use mathlib.Core.Option.{Option, some, none, Option·map, Option·some-injective, Option·none-ne-some, Option·some-ne-none, map-eq-some-iff}
+use lib.ListN.{replicate}
+use lib.Dec.{T, leb, ltb}
+use Rattle.model.specs.declared.Sizes.{Sizes}
+use Rattle.model.specs.declared.Verdict.{Verdict}
+use Rattle.model.specs.declared.Verdict.the-variants.{Safe, Length, Size, Row, Name, Scope, Bad, Entry, Open, Counters, Ceiling, Start, Met, Leak, Space}
+use Rattle.model.specs.Words.{Columns}
+use Rattle.model.specs.Verdict.{Check, _>>_, unless, number}
+use Rattle.model.specs.Message.{Limited, sizes-check, part-check, program-part, bads-part, tables-part, bounds-part, nothing-left, parts-check, bads-at, bounds-at}
+use Rattle.model.specs.Reader.{first-wrong}
+use Rattle.model.specs.Rows.{Program, step, whole, row-check}
+use Rattle.model.specs.Scopes.{name-check, scope-check}
+use Rattle.model.specs.Bads.{bad, bad-step, bad-rows, bad-check}
+use Rattle.model.specs.Tables.{list-check, entry-check}
+use Rattle.model.specs.Closed.{open-check}
+use Rattle.model.specs.Counters.{counter-check}
+use Rattle.model.specs.Listing.{space-check}
+use Rattle.model.specs.Bounds.{bound-entries, bound-step, bounds-of, bound-check, start-check, met-check, leak-check}
+use Rattle.model.specs.Verify.{Message, program-check, evidence-check, bounds-check, message-check, check, answer, verdict}
+use Rattle.model.proofs.Logic.{test}
+use Rattle.model.proofs.Exact.Checks.{then-some, unless-some}
+
+-- the check never answers safe
+abbrev pub Refuses : Check → Type 0
+Refuses c = c ≡ some Safe → ⊥
+
+then-refuses : (a b : Check) → Refuses a → Refuses b → Refuses (a >> b)
+then-refuses a b ha hb h = ⊎-elim ha (λ x. hb (x .1)) (then-some a b Safe h)
+
+-- a verdict with a number from 1 on is no safe one
+not-safe : (v : Verdict) → T (ltb 0 (number v)) → v ≡ Safe → ⊥
+unfolding number
+not-safe v h e = subst (λ n. T (ltb 0 n)) (ap number e) h
+
+unless-refuses : (b : Bool) (v : Verdict) → T (ltb 0 (number v)) → Refuses (unless b v)
+unless-refuses b v n h = not-safe v n (unless-some b v Safe h .1)
+
+map-refuses : (f : ℕ → Verdict) (o : Option ℕ) → ((r : ℕ) → T (ltb 0 (number (f r)))) → Refuses (Option·map f o)
+map-refuses f o n h = let (r, e, q) = map-eq-some-iff f o .0 h in not-safe (f r) (n r) q
+
+sizes-refuses : (at : ℕ) (ls : List Limited) → Refuses (sizes-check at ls)
+unfolding sizes-check number
+sizes-refuses at [] h = Option·none-ne-some Safe h
+sizes-refuses at (l ∷ ls) h =
+    test (leb (l .least) (l .size) && leb (l .size) (l .most)) (λ e. sizes-refuses (at + 1) ls (rw (e, sizes-check) at h))
+    (λ e. not-safe (Size at) tt (Option·some-injective (Size at) Safe (rw (e, sizes-check) at h)))
+
+part-refuses : (ws : List ℕ) (at : ℕ) (ls : List Limited) (n : ℕ) → Refuses (part-check ws at ls n)
+unfolding part-check number
+part-refuses ws at ls n =
+    then-refuses _ _ (unless-refuses _ (Length at) tt)
+    (then-refuses _ _ (sizes-refuses at ls) (unless-refuses _ (Length at) tt))
+
+parts-refuse : (bytes : List ℕ) → Refuses (parts-check bytes)
+unfolding parts-check program-part bads-part tables-part bounds-part nothing-left number
+parts-refuse bytes =
+    then-refuses _ _ (part-refuses _ _ _ _) (then-refuses _ _ (part-refuses _ _ _ _) (then-refuses _ _ (part-refuses _ _ _ _)
+    (then-refuses _ _ (part-refuses _ _ _ _) (unless-refuses _ (Length _) tt))))
+
+row-refuses : (p : Program) → Refuses (row-check p)
+unfolding row-check number
+row-refuses p = map-refuses (λ r. Row (4 + r)) (first-wrong (step p) (p .rows) (whole p)) (λ r. tt)
+
+program-refuses : (p : Program) → Refuses (program-check p)
+unfolding program-check name-check scope-check number
+program-refuses p =
+    then-refuses (row-check p) _ (row-refuses p)
+    (then-refuses _ _
+    (then-refuses _ _ (unless-refuses _ (Name _) tt) (unless-refuses _ (Name 1) tt))
+    (unless-refuses _ (Scope _) tt))
+
+bad-refuses : (ws : List ℕ) (s : Sizes) (p : Program) → Refuses (bad-check ws s p)
+unfolding bad-check number
+bad-refuses ws s p =
+    map-refuses (λ r. Bad (bads-at s + 2 + r)) (first-wrong (bad-step p) (bad-rows ws s) (replicate (s .bads) bad)) (λ r. tt)
+
+list-refuses : (at : ℕ) (l r : ℕ → Bool) (c : Columns) → Refuses (list-check at l r c)
+unfolding list-check number
+list-refuses at l r c = unless-refuses _ (Entry _) tt
+
+evidence-refuses : (m : Message) → Refuses (evidence-check m)
+unfolding evidence-check entry-check open-check counter-check number
+evidence-refuses m =
+    then-refuses _ _ (bad-refuses _ _ _)
+    (then-refuses _ _
+    (then-refuses _ _ (list-refuses _ _ _ _)
+    (then-refuses _ _ (list-refuses _ _ _ _) (list-refuses _ _ _ _)))
+    (then-refuses _ _ (then-refuses _ _ (unless-refuses _ (Open _) tt) (unless-refuses _ (Open _) tt))
+    (unless-refuses _ (Counters _) tt)))
+
+bound-refuses : (ws : List ℕ) (s : Sizes) (counters : ℕ) → Refuses (bound-check ws s counters)
+unfolding bound-check number
+bound-refuses ws s counters =
+    map-refuses (λ e. Ceiling (bounds-at s + 2 + e)) (first-wrong (bound-step counters) (bound-entries ws s) (bounds-of (s .bounds))) (λ r. tt)
+
+bounds-refuse : (m : Message) → Refuses (bounds-check m)
+unfolding bounds-check start-check met-check leak-check number
+bounds-refuse m =
+    then-refuses _ _ (bound-refuses _ _ _)
+    (then-refuses _ _ (unless-refuses _ (Start _) tt)
+    (then-refuses _ _ (unless-refuses _ (Met _) tt) (unless-refuses _ (Leak _) tt)))
+
+pub check-refuses : (bytes : List ℕ) (lent : ℕ) → Refuses (check bytes lent)
+unfolding check message-check space-check number
+check-refuses bytes lent =
+    then-refuses _ _ (parts-refuse bytes)
+    (then-refuses _ _ (program-refuses _)
+    (then-refuses _ _ (evidence-refuses _) (then-refuses _ _ (bounds-refuse _) (unless-refuses _ (Space _) tt))))
+
+pub answer-safe : (c : Check) → Refuses c → (answer c ≡ Safe) ↔ (c ≡ none)
+unfolding answer
+answer-safe none r = (λ h. refl, λ h. refl)
+answer-safe (some v) r = (λ h. absurd (r (ap some h)), λ h. absurd (Option·some-ne-none v h))
+
+pub verdict-safe : (bytes : List ℕ) (lent : ℕ) → (verdict bytes lent ≡ Safe) ↔ (check bytes lent ≡ none)
+unfolding verdict
+verdict-safe bytes lent = answer-safe (check bytes lent) (check-refuses bytes lent)

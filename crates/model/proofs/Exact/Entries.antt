@@ -1,0 +1,93 @@
+-- Refusals 6, 7 and 10: nothing is refused exactly where the bads, the tables and the bounds are in form.
+use Prim.Native.Nat.{ℕ, zero, suc, _+_, _-_, _<_}
+use native.Mathlib.Decide.{ℕ-discrete}
+use native.Mathlib.Omega.{arith}
+use mathlib.Core.Path.{_≡_, sym, subst}
+use mathlib.Core.Bool.{Bool, true, false, not, _&&_}
+use mathlib.Core.Logic.{_↔_, Iff·trans, Iff·rfl, _⊎_, inl, inr, ⊎-elim}
+use mathlib.Core.List.{List}
+use mathlib.Core.Option.{none, map-eq-none-iff}
+use lib.ListN.{replicate}
+use lib.Dec.{ltb, eqb}
+use Rattle.model.specs.declared.Sizes.{Sizes}
+use Rattle.model.specs.declared.Verdict.the-variants.{Bad, Entry, Ceiling}
+use Rattle.model.specs.Words.{Columns, left, right}
+use Rattle.model.specs.Message.{bads-at, bounds-at}
+use Rattle.model.specs.Reader.{first-wrong}
+use Rattle.model.specs.Rows.{Program, tag, is-head, is-name}
+use Rattle.model.specs.Heads.{is-class}
+use Rattle.model.specs.Bads.{bad, bad-step, bad-rows, bad-check}
+use Rattle.model.specs.Tables.{Tables, is-value, ascends, first-misplaced, list-check, entry-check}
+use Rattle.model.specs.Bounds.{bound-entries, bound-step, bounds-of, bound-check}
+use Rattle.model.specs.Demands.{Pair-below, Listed}
+use Rattle.model.proofs.Exact.Tests.{ltb-iff, eqb-iff, not-iff, and-iff, or-iff}
+use Rattle.model.proofs.Exact.Checks.{then-iff, first-none}
+
+below-trans : (a b a′ b′ a″ b″ : ℕ) → Pair-below a b a′ b′ → Pair-below a′ b′ a″ b″ → Pair-below a b a″ b″
+below-trans a b a′ b′ a″ b″ (inl x) (inl y) = inl (omega arith)
+below-trans a b a′ b′ a″ b″ (inl x) (inr y) = inl (omega arith)
+below-trans a b a′ b′ a″ b″ (inr x) (inl y) = inl (omega arith)
+below-trans a b a′ b′ a″ b″ (inr x) (inr y) = inr (omega arith)
+
+module _ (c : Columns) where
+  -- entry i is below entry j
+  abbrev Below : ℕ → ℕ → Type 0
+  Below i j = Pair-below (left c i) (right c i) (left c j) (right c j)
+
+  ascends-iff : (i : ℕ) → (ascends c i ≡ true) ↔ ((i ≡ 0) ⊎ Below (i - 1) i)
+  unfolding ascends
+  ascends-iff i =
+      or-iff (eqb i 0) _ (eqb-iff i 0)
+      (or-iff (ltb (left c (i - 1)) (left c i)) _ (ltb-iff (left c (i - 1)) (left c i))
+      (and-iff (eqb (left c (i - 1)) (left c i)) (ltb (right c (i - 1)) (right c i)) (eqb-iff (left c (i - 1)) (left c i)) (ltb-iff (right c (i - 1)) (right c i))))
+
+  -- each above the one before, so each above all before
+  all-below : ((i : ℕ) → i < c .size → (i ≡ 0) ⊎ Below (i - 1) i) → (j i : ℕ) → i < j → j < c .size → Below i j
+  all-below h zero i a b = absurd (omega arith)
+  all-below h (suc j) i a b =
+      ⊎-elim (λ z. absurd (omega arith))
+      (λ z. let d : suc j - 1 ≡ j = omega arith in
+      let s : Below j (suc j) = subst (λ k. Below k (suc j)) d z in
+      elim (ℕ-discrete i j) [
+        | yes e ↦ subst (λ k. Below k (suc j)) (sym e) s
+        | no e ↦ below-trans (left c i) (right c i) (left c j) (right c j) (left c (suc j)) (right c (suc j)) (all-below h j i (omega arith) (omega arith)) s
+      ])
+      (h (suc j) b)
+
+  module _ (legal-left legal-right : ℕ → Bool) where
+    -- entry i is in its range, and above the one before
+    abbrev pub Placed : ℕ → Type 0
+    Placed i = ((legal-left (left c i) ≡ true) × (legal-right (right c i) ≡ true)) × ((i ≡ 0) ⊎ Below (i - 1) i)
+
+    pub placed-iff : (i : ℕ) → (not (legal-left (left c i) && legal-right (right c i) && ascends c i) ≡ false) ↔ Placed i
+    placed-iff i =
+        Iff·trans (not-iff (legal-left (left c i) && legal-right (right c i) && ascends c i))
+        (and-iff (legal-left (left c i) && legal-right (right c i)) (ascends c i)
+        (and-iff (legal-left (left c i)) (legal-right (right c i)) Iff·rfl Iff·rfl) (ascends-iff i))
+
+    pub list-none : (at : ℕ) → (list-check at legal-left legal-right c ≡ none) ↔ Listed legal-left legal-right c
+    unfolding list-check first-misplaced
+    list-none at =
+        Iff·trans (first-none (c .size) _ (λ i b. placed-iff i) (λ i. Entry (at + i))) (
+          λ h. record {
+            left-legal = λ i b. h i b .0 .0;
+            right-legal = λ i b. h i b .0 .1;
+            ascending = λ i j. all-below (λ k b. h k b .1) j i;
+          },
+          λ l i b. ((l .left-legal i b, l .right-legal i b), elim (ℕ-discrete i 0) [ yes e ↦ inl e | no e ↦ inr (l .ascending (i - 1) i (omega arith) b) ]),
+        )
+
+pub entry-none : (s : Sizes) (p : Program) (t : Tables) → (entry-check s p t ≡ none) ↔ (Listed (is-name p) (is-value p) (t .flow) × (Listed (is-class p) (is-value p) (t .mail) × Listed (is-class p) (λ r. is-head (tag p r)) (t .states)))
+unfolding entry-check
+entry-none s p t =
+    then-iff _ _ (list-none (t .flow) (is-name p) (is-value p) _)
+    (then-iff _ _ (list-none (t .mail) (is-class p) (is-value p) _) (list-none (t .states) (is-class p) (λ r. is-head (tag p r)) _))
+
+pub bad-none : (ws : List ℕ) (s : Sizes) (p : Program) → (bad-check ws s p ≡ none) ↔ (first-wrong (bad-step p) (bad-rows ws s) (replicate (s .bads) bad) ≡ none)
+unfolding bad-check
+bad-none ws s p = map-eq-none-iff (λ r. Bad (bads-at s + 2 + r)) (first-wrong (bad-step p) (bad-rows ws s) (replicate (s .bads) bad))
+
+pub bound-none : (ws : List ℕ) (s : Sizes) (counters : ℕ) → (bound-check ws s counters ≡ none) ↔ (first-wrong (bound-step counters) (bound-entries ws s) (bounds-of (s .bounds)) ≡ none)
+unfolding bound-check
+bound-none ws s counters =
+    map-eq-none-iff (λ e. Ceiling (bounds-at s + 2 + e)) (first-wrong (bound-step counters) (bound-entries ws s) (bounds-of (s .bounds)))

@@ -1,0 +1,92 @@
+-- Reading by a grammar, said as a relation: which items are still to come after so many rows, and which row is the first wrong one.
+use Prim.Native.Nat.{ℕ, zero, suc, _+_, _-_, _≤_, _<_}
+use native.Mathlib.Decide.{ℕ-discrete}
+use native.Mathlib.Omega.{arith}
+use mathlib.Core.Path.{_≡_, sym, _∙_, ap, subst}
+use mathlib.Core.Logic.{_↔_, _⊎_, inl, inr, ⊎-elim}
+use mathlib.Core.List.{List, [], _∷_, _++_}
+use mathlib.Core.Option.{some, none, Option·some-injective, Option·none-ne-some}
+use lib.Dec.{eqb}
+use borrow.Author.Tests.{eqb-false}
+use Rattle.model.specs.Words.{Columns, left, right}
+use Rattle.model.specs.Reader.{Read, past, wrong, Grammar, read, complete, first-wrong}
+use Rattle.model.proofs.Logic.{test}
+use Rattle.model.proofs.Reader.{past-wrong, past-row, wrong-row, by-option, read-none, read-end, read-stop, read-go, read-range, first-wrong-none, none-first-wrong}
+
+-- the items still to come before row r, where each row was taken by the item on top
+pub data Ahead {Item : Type 0} (step : Grammar Item) (rows : Columns) (whole : List Item) : ℕ → List Item → Type 0 where
+  at-first : Ahead step rows whole 0 whole
+  after-row : (r : ℕ) (item : Item) (items more : List Item) → Ahead step rows whole r (item ∷ items) → step item (left rows r) (right rows r) ≡ some more → Ahead step rows whole (r + 1) (more ++ items)
+
+-- the first wrong row: one that the item on top refuses, one behind the last item, or the end of rows that end early
+pub data Wrong {Item : Type 0} (step : Grammar Item) (rows : Columns) (whole : List Item) : ℕ → Type 0 where
+  unfit : (r : ℕ) (item : Item) (items : List Item) → Ahead step rows whole r (item ∷ items) → r < rows .size → step item (left rows r) (right rows r) ≡ none → Wrong step rows whole r
+  behind : (r : ℕ) → Ahead step rows whole r [] → r < rows .size → Wrong step rows whole r
+  early : (item : Item) (items : List Item) → Ahead step rows whole (rows .size) (item ∷ items) → Wrong step rows whole (rows .size)
+
+-- row k is taken by an item
+pub record Taken {Item : Type 0} (step : Grammar Item) (rows : Columns) (k : ℕ) : Type 0 where
+  pub item : Item
+  pub more : List Item
+  pub said : step item (left rows k) (right rows k) ≡ some more
+
+complete-some : (size r : ℕ) (x : Read) → complete size x ≡ some r → (x ≡ wrong r) ⊎ ((x ≡ past r) × (r ≡ size → ⊥))
+unfolding complete
+complete-some size r (past q) h =
+    test (eqb q size) (λ e. absurd (Option·none-ne-some r (rw (e, complete) at h)))
+    (λ e. let z : q ≡ r = Option·some-injective q r (rw (e, complete) at h) in
+    inr (ap past z, λ w. eqb-false q size e (z ∙ w)))
+complete-some size r (wrong q) h = inl (ap wrong (Option·some-injective q r h))
+
+module _ {Item : Type 0} (step : Grammar Item) (rows : Columns) (whole : List Item) where
+  -- where the items end, nothing is ahead
+  ahead-past : (n r q : ℕ) (items : List Item) → Ahead step rows whole r items → read step rows n items r ≡ past q → Ahead step rows whole q []
+  ahead-past zero r q [] a h = subst (λ k. Ahead step rows whole k []) (past-row r q (sym (read-none step rows zero r) ∙ h)) a
+  ahead-past zero r q (item ∷ items) a h = past-wrong q r (sym h ∙ read-end step rows item items r)
+  ahead-past (suc n) r q [] a h = subst (λ k. Ahead step rows whole k []) (past-row r q (sym (read-none step rows (suc n) r) ∙ h)) a
+  ahead-past (suc n) r q (item ∷ items) a h =
+      by-option (step item (left rows r) (right rows r)) (λ e. past-wrong q r (sym h ∙ read-stop step rows n r item items e))
+      (λ more e. ahead-past n (r + 1) q (more ++ items) (after-row r item items more a e) (sym (read-go step rows n r item items more e) ∙ h))
+
+  ahead-wrong : (n r q : ℕ) (items : List Item) → r + n ≡ rows .size → Ahead step rows whole r items → read step rows n items r ≡ wrong q → Wrong step rows whole q
+  ahead-wrong zero r q [] s a h = past-wrong r q (sym (read-none step rows zero r) ∙ h)
+  ahead-wrong zero r q (item ∷ items) s a h =
+      let z : r ≡ rows .size = omega arith in
+      let w = wrong-row r q (sym (read-end step rows item items r) ∙ h) in
+      subst (Wrong step rows whole) (sym z ∙ w) (early item items (subst (λ k. Ahead step rows whole k (item ∷ items)) z a))
+  ahead-wrong (suc n) r q [] s a h = past-wrong r q (sym (read-none step rows (suc n) r) ∙ h)
+  ahead-wrong (suc n) r q (item ∷ items) s a h =
+      by-option (step item (left rows r) (right rows r))
+      (λ e. subst (Wrong step rows whole) (wrong-row r q (sym (read-stop step rows n r item items e) ∙ h)) (unfit r item items a (omega arith) e))
+      (λ more e. ahead-wrong n (r + 1) q (more ++ items) (omega arith) (after-row r item items more a e) (sym (read-go step rows n r item items more e) ∙ h))
+
+  pub first-wrong-some : (r : ℕ) → first-wrong step rows whole ≡ some r → Wrong step rows whole r
+  unfolding first-wrong
+  first-wrong-some r h =
+      ⊎-elim (λ e. ahead-wrong (rows .size) 0 r whole (omega arith) at-first e)
+      (λ x. let (e, ne) = x in
+      let (a, b) = read-range step rows (rows .size) 0 r whole e in
+      behind r (ahead-past (rows .size) 0 r whole at-first e) (omega arith))
+      (complete-some (rows .size) r (read step rows (rows .size) whole 0) h)
+
+  -- what is ahead is what is left to read
+  ahead-read : (r : ℕ) (items : List Item) → Ahead step rows whole r items → r ≤ rows .size → read step rows (rows .size) whole 0 ≡ read step rows (rows .size - r) items r
+  ahead-read r items at-first b = let z : rows .size - 0 ≡ rows .size = omega arith in rw z
+  ahead-read r′ items′ (after-row r item items more a e) b =
+      let z : rows .size - r ≡ suc (rows .size - (r + 1)) = omega arith in
+      ahead-read r (item ∷ items) a (omega arith) ∙ (ap (λ n. read step rows n (item ∷ items) r) z ∙ read-go step rows (rows .size - (r + 1)) r item items more e)
+
+  -- no row is wrong exactly where all are taken, and nothing is ahead then
+  pub first-wrong-iff : (first-wrong step rows whole ≡ none) ↔ Ahead step rows whole (rows .size) []
+  first-wrong-iff = (
+    λ h. ahead-past (rows .size) 0 (rows .size) whole at-first (first-wrong-none step rows whole h),
+    λ a. none-first-wrong step rows whole (ahead-read (rows .size) [] a (omega arith) ∙ read-none step rows (rows .size - rows .size) (rows .size)),
+  )
+
+  -- each row before is taken
+  pub ahead-taken : (r : ℕ) (items : List Item) (k : ℕ) → Ahead step rows whole r items → k < r → Taken step rows k
+  ahead-taken r items k at-first b = absurd (omega arith)
+  ahead-taken r′ items′ k (after-row r item items more a e) b = elim (ℕ-discrete k r) [
+    | yes z ↦ record { item = item; more = more; said = ap (λ i. step item (left rows i) (right rows i)) z ∙ e }
+    | no z ↦ ahead-taken r (item ∷ items) k a (omega arith)
+  ]

@@ -1,0 +1,91 @@
+-- What stands at a head, by its kind (specs/Heads.antt), and the tag of each kind.
+use Prim.Native.Nat.{ℕ, zero, suc, _+_}
+use mathlib.Core.Path.{_≡_, refl, subst}
+use Rattle.model.specs.Rows.{Program, tag, num, arity, kind}
+use Rattle.model.specs.Rows.{Kind, give, build, function, call, send, spawn, self, case, receive, other}
+use Rattle.model.specs.Scopes.{rest}
+use Rattle.model.specs.Heads.{nums, call-at, branch-rows, Head, head-at, gives, builds, makes, calls, sends, spawns, selfs, cases, receives, no-head}
+
+-- by the kind, with its equation
+pub by-kind {ℓ} : {A : Type ℓ} (k : Kind) → (k ≡ give → A) → (k ≡ build → A) → (k ≡ function → A) → (k ≡ call → A) → (k ≡ send → A) → (k ≡ spawn → A) → (k ≡ self → A) → (k ≡ case → A) → (k ≡ receive → A) → (k ≡ other → A) → A
+by-kind give a b c d e f g h i j = a refl
+by-kind build a b c d e f g h i j = b refl
+by-kind function a b c d e f g h i j = c refl
+by-kind call a b c d e f g h i j = d refl
+by-kind send a b c d e f g h i j = e refl
+by-kind spawn a b c d e f g h i j = f refl
+by-kind self a b c d e f g h i j = g refl
+by-kind case a b c d e f g h i j = h refl
+by-kind receive a b c d e f g h i j = i refl
+by-kind other a b c d e f g h i j = j refl
+
+-- what the kind says of the tag
+abbrev pub Tagged : ℕ → Kind → Type 0
+Tagged t give = t ≡ 1
+Tagged t build = t ≡ 2
+Tagged t function = t ≡ 3
+Tagged t call = t ≡ 4
+Tagged t send = t ≡ 5
+Tagged t spawn = t ≡ 6
+Tagged t self = t ≡ 7
+Tagged t case = t ≡ 8
+Tagged t receive = t ≡ 9
+Tagged t other = Unit {0}
+
+tagged : (t : ℕ) → Tagged t (kind t)
+unfolding kind
+tagged zero = tt
+tagged (suc zero) = refl
+tagged (suc (suc zero)) = refl
+tagged (suc (suc (suc zero))) = refl
+tagged (suc (suc (suc (suc zero)))) = refl
+tagged (suc (suc (suc (suc (suc zero))))) = refl
+tagged (suc (suc (suc (suc (suc (suc zero)))))) = refl
+tagged (suc (suc (suc (suc (suc (suc (suc zero))))))) = refl
+tagged (suc (suc (suc (suc (suc (suc (suc (suc zero)))))))) = refl
+tagged (suc (suc (suc (suc (suc (suc (suc (suc (suc zero))))))))) = refl
+tagged (suc (suc (suc (suc (suc (suc (suc (suc (suc (suc t)))))))))) = tt
+
+pub tag-is : (t : ℕ) (k : Kind) → kind t ≡ k → Tagged t k
+tag-is t k e = subst (Tagged t) e (tagged t)
+
+module _ (p : Program) (r : ℕ) where
+  pub head-give : kind (tag p r) ≡ give → head-at p r ≡ gives (num p r)
+  unfolding head-at
+  head-give e = rw (e, head-at)
+
+  pub head-build : kind (tag p r) ≡ build → head-at p r ≡ builds (num p r) (num p (r + 1)) (nums p (r + 2) (arity p (num p (r + 1)))) (rest p r)
+  unfolding head-at
+  head-build e = rw (e, head-at)
+
+  pub head-function : kind (tag p r) ≡ function → head-at p r ≡ makes (num p r) (rest p r)
+  unfolding head-at
+  head-function e = rw (e, head-at)
+
+  pub head-call : kind (tag p r) ≡ call → head-at p r ≡ calls (call-at p r)
+  unfolding head-at
+  head-call e = rw (e, head-at)
+
+  pub head-send : kind (tag p r) ≡ send → head-at p r ≡ sends (num p r) (num p (r + 1)) (num p (r + 2)) (rest p r)
+  unfolding head-at
+  head-send e = rw (e, head-at)
+
+  pub head-spawn : kind (tag p r) ≡ spawn → head-at p r ≡ spawns (num p r) (num p (r + 1)) (rest p r)
+  unfolding head-at
+  head-spawn e = rw (e, head-at)
+
+  pub head-self : kind (tag p r) ≡ self → head-at p r ≡ selfs (num p r) (rest p r)
+  unfolding head-at
+  head-self e = rw (e, head-at)
+
+  pub head-case : kind (tag p r) ≡ case → head-at p r ≡ cases (num p r) (branch-rows p (num p (r + 1)) (r + 2))
+  unfolding head-at
+  head-case e = rw (e, head-at)
+
+  pub head-receive : kind (tag p r) ≡ receive → head-at p r ≡ receives (branch-rows p (num p r) (r + 1))
+  unfolding head-at
+  head-receive e = rw (e, head-at)
+
+  pub head-other : kind (tag p r) ≡ other → head-at p r ≡ no-head
+  unfolding head-at
+  head-other e = rw (e, head-at)

@@ -1,0 +1,4 @@
+-- Counters are numbered without gaps or collisions.
+pub mod States
+pub mod Letters
+pub mod Counters

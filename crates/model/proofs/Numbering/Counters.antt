@@ -1,0 +1,157 @@
+-- Counters are numbered without gaps or collisions (`counter-of` of specs/Counters.antt).
+use Prim.Native.Nat.{ℕ, _+_, _-_, _≤_, _<_}
+use native.Mathlib.Decide.{decLt}
+use native.Mathlib.Omega.{arith}
+use mathlib.Core.Path.{_≡_, refl, sym, _∙_, ap}
+use mathlib.Core.Bool.{Bool, true, _&&_}
+use mathlib.Core.Logic.{⊎-elim}
+use mathlib.Core.List.{List}
+use mathlib.Core.Option.{some, Option·none-ne-some}
+use lib.ListN.{length-take, take, drop, List·getD-eq-default}
+use lib.Dec.{ltb, eqb}
+use borrow.Author.Tests.{ltb-true, lt-ltb, eqb-true}
+use Rattle.model.specs.declared.Sizes.{Sizes}
+use Rattle.model.specs.Words.{left, right, columns}
+use Rattle.model.specs.Rows.{Program, program, size, tag, num}
+use Rattle.model.specs.Heads.{is-function, is-class}
+use Rattle.model.specs.Letters.{letters, letter, row-shape, row-letter}
+use Rattle.model.specs.Tables.{Tables, is-value, state, state-at, state-index, has-state}
+use Rattle.model.specs.Bads.{Counted, state-of, letter-of}
+use Rattle.model.specs.Counters.{letter-key, letter-keys, has-letter, letter-count, counter-count, letter-index, counter-of}
+use Rattle.model.specs.Demands.{Listed}
+use Rattle.model.proofs.Logic.{test, and-left, and-right, or-cases}
+use Rattle.model.proofs.Numbering.States.{Ascending, member-has, index-below, state-index-injective, index-state-at}
+use Rattle.model.proofs.Numbering.Letters.{count-before, count-reached, key-room, letter-entry, member-letter, letter-index-injective, letter-index-behind}
+
+-- what number of counter belongs to what is counted, read both ways
+module _ (p : Program) (t : Tables) where
+  pub state-counter : (c r : ℕ) → has-state t (state c r) ≡ true → counter-of p t (state-of c r) ≡ some (state-index t (state c r))
+  unfolding counter-of
+  state-counter c r h = rw (h, counter-of)
+
+  pub letter-counter : (c l : ℕ) → l < letters p → has-letter p t (letter-key p c l) ≡ true → counter-of p t (letter-of c l) ≡ some (letter-index p t c l)
+  unfolding counter-of
+  letter-counter c l b h = rw (lt-ltb l (letters p) b, h, counter-of)
+
+  pub state-numbered : (c r x : ℕ) → counter-of p t (state-of c r) ≡ some x → (has-state t (state c r) ≡ true) × (state-index t (state c r) ≡ x)
+  unfolding counter-of
+  state-numbered c r x h =
+      test (has-state t (state c r))
+      (λ e. (e, cc (state-counter c r e)))
+      (λ e. absurd (Option·none-ne-some x (rw (e, counter-of) at h)))
+
+  pub letter-numbered : (c l x : ℕ) → counter-of p t (letter-of c l) ≡ some x → (l < letters p) × (has-letter p t (letter-key p c l) ≡ true) × (letter-index p t c l ≡ x)
+  unfolding counter-of
+  letter-numbered c l x h =
+      test (ltb l (letters p) && has-letter p t (letter-key p c l))
+      (λ e.
+      let b = ltb-true l (letters p) (and-left (ltb l (letters p)) (has-letter p t (letter-key p c l)) e) in
+      let k = and-right (ltb l (letters p)) (has-letter p t (letter-key p c l)) e in
+      (b, k, cc (letter-counter c l b k)))
+      (λ e. absurd (Option·none-ne-some x (rw (e, counter-of) at h)))
+
+  -- states and letters have no counter in common
+  apart : (c r c′ l x : ℕ) → counter-of p t (state-of c r) ≡ some x → counter-of p t (letter-of c′ l) ≡ some x → ⊥
+  apart c r c′ l x h h′ =
+      let (a, b) = state-numbered c r x h in
+      let (u, v, w) = letter-numbered c′ l x h′ in
+      omega (arith, index-below t (state c r) a, letter-index-behind p t c′ l)
+
+  -- no two things that are counted share a counter
+  pub counter-injective : (k k′ : Counted) (x : ℕ) → counter-of p t k ≡ some x → counter-of p t k′ ≡ some x → k ≡ k′
+  counter-injective (state-of c r) (state-of c′ r′) x h h′ =
+      let (a, b) = state-numbered c r x h in
+      let (a′, b′) = state-numbered c′ r′ x h′ in
+      ap (λ s. state-of (s .class) (s .location)) (state-index-injective t (state c r) (state c′ r′) a a′ (b ∙ sym b′))
+  counter-injective (state-of c r) (letter-of c′ l′) x h h′ = absurd (apart c r c′ l′ x h h′)
+  counter-injective (letter-of c l) (state-of c′ r′) x h h′ = absurd (apart c′ r′ c l x h′ h)
+  counter-injective (letter-of c l) (letter-of c′ l′) x h h′ =
+      let (u, v, w) = letter-numbered c l x h in
+      let (u′, v′, w′) = letter-numbered c′ l′ x h′ in
+      let (a, b) = letter-index-injective p t c l c′ l′ u u′ v v′ (w ∙ sym w′) in
+      cc
+
+-- What leaves no gap: the states ascend, and the classes and letters of mail are low enough for `letter-keys`
+pub record Numbered (p : Program) (t : Tables) : Type 0 where
+  pub ascending : Ascending (t .states)
+  pub class-low : (i : ℕ) → i < t .mail .size → left (t .mail) i ≤ size p
+  pub letter-low : (i : ℕ) → i < t .mail .size → row-letter p (right (t .mail) i) < letters p
+
+-- every value of the tables has one of the letters, where built ones have a constructor
+pub row-letter-low : (p : Program) → ((v : ℕ) → tag p v ≡ 2 → num p (v + 1) < p .constructors) → (v : ℕ) → row-letter p v < letters p
+unfolding row-letter row-shape letter letters
+row-letter-low p built v =
+    test (eqb (tag p v) 2)
+    (λ e. rw (e, row-shape) (omega (arith, built v (eqb-true (tag p v) 2 e))))
+    (λ e. test (is-function p v)
+    (λ f. rw (e, f, row-shape) (omega arith))
+    (λ f. rw (e, f, row-shape) (omega arith)))
+
+pub class-at-most : (p : Program) → ((r : ℕ) → tag p r ≡ 6 → r < size p) → (c : ℕ) → is-class p c ≡ true → c ≤ size p
+unfolding is-class
+class-at-most p inside c h =
+    ⊎-elim (λ (e : eqb (tag p c) 6 ≡ true). omega (arith, inside c (eqb-true (tag p c) 6 e)))
+    (λ (e : eqb c (size p) ≡ true). omega (arith, eqb-true c (size p) e))
+    (or-cases (eqb (tag p c) 6) (eqb c (size p)) h)
+
+-- a row with a tag above 0 is one of the program's rows
+pub tag-inside : (ws : List ℕ) (s : Sizes) (r : ℕ) → 1 ≤ tag (program ws s) r → r < size (program ws s)
+unfolding program tag left columns
+tag-inside ws s r h = elim (decLt r (s .rows)) [
+  | yes a ↦ a
+  | no a ↦
+      let z = List·getD-eq-default (take (s .rows) (drop 4 ws)) 0 {n = r} (simp length-take (omega arith)) in absurd (omega arith)
+]
+
+-- tables in form are numbered
+pub numbered : (p : Program) (t : Tables) (head : ℕ → Bool) → ((r : ℕ) → tag p r ≡ 6 → r < size p) → ((v : ℕ) → tag p v ≡ 2 → num p (v + 1) < p .constructors) → Listed (is-class p) (is-value p) (t .mail) → Listed (is-class p) head (t .states) → Numbered p t
+numbered p t head inside built mail states =
+    record {
+      ascending = states .ascending;
+      class-low = λ i h. class-at-most p inside (left (t .mail) i) (mail .left-legal i h);
+      letter-low = λ i h. row-letter-low p built (right (t .mail) i);
+    }
+
+module _ (p : Program) (t : Tables) (n : Numbered p t) where
+  -- the keys of mail are counted
+  key-below : (k : ℕ) → has-letter p t k ≡ true → k < letter-keys p
+  unfolding letter-keys letter-key
+  key-below k h =
+      let (i, b, e) = letter-entry p t k h in
+      omega (arith, n .letter-low i b, key-room (letters p) (left (t .mail) i) (size p + 1) (omega (arith, n .class-low i b)))
+
+  pub counter-below : (k : Counted) (x : ℕ) → counter-of p t k ≡ some x → x < counter-count p t
+  unfolding counter-count letter-count letter-index
+  counter-below (state-of c r) x h =
+      let (a, b) = state-numbered p t c r x h in
+      omega (arith, index-below t (state c r) a)
+  counter-below (letter-of c l) x h =
+      let (u, v, w) = letter-numbered p t c l x h in
+      omega (arith, count-before (letter-key p c l) (letter-keys p) (has-letter p t) (key-below (letter-key p c l) v) v)
+
+  -- a counter behind the states belongs to an entry of mail
+  pub letter-reached : (x : ℕ) → t .states .size ≤ x → x < counter-count p t → (i : ℕ) × (i < t .mail .size) × (letter-index p t (left (t .mail) i) (row-letter p (right (t .mail) i)) ≡ x)
+  unfolding counter-count letter-count letter-index
+  letter-reached x lo hi =
+      let (k, a, b, e) = count-reached (letter-keys p) (x - t .states .size) (has-letter p t) (omega arith) in
+      let (i, c, f) = letter-entry p t k b in
+      (i, c, rw f (omega arith))
+
+  -- each counter belongs to something that is counted: the state with that number, or an entry of mail
+  pub counter-reached : (x : ℕ) → x < counter-count p t → (k : Counted) × (counter-of p t k ≡ some x)
+  unfolding state-at
+  counter-reached x h = elim (decLt x (t .states .size)) [
+    | yes a ↦ (
+      state-of (left (t .states) x) (right (t .states) x),
+      state-counter p t (left (t .states) x) (right (t .states) x)
+          (member-has t (left (t .states) x) (right (t .states) x) (record { at = x; below = a; first = refl; second = refl })) ∙
+          ap some (index-state-at t x (n .ascending) a),
+    )
+    | no a ↦
+        let (i, b, e) = letter-reached x (omega arith) h in (
+          letter-of (left (t .mail) i) (row-letter p (right (t .mail) i)),
+          letter-counter p t (left (t .mail) i) (row-letter p (right (t .mail) i)) (n .letter-low i b)
+              (member-letter p t (left (t .mail) i) (right (t .mail) i) (record { at = i; below = b; first = refl; second = refl })) ∙
+              ap some e,
+        )
+  ]
