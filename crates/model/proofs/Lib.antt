@@ -14,3 +14,4 @@ pub mod Counting
 pub mod Follow
 pub mod Acts
 pub mod RuleAt
+pub mod Demands
