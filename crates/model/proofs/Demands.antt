@@ -1,18 +1,28 @@
 -- The three demands of specs/Demands.antt, proved.
-use Prim.Native.Nat.{ℕ}
-use mathlib.Core.Path.{_≡_, refl, sym, _∙_, ap}
+use Prim.Native.Nat.{ℕ, _+_, _*_, _≤_}
+use native.Mathlib.Omega.{arith}
+use mathlib.Core.Path.{_≡_, refl, sym, _∙_, ap, subst}
 use mathlib.Core.Logic.{_↔_, Iff·trans}
 use mathlib.Core.List.{List, []}
 use mathlib.Core.Option.{none}
-use lib.ListN.{length, take}
+use lib.ListN.{length, take, drop, length-take, length-drop}
 use Rattle.model.specs.declared.Verdict.{Verdict}
 use Rattle.model.specs.declared.Verdict.the-variants.{Safe, Length, Size, Row, Name, Scope, Bad, Entry, Open, Counters, Ceiling, Start, Met, Leak, Space}
+use Rattle.model.specs.Message.{sizes, bounds-at, end-at}
+use Rattle.model.specs.Words.{words, columns}
+use Rattle.model.specs.Rows.{size, tag, program}
+use Rattle.model.specs.Listing.{listed-rules}
 use Rattle.model.specs.Verify.{message, verdict, if-safe, lent-after, part-handed}
-use Rattle.model.specs.Demands.{Bytes, Refusal-changes-nothing, Inductive, Safe-exactly, System-written, Runs-stay-counted}
+use Rattle.model.specs.Demands.{Bytes, All-runs-followed, Refusal-changes-nothing, Inductive, Safe-exactly, System-written, Runs-stay-counted}
+use Rattle.model.proofs.Exact.Parts.{words-length}
 use Rattle.model.proofs.Exact.Checks.{then-iff}
 use Rattle.model.proofs.Exact.Sound.{Formed, tests-of-bounds, Bounds-exactly}
 use Rattle.model.proofs.Exact.Sound
+use Rattle.model.proofs.Parse.Lengths.{Columns-whole}
+use Rattle.model.proofs.Listed.{listed-system}
+use Rattle.model.proofs.Runs.{all-runs-followed}
 use Rattle.model.proofs.Bounded.Leak.{start-check-exact}
+use Rattle.model.proofs.Bounded.Keys.{letter-below, program-end}
 use Rattle.model.proofs.Bounded.Exact.{message-keys, met-exact, leak-exact}
 
 -- what an answer other than safe gives
@@ -62,3 +72,30 @@ safe-exactly = Sound.safe-exactly bounds-exactly
 pub system-written : System-written
 unfolding lent-after if-safe
 system-written bytes lent safe = rw safe
+
+-- the rows of a message that is whole are as many as its sizes say
+column-whole : (ws : List ℕ) (n at : ℕ) → at + n ≤ length ws → length (take n (drop at ws)) ≡ n
+column-whole ws n at h = omega (arith, length-take n (drop at ws), length-drop at ws)
+
+rows-whole : (bytes : List ℕ) → length bytes ≡ 2 * end-at (message bytes .sizes) → Columns-whole (message bytes .program)
+unfolding message program columns end-at bounds-at
+rows-whole bytes h =
+    let (a, b) = words-length bytes in
+    let n : ℕ = sizes (words bytes) .rows in
+    record { tags = column-whole (words bytes) n 4 (omega arith); numbers = column-whole (words bytes) n (4 + n) (omega arith) }
+
+-- no row past the end has a tag
+past-the-end : (bytes : List ℕ) (r : ℕ) → size (message bytes .program) ≤ r → tag (message bytes .program) r ≡ 0
+unfolding message
+past-the-end bytes r h = program-end (words bytes) (sizes (words bytes)) r h
+
+-- Demand 3
+pub runs-stay-counted : Runs-stay-counted
+runs-stay-counted bytes lent short safe =
+    let m = message bytes in
+    let sound = safe-exactly bytes (length lent) short .0 safe in
+    let w = rows-whole bytes (sound .whole) in
+    subst (All-runs-followed m)
+    (sym (ap listed-rules (system-written bytes lent safe) ∙ listed-system (m .program) (m .tables) lent))
+    (all-runs-followed m (sound .program .rows-fit) w (past-the-end bytes (size (m .program)) (omega arith))
+    (letter-below (m .program) (past-the-end bytes) (sound .program .rows-fit)) (sound .closed) (sound .bounded))

@@ -12,6 +12,12 @@ pub mod Grow
 pub mod Lookups
 pub mod Counting
 pub mod Follow
+pub mod Parse
+pub mod Matched
 pub mod Acts
 pub mod RuleAt
+pub mod Invariant
+pub mod Steps
+pub mod Stepped
+pub mod Runs
 pub mod Demands

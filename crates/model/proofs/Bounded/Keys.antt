@@ -96,7 +96,7 @@ module _ (p : Program) (end : (r : ℕ) → size p ≤ r → tag p r ≡ 0) wher
         let more = built p (r .item) (right (p .rows) v) (r .more) (rw h at (r .said)) in
         made-next p (r .left-over) (size p) (v + 1) (expression ∷ r .items) (rw (← more) at (r .goes-on))
 
-    letter-below : (v : ℕ) → row-letter p v < letters p
+    pub letter-below : (v : ℕ) → row-letter p v < letters p
     unfolding row-letter row-shape letter letters
     letter-below v =
         test (eqb (tag p v) 2) (λ e. let b = built-below v (eqb-true _ _ e) in rw (e, row-shape) (omega arith))

@@ -20,7 +20,7 @@ use Rattle.model.proofs.Exact.Tests.{leb-iff, and-iff}
 use Rattle.model.proofs.Exact.Checks.{then-iff, unless-iff}
 
 -- the bytes are twice the words, or one more
-words-length : (bytes : List ℕ) → (2 * length (words bytes) ≤ length bytes) × (length bytes ≤ 2 * length (words bytes) + 1)
+pub words-length : (bytes : List ℕ) → (2 * length (words bytes) ≤ length bytes) × (length bytes ≤ 2 * length (words bytes) + 1)
 unfolding words
 words-length [] = (omega arith, omega arith)
 words-length (low ∷ []) = (omega arith, omega arith)

@@ -1,0 +1,179 @@
+-- What is still to come at each row when the whole program is read.
+use Prim.Native.Nat.{ℕ, zero, suc, _+_, _-_, _≤_, _<_}
+use native.Mathlib.Omega.{arith}
+use native.Mathlib.Numerals.{add-one}
+use mathlib.Core.Path.{_≡_, refl, sym, _∙_}
+use mathlib.Core.List.{List, [], _∷_, _++_, append-assoc, append-nil}
+use mathlib.Core.Option.{Option, some, none, Option·some-injective, Option·none-ne-some}
+use Rattle.model.specs.Reader.{first-wrong}
+use Rattle.model.specs.Rows.{Program, size, tag, num, Item, step, whole, past-items}
+use Rattle.model.proofs.Reader.{by-option, first-wrong-none}
+use Rattle.model.proofs.Parse.Spans.{Spans, spans-past, spans-unique, spans-none, spans-range, spans-takes, spans-split, spans-first}
+
+-- the program's rows fit: refusal 3 does not apply
+abbrev pub Rows-fit : Program → Type 0
+Rows-fit p = first-wrong (step p) (p .rows) (whole p) ≡ none
+
+-- the items behind row r, which the first one takes
+unfoldable pub next : Program → List Item → ℕ → Option (List Item)
+next p [] r = none
+next p (item ∷ items) r = elim (step p item (tag p r) (num p r)) [ none ↦ none | some more ↦ some (more ++ items) ]
+
+-- the items still to come at row r
+unfoldable pub stack : Program → ℕ → Option (List Item)
+stack p zero = some (whole p)
+stack p (suc r) = elim (stack p r) [ none ↦ none | some items ↦ next p items r ]
+
+-- the reader of the whole program comes to row r with these items still to come
+pub record Reached (p : Program) (items : List Item) (r : ℕ) : Type 0 where
+  pub stacked : stack p r ≡ some items
+
+-- the items xs stand from row r up to row e, and `below` is to come behind them
+pub record Stands (p : Program) (xs below : List Item) (r e : ℕ) : Type 0 where
+  pub reached : Reached p (xs ++ below) r
+  pub spans : Spans p xs r e
+
+-- row r, taken by the item x: what it asks for
+pub record Row (p : Program) (x : Item) (xs below : List Item) (r e : ℕ) : Type 0 where
+  pub within : r < size p
+  pub more : List Item
+  pub says : step p x (tag p r) (num p r) ≡ some more
+  pub rest : Stands p (more ++ xs) below (r + 1) e
+
+-- row s lies in items that end at row e: the item that takes it, and those of the items that come behind
+pub record Inside (p : Program) (below : List Item) (s e : ℕ) : Type 0 where
+  pub item : Item
+  pub items : List Item
+  pub stands : Stands p (item ∷ items) below s e
+
+module _ {p : Program} where
+  -- at the first row everything is to come
+  pub reached-begin : Reached p (whole p) 0
+  unfolding stack
+  reached-begin = record { stacked = refl }
+
+  -- at most one list of items is reached
+  pub reached-unique : {xs ys : List Item} {r : ℕ} → Reached p xs r → Reached p ys r → xs ≡ ys
+  reached-unique {xs} {ys} h k = Option·some-injective xs ys (sym (h .stacked) ∙ k .stacked)
+
+  -- one row on
+  pub reached-next : {item : Item} {items more : List Item} {r : ℕ} → Reached p (item ∷ items) r → step p item (tag p r) (num p r) ≡ some more → Reached p (more ++ items) (r + 1)
+  unfolding stack next
+  reached-next {item} {items} {more} {r} h goes = record { stacked = rw (add-one r, h .stacked, goes, next) }
+
+  -- the first row of items
+  pub stands-row : {x : Item} {xs below : List Item} {r e : ℕ} → Stands p (x ∷ xs) below r e → Row p x xs below r e
+  stands-row {x} {xs} {below} {r} {e} h =
+      let f = spans-first (h .spans) in
+      record {
+        within = f .below;
+        more = f .more;
+        says = f .says;
+        rest = record { reached = rw append-assoc (reached-next (h .reached) (f .says)); spans = f .rest };
+      }
+
+  -- an item alone
+  pub stands-only : {x : Item} {below : List Item} {r e : ℕ} → Stands p (x ∷ []) below r e → (more : List Item) × (step p x (tag p r) (num p r) ≡ some more) × Stands p more below (r + 1) e
+  stands-only h = let f = stands-row h in (f .more, f .says, rw append-nil at (f .rest))
+
+  at-in : (n : ℕ) (xs : List Item) {below : List Item} {r s e : ℕ} → s ≡ r + n → s ≤ e → Stands p xs below r e → (us : List Item) × Stands p us below s e
+  at-in zero xs {below} {r} {s} {e} z l h = let y : r ≡ s = omega arith in (xs, rw y at h)
+  at-in (suc n) [] {below} {r} {s} {e} z l h = let w = spans-unique (spans-none r) (h .spans) in absurd (omega arith)
+  at-in (suc n) (x ∷ xs) {below} {r} {s} {e} z l h = let f = stands-row h in at-in n (f .more ++ xs) (omega arith) l (f .rest)
+
+  -- at each row of the items, some are left
+  stands-at : {xs below : List Item} {r e : ℕ} (s : ℕ) → r ≤ s → s ≤ e → Stands p xs below r e → (us : List Item) × Stands p us below s e
+  stands-at {xs} {below} {r} {e} s lo hi h = at-in (s - r) xs (omega arith) hi h
+
+  none-left : (us : List Item) {below : List Item} {e : ℕ} → Stands p us below e e → Reached p below e
+  none-left [] h = h .reached
+  none-left (u ∷ us) {below} {e} h = let w = spans-takes (h .spans) in absurd (omega arith)
+
+  one-left : (us : List Item) {below : List Item} {s e : ℕ} → s < e → Stands p us below s e → Inside p below s e
+  one-left [] {below} {s} {e} l h = let w = spans-unique (spans-none s) (h .spans) in absurd (omega arith)
+  one-left (u ∷ us) l h = record { item = u; items = us; stands = h }
+
+  -- where the items end, what is below them is reached
+  pub stands-past : {xs below : List Item} {r e : ℕ} → Stands p xs below r e → Reached p below e
+  stands-past {xs} {below} {r} {e} h =
+      let w = spans-range (h .spans) in
+      let (us, k) = stands-at e (w .0) (omega arith) h in
+      none-left us k
+
+  -- Nesting: a row inside items is taken by an item of theirs.
+  pub stands-inside : {xs below : List Item} {r e : ℕ} (s : ℕ) → r ≤ s → s < e → Stands p xs below r e → Inside p below s e
+  stands-inside {xs} {below} {r} {e} s lo hi h = let (us, k) = stands-at s lo (omega arith) h in one-left us hi k
+
+  -- items one after the other
+  pub stands-split : (xs : List Item) {ys below : List Item} {r e : ℕ} → Stands p (xs ++ ys) below r e → (m : ℕ) × Stands p xs (ys ++ below) r m × Stands p ys below m e
+  stands-split xs {ys} {below} {r} {e} h =
+      let (m, first, others) = spans-split xs (h .spans) in
+      let k : Stands p xs (ys ++ below) r m = record { reached = rw append-assoc at (h .reached); spans = first } in
+      (m, k, record { reached = stands-past k; spans = others })
+
+  -- the item in front
+  pub stands-front : {x : Item} {xs below : List Item} {r e : ℕ} → Stands p (x ∷ xs) below r e → (m : ℕ) × Stands p (x ∷ []) (xs ++ below) r m × (m ≤ e)
+  stands-front {x} h =
+      let (m, front, others) = stands-split (x ∷ []) h in
+      (m, front, spans-range (others .spans) .0)
+
+  -- the item in front is one, and ends at one row
+  pub stands-item : {x y : Item} {xs ys below below′ : List Item} {r e e′ : ℕ} → Stands p (x ∷ xs) below r e → Stands p (y ∷ ys) below′ r e′ → x ≡ y
+  stands-item h k = let z = reached-unique (h .reached) (k .reached) in cc
+
+  pub stands-within : {x y : Item} {xs below below′ : List Item} {r m e : ℕ} → Stands p (y ∷ []) below′ r m → Stands p (x ∷ xs) below r e → m ≤ e
+  stands-within {x} {y} {xs} {below} {below′} {r} {m} {e} k h =
+      let z : x ≡ y = stands-item h k in
+      let (m′, front, upto) = stands-front (rw z at h) in
+      let same = spans-unique (k .spans) (front .spans) in
+      omega arith
+
+-- In a program whose rows fit:
+
+module _ {p : Program} (fit : Rows-fit p) where
+  -- one row on
+  spans-on : (prev : List Item) {items : List Item} {r : ℕ} → Reached p prev r → Spans p prev r (size p) → Reached p items (r + 1) → Spans p items (r + 1) (size p)
+  unfolding stack next
+  spans-on [] {items} {r} h s k = absurd (Option·none-ne-some items (rw (add-one r, h .stacked) at (k .stacked)))
+  spans-on (x ∷ xs) {items} {r} h s k =
+      let f = spans-first s in
+      rw (reached-unique (reached-next h (f .says)) k) at (f .rest)
+
+  -- from each row that is reached, reading goes on to the end
+  pub reached-spans : (r : ℕ) {items : List Item} → Reached p items r → Spans p items r (size p)
+  unfolding stack
+  reached-spans zero {items} h =
+      let z : size p - 0 ≡ size p = omega arith in
+      rw (← reached-unique reached-begin h) (record { reads = rw z (first-wrong-none (step p) (p .rows) (whole p) fit) })
+  reached-spans (suc r) {items} h =
+      by-option (stack p r)
+      (λ e. absurd (Option·none-ne-some items (rw (e, stack) at (h .stacked))))
+      (λ prev e.
+      let k : Reached p prev r = record { stacked = e } in
+      rw (add-one r) at (spans-on prev {items = items} k (reached-spans r k) (rw (add-one r) h)))
+
+  -- items that are reached stand up to some row
+  pub reached-stands : (xs : List Item) {below : List Item} {r : ℕ} → Reached p (xs ++ below) r → (e : ℕ) × Stands p xs below r e
+  reached-stands xs {below} {r} h =
+      let (e, first, others) = spans-split xs (reached-spans r h) in
+      (e, record { reached = h; spans = first })
+
+  -- ... which is the row after them; what is below them is reached there, within the program
+  pub reached-past : (xs : List Item) {below : List Item} {r : ℕ} → Reached p (xs ++ below) r → Reached p below (past-items p xs r) × (r ≤ past-items p xs r) × (past-items p xs r ≤ size p)
+  reached-past xs {below} {r} h =
+      let (e, s) = reached-stands xs h in
+      let z = spans-past (s .spans) in
+      let w = spans-range (s .spans) in
+      let v = spans-range (reached-spans e (stands-past s)) in
+      (rw z (stands-past s), omega arith, omega arith)
+
+  -- the whole program stands from its first row up to its end
+  pub whole-stands : Stands p (whole p) [] 0 (size p)
+  whole-stands = record { reached = let z = append-nil (whole p) in rw z reached-begin; spans = reached-spans 0 reached-begin }
+
+  -- each row is taken by an item
+  pub row-taken : (r : ℕ) → r < size p → (item : Item) × (below : List Item) × (e : ℕ) × Stands p (item ∷ []) below r e
+  row-taken r l =
+      let i = stands-inside r (omega arith) l whole-stands in
+      let (m, front, upto) = stands-front (i .stands) in
+      (i .item, i .items ++ [], m, front)

@@ -1,0 +1,37 @@
+-- A branch that takes a value, of a case or a receive: where it goes on is a state, and what it binds is covered.
+use Prim.Native.Nat.{ℕ}
+use mathlib.Core.Path.{_≡_}
+use mathlib.Core.List.{List, List·Memᴰ}
+use mathlib.Core.Option.{some, none}
+use Rattle.model.specs.Limits.{maxDepth}
+use Rattle.model.specs.Rows.{Program}
+use Rattle.model.specs.Heads.{branch-body}
+use Rattle.model.specs.Values.{Value, Bindings, Process, process}
+use Rattle.model.specs.Matching.{match}
+use Rattle.model.specs.Tables.{Tables}
+use Rattle.model.specs.Wanted.{Closed, flow, state, MayMatch, MayTake, branch-name, branch-state}
+use Rattle.model.proofs.Covering.{row-for, Covered}
+use Rattle.model.proofs.Parse.Reached.{Rows-fit}
+use Rattle.model.proofs.Parse.Branches.{Branches, branch-in, branch-location}
+use Rattle.model.proofs.Parse.Lengths.{Columns-whole}
+use Rattle.model.proofs.Parse.Innermost.{innermost-branch}
+use Rattle.model.proofs.Matched.{match-may, match-held}
+use Rattle.model.proofs.Invariant.{Mailed, Good, frames-moved}
+
+module _ (p : Program) (t : Tables) (fit : Rows-fit p) (w : Columns-whole p) (closed : Closed p t) (classes : List ℕ) (q : Process) (g : Good p t classes q) (bs : List ℕ) (at : Branches p (q .location) bs (g .location .below) (g .location .end)) (b : ℕ) (listed : List·Memᴰ b bs) (v : Value) (covered : Covered p t classes v) (held : Bindings) (m : match p (q .held) b v ≡ some held) where
+  pub branch-may : MayMatch p t maxDepth b (row-for classes v)
+  branch-may = match-may fit w t classes v (q .held) held (branch-in at listed .pattern-stands .spans) covered m
+
+  pub branch-good : (vs : List Value) → MayTake p t (q .class) (q .location) b (row-for classes v) → Mailed p t classes (q .class) vs → Good p t classes (process (q .class) (branch-body p b) held (q .frames) vs)
+  branch-good vs take mailed =
+      let c : ℕ = q .class in
+      let r : ℕ = q .location in
+      record {
+        location = branch-location (branch-in at listed);
+        class = g .class;
+        present = closed (state c (branch-body p b)) (branch-state c r b (row-for classes v) (g .present) take);
+        held = match-held fit w t classes v (q .held) held (branch-in at listed .pattern-stands .spans) covered m (g .held)
+            (λ n u spot. closed (flow n u) (branch-name c r b (row-for classes v) n u (g .present) take spot));
+        frames = frames-moved p t classes c r (branch-body p b) (q .frames) (innermost-branch p fit (g .location) at listed) (g .frames);
+        mailbox = mailed;
+      }
