@@ -21,3 +21,4 @@ pub mod Steps
 pub mod Stepped
 pub mod Runs
 pub mod Demands
+pub mod Controls

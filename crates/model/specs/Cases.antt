@@ -268,6 +268,24 @@ brood-listing =
     50 ∷ 51 ∷ 54 ∷ 50 ∷ 51 ∷ 54 ∷ 50 ∷ 51 ∷ 54 ∷
     0 ∷ 1 ∷ 0 ∷ 2 ∷ 3 ∷ 0 ∷ 4 ∷ 5 ∷ 2 ∷ []
 
+-- A receive that passes a message over. x = self; a = c0; b = c1; send x a; send x b; receive { c1 -> receive { y -> y } }. The first receive takes
+-- the second message.
+unfoldable pub selective : List ℕ
+selective = program-words 6 2 0 ((10, 0) ∷ (10, 0) ∷ (7, 0) ∷ (2, 1) ∷ (20, 0) ∷ (2, 2) ∷ (20, 1) ∷ (5, 3) ∷ (21, 0) ∷ (21, 1) ∷ (5, 4) ∷ (21, 0) ∷ (21, 2) ∷ (9, 1) ∷ (31, 1) ∷ (9, 1) ∷ (30, 5) ∷ (1, 5) ∷ [])
+
+-- Eight states; letter counters 8 for (18, 0) and 9 for (18, 1). The first receive, state 5, reads 9 alone; the second, state 6, either.
+unfoldable pub selective-evidence : List ℕ
+selective-evidence =
+    bad-words 1 ((40, 18) ∷ (42, 0) ∷ (43, 2) ∷ (44, 0) ∷ []) ++
+    table-words ((0, 18) ∷ (1, 3) ∷ (2, 5) ∷ (3, 3) ∷ (4, 5) ∷ (5, 3) ∷ (5, 5) ∷ []) ((18, 3) ∷ (18, 5) ∷ []) ((18, 2) ∷ (18, 3) ∷ (18, 5) ∷ (18, 7) ∷ (18, 10) ∷ (18, 13) ∷ (18, 15) ∷ (18, 17) ∷ []) ++
+    bound-words 8 ((0, 1) ∷ (10, 0) ∷ (1, 1) ∷ (10, 0) ∷ (2, 1) ∷ (10, 0) ∷ (3, 1) ∷ (10, 0) ∷ (4, 1) ∷ (8, 1) ∷ (10, 0) ∷ (5, 1) ∷ (8, 1) ∷ (9, 1) ∷ (10, 0) ∷ (6, 1) ∷ (8, 1) ∷ (10, 0) ∷ (7, 1) ∷ (10, 0) ∷ [])
+
+unfoldable pub selective-listing : List ℕ
+selective-listing =
+    8 ∷ 2 ∷ 8 ∷ 21 ∷
+    50 ∷ 51 ∷ 50 ∷ 51 ∷ 50 ∷ 51 ∷ 50 ∷ 51 ∷ 53 ∷ 50 ∷ 51 ∷ 53 ∷ 50 ∷ 51 ∷ 52 ∷ 50 ∷ 51 ∷ 52 ∷ 50 ∷ 51 ∷ 52 ∷
+    0 ∷ 1 ∷ 1 ∷ 2 ∷ 2 ∷ 3 ∷ 3 ∷ 4 ∷ 8 ∷ 4 ∷ 5 ∷ 9 ∷ 5 ∷ 6 ∷ 9 ∷ 6 ∷ 7 ∷ 8 ∷ 6 ∷ 7 ∷ 9 ∷ []
+
 unfoldable pub own-cases : List Case
 own-cases =
     -- every branch, every receive state: see the listing
@@ -294,6 +312,8 @@ own-cases =
     safe 0 endless (to-bytes (endless ++ endless-evidence)) endless-listing ∷
     -- new state = from
     safe 0 brood (to-bytes (brood ++ brood-evidence)) brood-listing ∷
+    -- a message passed over
+    safe 0 selective (to-bytes (selective ++ selective-evidence)) selective-listing ∷
     -- K = 0: the start lies under no ceiling; with entries: the first is one too many
     refused 30 (with-bounds (bound-words 0 [])) 11 55 ∷
     refused 30 (with-bounds (bound-words 0 ((6, 0) ∷ []))) 10 57 ∷
@@ -309,5 +329,5 @@ own-cases =
     []
 
 unfoldable pub cases-opens : Unit {0}
-unfolding arrays program-words bad-words table-words bound-words to-bytes outcome obtained lend refused safe a-program a-bads a-tables a-bounds a-words with-word with-tables with-bounds a-listing proved-cases two-receives two-receives-bads two-receives-with two-receives-listing two-callers two-callers-evidence two-callers-listing nested nested-with nested-listing two-classes two-classes-with two-classes-listing no-argument no-argument-evidence no-argument-listing endless endless-evidence endless-listing brood brood-evidence brood-listing own-cases
+unfolding arrays program-words bad-words table-words bound-words to-bytes outcome obtained lend refused safe a-program a-bads a-tables a-bounds a-words with-word with-tables with-bounds a-listing proved-cases two-receives two-receives-bads two-receives-with two-receives-listing two-callers two-callers-evidence two-callers-listing nested nested-with nested-listing two-classes two-classes-with two-classes-listing no-argument no-argument-evidence no-argument-listing endless endless-evidence endless-listing brood brood-evidence brood-listing selective selective-evidence selective-listing own-cases
 cases-opens = tt
