@@ -1,0 +1,128 @@
+-- Laws of refusals 1 and 2 (model, specs/Message.antt): what each test of the code says of the check of a part and of the whole message.
+use Prim.Native.Nat.{ℕ, suc, _+_, _-_, _*_, _≤_, _<_}
+use native.Mathlib.Omega.{arith}
+use mathlib.Core.Path.{_≡_, refl, sym, _∙_, ap}
+use mathlib.Core.Bool.{Bool, true, false, not}
+use mathlib.Core.List.{List, [], _∷_}
+use mathlib.Core.Option.{some, none}
+use lib.ListN.{length}
+use borrow.Author.Tests.{le-leb, lt-leb, not-true, not-false}
+use Rattle.model.specs.declared.Sizes.{Sizes}
+use Rattle.model.specs.declared.Verdict.{Verdict}
+use Rattle.model.specs.declared.Verdict.the-variants.{Length, Size}
+use Rattle.model.specs.Words.{words}
+use Rattle.model.specs.Verdict.{Check, _>>_, unless}
+use Rattle.model.specs.Message.{Limited, sizes, sizes-check, part-check, program-part, bads-part, tables-part, bounds-part, nothing-left, end-at, parts-check}
+use Rattle.model.proofs.Logic.{test}
+use Rattle.message.specs.declared.Parts.{Parts}
+use Rattle.message.specs.declared.Parts.the-variants.{Whole, Refused}
+use Rattle.message.specs.declared.Checked.{Checked}
+use Rattle.message.specs.declared.Checked.the-variants.{Pass, Fail}
+use Rattle.message.specs.Parts.{checked, answered, parts-of, inside, first-outside}
+
+-- a check that passes, or refuses
+
+pub checked-pass : (k : Check) → checked k ≡ Pass → k ≡ none
+unfolding checked
+checked-pass none h = refl
+checked-pass (some v) h = cc
+
+pub checked-fail : (k : Check) (v : Verdict) → checked k ≡ Fail v → k ≡ some v
+unfolding checked
+checked-fail none v h = cc
+checked-fail (some w) v h = cc
+
+-- the first size outside its limits: this one, or one behind it
+
+first-outside-hit : (l : Limited) (ls : List Limited) → inside l ≡ false → first-outside (l ∷ ls) ≡ 0
+unfolding first-outside
+first-outside-hit l ls h = rw (h, first-outside)
+
+first-outside-miss : (l : Limited) (ls : List Limited) → inside l ≡ true → first-outside (l ∷ ls) ≡ suc (first-outside ls)
+unfolding first-outside
+first-outside-miss l ls h = rw (h, first-outside)
+
+-- the same by the code's test, and where no size is left
+
+pub outside-here : (l : Limited) (ls : List Limited) (b : Bool) → b ≡ inside l → not b ≡ true → 0 ≡ first-outside (l ∷ ls)
+outside-here l ls b e h = sym (first-outside-hit l ls (sym e ∙ not-true b h))
+
+pub outside-behind : (l : Limited) (ls : List Limited) (b : Bool) (k : ℕ) → b ≡ inside l → not b ≡ false → suc (k - 1) ≡ k → k - 1 ≡ first-outside ls → k ≡ first-outside (l ∷ ls)
+outside-behind l ls b k e h z t = sym z ∙ (ap suc t ∙ sym (first-outside-miss l ls (sym e ∙ not-false b h)))
+
+pub outside-none : 0 ≡ first-outside []
+unfolding first-outside
+outside-none = refl
+
+pub ruleset tests-of-sizes = (outside-here, outside-behind, outside-none)
+
+sizes-check-hit : (at : ℕ) (l : Limited) (ls : List Limited) → inside l ≡ false → sizes-check at (l ∷ ls) ≡ some (Size at)
+unfolding sizes-check inside
+sizes-check-hit at l ls h = rw (h, sizes-check)
+
+sizes-check-miss : (at : ℕ) (l : Limited) (ls : List Limited) → inside l ≡ true → sizes-check at (l ∷ ls) ≡ sizes-check (at + 1) ls
+unfolding sizes-check inside
+sizes-check-miss at l ls h = rw (h, sizes-check)
+
+-- it is where the model refuses the sizes
+pub sizes-refused : (at : ℕ) (ls : List Limited) → first-outside ls < length ls → sizes-check at ls ≡ some (Size (at + first-outside ls))
+sizes-refused at [] h = absurd (omega arith)
+sizes-refused at (l ∷ ls) h =
+    test (inside l)
+    (λ e. let z = first-outside-miss l ls e in
+    let w : at + 1 + first-outside ls ≡ at + first-outside (l ∷ ls) = omega arith in
+    sizes-check-miss at l ls e ∙ (sizes-refused (at + 1) ls (omega arith) ∙ ap (λ n. some (Size n)) w))
+    (λ e. let z = first-outside-hit l ls e in
+    let w : at ≡ at + first-outside (l ∷ ls) = omega arith in
+    sizes-check-hit at l ls e ∙ ap (λ n. some (Size n)) w)
+
+pub sizes-pass : (at : ℕ) (ls : List Limited) → length ls ≤ first-outside ls → sizes-check at ls ≡ none
+unfolding sizes-check
+sizes-pass at [] h = refl
+sizes-pass at (l ∷ ls) h =
+    test (inside l)
+    (λ e. let z = first-outside-miss l ls e in sizes-check-miss at l ls e ∙ sizes-pass (at + 1) ls (omega arith))
+    (λ e. let z = first-outside-hit l ls e in absurd (omega arith))
+
+-- a part, by the code's three tests
+
+module _ (ws : List ℕ) (at : ℕ) (ls : List Limited) (elements : ℕ) where
+  pub part-no-sizes : length ws < at + length ls → part-check ws at ls elements ≡ some (Length at)
+  unfolding part-check unless _>>_
+  part-no-sizes h = rw (lt-leb (at + length ls) (length ws) h)
+
+  pub part-outside : (w : ℕ) → first-outside ls ≡ w → at + length ls ≤ length ws → w < length ls → part-check ws at ls elements ≡ some (Size (at + w))
+  unfolding part-check unless _>>_
+  part-outside w e h k = rw (← e, le-leb (at + length ls) (length ws) h, sizes-refused at ls (omega arith))
+
+  pub part-no-arrays : at + length ls ≤ length ws → length ls ≤ first-outside ls → length ws < at + length ls + 2 * elements → part-check ws at ls elements ≡ some (Length at)
+  unfolding part-check unless _>>_
+  part-no-arrays h k l = rw (le-leb (at + length ls) (length ws) h, sizes-pass at ls k, lt-leb (at + length ls + 2 * elements) (length ws) l)
+
+  pub part-whole : length ls ≤ first-outside ls → at + length ls + 2 * elements ≤ length ws → part-check ws at ls elements ≡ none
+  unfolding part-check unless _>>_
+  part-whole k l = rw (le-leb (at + length ls) (length ws) (omega arith), sizes-pass at ls k, le-leb (at + length ls + 2 * elements) (length ws) l)
+
+-- the whole message, by the code's checks one after the other
+
+pub then-go : (p q : Check) (s : Sizes) (r : Checked) (x : Parts) → r ≡ checked p → r ≡ Pass → x ≡ answered q s → x ≡ answered (p >> q) s
+unfolding _>>_
+then-go p q s r x e h t = rw (checked-pass p (sym e ∙ h)) t
+
+pub then-stop : (p q : Check) (s : Sizes) (r : Checked) (v : Verdict) → r ≡ checked p → r ≡ Fail v → Refused v ≡ answered (p >> q) s
+unfolding _>>_ answered
+then-stop p q s r v e h = rw (checked-fail p v (sym e ∙ h))
+
+pub bytes-left : (bytes : List ℕ) (s : Sizes) (n : ℕ) → n ≡ end-at s → 2 * n < length bytes → Refused (Length n) ≡ answered (nothing-left bytes s) s
+unfolding nothing-left unless answered
+bytes-left bytes s n e h = rw (← e, lt-leb (length bytes) (2 * n) h)
+
+pub no-bytes-left : (bytes : List ℕ) (s : Sizes) (n : ℕ) → n ≡ end-at s → length bytes ≤ 2 * n → Whole s ≡ answered (nothing-left bytes s) s
+unfolding nothing-left unless answered
+no-bytes-left bytes s n e h = rw (← e, le-leb (length bytes) (2 * n) h)
+
+pub parts-by : (bytes : List ℕ) (s : Sizes) (x : Parts) → s ≡ sizes (words bytes) → x ≡ answered (program-part (words bytes) s >> (bads-part (words bytes) s >> (tables-part (words bytes) s >> (bounds-part (words bytes) s >> nothing-left bytes s)))) s → x ≡ parts-of bytes
+unfolding parts-of parts-check
+parts-by bytes s x e t = rw (← e) t
+
+pub ruleset tests-of-parts = (parts-by, then-go, then-stop, bytes-left, no-bytes-left)

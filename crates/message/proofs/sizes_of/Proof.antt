@@ -1,0 +1,115 @@
+-- Each size is read where the model reads it; that a size is a word keeps every sum small.
+use Rattle.model.specs.Message.{sizes}
+use borrow.Author.Needs.{needs}
+use Rattle.message.proofs.sizes_of.Statement.{statement}
+use Rattle.message.proofs.sizes_of.Tie as tie
+
+size-at-requires : tie.Need-size-at-requires
+size-at-requires c κs = search needs
+
+mul-bads : tie.Need-mul-bads
+mul-bads c = search needs
+
+add-bads : tie.Need-add-bads
+add-bads c = search needs
+
+add-size-at : tie.Need-add-size-at
+add-size-at c = search needs
+
+size-at-requires-2 : tie.Need-size-at-requires-2
+size-at-requires-2 c κs = search needs
+
+add-tables : tie.Need-add-tables
+add-tables c = search needs
+
+mul-tables : tie.Need-mul-tables
+mul-tables c = search needs
+
+add-tables-2 : tie.Need-add-tables-2
+add-tables-2 c = search needs
+
+size-at-requires-3 : tie.Need-size-at-requires-3
+size-at-requires-3 c κs = search needs
+
+add-size-at-2 : tie.Need-add-size-at-2
+add-size-at-2 c = search needs
+
+size-at-requires-4 : tie.Need-size-at-requires-4
+size-at-requires-4 c κs = search needs
+
+add-size-at-3 : tie.Need-add-size-at-3
+add-size-at-3 c = search needs
+
+size-at-requires-5 : tie.Need-size-at-requires-5
+size-at-requires-5 c κs = search needs
+
+add-bounds : tie.Need-add-bounds
+add-bounds c = search needs
+
+add-bounds-2 : tie.Need-add-bounds-2
+add-bounds-2 c = search needs
+
+add-bounds-3 : tie.Need-add-bounds-3
+add-bounds-3 c = search needs
+
+mul-bounds : tie.Need-mul-bounds
+mul-bounds c = search needs
+
+add-bounds-4 : tie.Need-add-bounds-4
+add-bounds-4 c = search needs
+
+size-at-requires-6 : tie.Need-size-at-requires-6
+size-at-requires-6 c κs = search needs
+
+size-at-requires-7 : tie.Need-size-at-requires-7
+size-at-requires-7 c κs = search needs
+
+size-at-requires-8 : tie.Need-size-at-requires-8
+size-at-requires-8 c κs = search needs
+
+size-at-requires-9 : tie.Need-size-at-requires-9
+size-at-requires-9 c κs = search needs
+
+size-at-requires-10 : tie.Need-size-at-requires-10
+size-at-requires-10 c κs = search needs
+
+add-size-at-4 : tie.Need-add-size-at-4
+add-size-at-4 c = search needs
+
+size-at-requires-11 : tie.Need-size-at-requires-11
+size-at-requires-11 c κs = search needs
+
+returns : tie.Need-returns
+unfolding sizes
+returns c = (cc, search needs)
+
+pub sizes-of-spec : {M : Type 1} → statement M
+sizes-of-spec =
+    tie.close
+    (tie.spec
+    size-at-requires
+    mul-bads
+    add-bads
+    add-size-at
+    size-at-requires-2
+    add-tables
+    mul-tables
+    add-tables-2
+    size-at-requires-3
+    add-size-at-2
+    size-at-requires-4
+    add-size-at-3
+    size-at-requires-5
+    add-bounds
+    add-bounds-2
+    add-bounds-3
+    mul-bounds
+    add-bounds-4
+    size-at-requires-6
+    size-at-requires-7
+    size-at-requires-8
+    size-at-requires-9
+    size-at-requires-10
+    add-size-at-4
+    size-at-requires-11
+    returns)
