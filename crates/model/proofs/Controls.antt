@@ -4,26 +4,17 @@ use mathlib.Core.Path.{_≡_, refl}
 use mathlib.Core.List.{List, [], _∷_, _++_}
 use mathlib.Core.Option.{Option, some, none}
 use lib.ListN.{length}
-use Rattle.model.specs.Index.{index-opens, gather}
-use Rattle.model.specs.Words.{words-opens}
-use Rattle.model.specs.Message.{message-opens}
-use Rattle.model.specs.Reader.{reader-opens}
-use Rattle.model.specs.Rows.{rows-opens, Program}
-use Rattle.model.specs.Scopes.{scopes-opens}
-use Rattle.model.specs.Heads.{heads-opens}
-use Rattle.model.specs.Values.{values-opens, Processes}
-use Rattle.model.specs.Matching.{matching-opens}
-use Rattle.model.specs.Run.{run-opens, starting, next}
-use Rattle.model.specs.Letters.{letters-opens, processes-at, messages-of}
-use Rattle.model.specs.Bads.{bads-opens}
-use Rattle.model.specs.Tables.{tables-opens, Tables, state-at}
-use Rattle.model.specs.Counters.{counters-opens}
-use Rattle.model.specs.Rules.{rules-opens, Effect, quiet, reads, puts, starts, Rule, rule}
-use Rattle.model.specs.Listing.{listing-opens}
-use Rattle.model.specs.Markings.{markings-opens, Marking, initial, fire-all}
-use Rattle.model.specs.Bounds.{bounds-opens}
-use Rattle.model.specs.Verify.{verify-opens, Message, message}
-use Rattle.model.specs.Cases.{cases-opens, Pairs, to-bytes, two-classes-with, selective, selective-evidence}
+use Rattle.model.specs.Index.{gather}
+use Rattle.model.specs.Rows.{Program}
+use Rattle.model.specs.Values.{Processes}
+use Rattle.model.specs.Run.{starting, next}
+use Rattle.model.specs.Letters.{processes-at, messages-of}
+use Rattle.model.specs.Tables.{Tables, state-at}
+use Rattle.model.specs.Rules.{Effect, quiet, reads, puts, starts, Rule, rule}
+use Rattle.model.specs.Markings.{Marking, initial, fire-all}
+use Rattle.model.specs.Verify.{Message, message}
+use Rattle.model.proofs.Opens.{model-opens}
+use Rattle.model.specs.Cases.{Pairs, to-bytes, two-classes-with, selective, selective-evidence}
 
 -- the counts of a station in the order of the counters: its states, then the given classes and letters
 tally : Message → Pairs → Processes → List ℕ
@@ -76,7 +67,7 @@ record Same (a b : List (List ℕ)) (end : List ℕ) : Type 0 where
   at-last : last-of a ≡ end
 
 two-classes-followed : Same (station-tallies two-classes-message ((15, 0) ∷ (27, 0) ∷ []) (starting (two-classes-message .program)) two-classes-numbers) (counter-tallies 12 (initial (two-classes-message .program) (two-classes-message .tables)) two-classes-rules) two-classes-end
-unfolding tally station-tallies counter-tallies two-classes-message two-classes-numbers two-classes-rules two-classes-end last-of index-opens words-opens message-opens reader-opens rows-opens scopes-opens heads-opens values-opens matching-opens run-opens letters-opens bads-opens tables-opens counters-opens rules-opens listing-opens markings-opens bounds-opens verify-opens cases-opens
+unfolding tally station-tallies counter-tallies two-classes-message two-classes-numbers two-classes-rules two-classes-end last-of model-opens
 two-classes-followed = record { along = refl; at-last = refl }
 
 -- A message passed over (specs/Cases.antt): the first receive takes the second message, the second the first.
@@ -89,5 +80,5 @@ selective-rules =
     some (rule 5 6 (reads 9)) ∷ some (rule 6 7 (reads 8)) ∷ none ∷ []
 
 selective-followed : Same (station-tallies selective-message ((18, 0) ∷ (18, 1) ∷ []) (starting (selective-message .program)) (0 ∷ 0 ∷ 0 ∷ 0 ∷ 0 ∷ 0 ∷ 0 ∷ 0 ∷ [])) (counter-tallies 10 (initial (selective-message .program) (selective-message .tables)) selective-rules) (0 ∷ 0 ∷ 0 ∷ 0 ∷ 0 ∷ 0 ∷ 0 ∷ 1 ∷ 0 ∷ 0 ∷ [])
-unfolding tally station-tallies counter-tallies selective-message selective-rules last-of index-opens words-opens message-opens reader-opens rows-opens scopes-opens heads-opens values-opens matching-opens run-opens letters-opens bads-opens tables-opens counters-opens rules-opens listing-opens markings-opens bounds-opens verify-opens cases-opens
+unfolding tally station-tallies counter-tallies selective-message selective-rules last-of model-opens
 selective-followed = record { along = refl; at-last = refl }

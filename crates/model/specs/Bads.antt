@@ -68,7 +68,3 @@ met-from counts rows (suc n) r =
 
 unfoldable pub met : (Counted → ℕ) → Columns → ℕ → Bool
 met counts rows r = met-from counts rows (rows .size - r) r
-
-unfoldable pub bads-opens : Unit {0}
-unfolding bad-rows bad-step bad-check bad-row counted met-from met
-bads-opens = tt

@@ -115,7 +115,3 @@ unfoldable pub leak-check : List ℕ → Sizes → Bounds → List Rule → Chec
 leak-check ws s bs ρs =
     let k : ℕ = first 0 (bs .size) (λ i. leads-out bs ρs (highest (bs .limit i))) in
     unless (eqb k (bs .size)) (Leak (bounds-at s + 2 + bound-entry (bs .counters) (bound-entries ws s) k))
-
-unfoldable pub bounds-opens : Unit {0}
-unfolding bound-entries bound-step bound-check bound-entry limit-from bounds allowed under under-some highest start-check bad-allowed met-check leads-out leak-check
-bounds-opens = tt

@@ -327,7 +327,3 @@ own-cases =
     -- the last of the sizes with its second byte missing
     refused 30 (take 7 (to-bytes a-words)) 1 0 ∷
     []
-
-unfoldable pub cases-opens : Unit {0}
-unfolding arrays program-words bad-words table-words bound-words to-bytes outcome obtained lend refused safe a-program a-bads a-tables a-bounds a-words with-word with-tables with-bounds a-listing proved-cases two-receives two-receives-bads two-receives-with two-receives-listing two-callers two-callers-evidence two-callers-listing nested nested-with nested-listing two-classes two-classes-with two-classes-listing no-argument no-argument-evidence no-argument-listing endless endless-evidence endless-listing brood brood-evidence brood-listing selective selective-evidence selective-listing own-cases
-cases-opens = tt

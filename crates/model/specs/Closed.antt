@@ -138,7 +138,3 @@ open-check s p t =
     let i : ℕ = first 0 (t .states .size) (λ k. not (state-closed p t (state-at t k))) in
     unless (opening-closed p t) (Open (tables-at s)) >>
     unless (eqb i (t .states .size)) (Open (tables-at s + 3 + s .flows + s .mails + i))
-
-unfoldable pub closed-opens : Unit {0}
-unfolding subpattern argument same-constructor may-match names-hold may-take branches-closed may-call passes call-closed returns-to return-closed give-closed send-closed spawn-closed state-closed opening-closed open-check
-closed-opens = tt

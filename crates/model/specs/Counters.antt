@@ -49,7 +49,3 @@ counter-of p t (letter-of c l) =
 -- 9: "over 512: size S"
 unfoldable pub counter-check : Sizes → Program → Tables → Check
 counter-check s p t = unless (leb (counter-count p t) maxCounters) (Counters (tables-at s + 2))
-
-unfoldable pub counters-opens : Unit {0}
-unfolding letter-key letter-keys has-letter letter-count counter-count letter-index counter-of counter-check
-counters-opens = tt

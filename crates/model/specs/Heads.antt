@@ -96,7 +96,3 @@ start p = past-items p (declarations p) 0
 -- "A class is a spawn row, or R for the starting process"
 unfoldable pub is-class : Program → ℕ → Bool
 is-class p c = eqb (tag p c) 6 || eqb c (size p)
-
-unfoldable pub heads-opens : Unit {0}
-unfolding nums call-at branch-rows head-at branch-body is-function parameters body takes innermost start is-class
-heads-opens = tt

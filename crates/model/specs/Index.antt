@@ -60,7 +60,3 @@ last (suc n) f = elim (f n) [ true ↦ some n | false ↦ last n f ]
 unfoldable pub only : {A : Type 0} → Bool → A → List A
 only true a = a ∷ []
 only false a = []
-
-unfoldable pub index-opens : Unit {0}
-unfolding implies anyIn allIn firstIn countIn gatherIn any all first count gather last only
-index-opens = tt

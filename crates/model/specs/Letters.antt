@@ -65,7 +65,3 @@ mailbox-count p q c l = elim (eqb (q .class) c) [ true ↦ letters-in p (q .mail
 unfoldable pub messages-of : Program → Processes → ℕ → ℕ → ℕ
 messages-of p [] c l = 0
 messages-of p (q ∷ qs) c l = mailbox-count p q c l + messages-of p qs c l
-
-unfoldable pub letters-opens : Unit {0}
-unfolding letter letters row-shape row-letter value-shape value-letter one-if processes-at letters-in mailbox-count messages-of
-letters-opens = tt

@@ -76,7 +76,3 @@ rules-from rows (suc n) r =
 -- the rules of the written system
 unfoldable pub listed-rules : List ℕ → List Rule
 listed-rules ws = rules-from (listed-rows ws) (listed-rows ws .size) 0
-
-unfoldable pub listing-opens : Unit {0}
-unfolding effect-lines rule-lines listing system-words written space-check listed-rows effect-at rules-from listed-rules
-listing-opens = tt

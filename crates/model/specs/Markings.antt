@@ -64,7 +64,3 @@ standing m (some x) = m x
 
 unfoldable pub count-in : Program → Tables → Marking → Counted → ℕ
 count-in p t m k = standing m (counter-of p t k)
-
-unfoldable pub markings-opens : Unit {0}
-unfolding taking adding readable usable effect-taken effect-added fire initial fire-all standing count-in
-markings-opens = tt

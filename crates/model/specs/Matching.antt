@@ -62,7 +62,3 @@ receive-from p held qs (v ∷ vs) =
             | some r ↦ some (record { taken = r .taken; mailbox = v ∷ r .mailbox })
           ]
     ]
-
-unfoldable pub matching-opens : Unit {0}
-unfolding arguments-of match-rows match first-branch receive-from
-matching-opens = tt

@@ -108,7 +108,3 @@ parts-check bytes =
     let ws : List ℕ = words bytes in
     let s : Sizes = sizes ws in
     program-part ws s >> (bads-part ws s >> (tables-part ws s >> (bounds-part ws s >> nothing-left bytes s)))
-
-unfoldable pub message-opens : Unit {0}
-unfolding bads-at tables-at bounds-at end-at sizes sizes-check part-check program-part bads-part tables-part bounds-part nothing-left parts-check
-message-opens = tt

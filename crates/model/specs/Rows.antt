@@ -144,7 +144,3 @@ past-items p items r = after (step p) (p .rows) items r
 -- 3: "tag, number, depth or row count wrong: 4 + first such row, or 4 + R if rows end early"
 unfoldable pub row-check : Program → Check
 row-check p = Option·map (λ r. Row (4 + r)) (first-wrong (step p) (p .rows) (whole p))
-
-unfoldable pub rows-opens : Unit {0}
-unfolding program tag num kind is-head branch-items lead arity is-name is-branch-count expression-step pattern-step step declarations whole past-items row-check
-rows-opens = tt

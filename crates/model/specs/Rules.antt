@@ -82,7 +82,3 @@ state-rules p t i s =
 -- all rules, by state
 unfoldable pub rules : Program → Tables → List Rule
 rules p t = gather 0 (t .states .size) (λ i. state-rules p t i (state-at t i))
-
-unfoldable pub rules-opens : Unit {0}
-unfolding from-each from-all from-letters letter-of-some state-rules rules
-rules-opens = tt

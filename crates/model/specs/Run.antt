@@ -113,7 +113,3 @@ run-from p qs (i ∷ is) = run-from p (next p qs i) is
 
 unfoldable pub run : Program → List ℕ → Processes
 run p is = run-from p (starting p) is
-
-unfoldable pub run-opens : Unit {0}
-unfolding _>>=_ moved function-of process-of deliver give-back enter spawned act step-of starting next run-from run
-run-opens = tt

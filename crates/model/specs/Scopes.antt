@@ -62,7 +62,3 @@ unfoldable pub scope-check : Program → Check
 scope-check p =
     let out : ℕ = first 0 (size p) (out-of-scope p) in
     unless (eqb out (size p)) (Scope (4 + out))
-
-unfoldable pub scopes-opens : Unit {0}
-unfolding binds uses binds-name binder bound-again name-check rest next-head holds-in in-scope out-of-scope scope-check
-scopes-opens = tt

@@ -89,7 +89,3 @@ state-index t s = first 0 (t .states .size) (λ i. same-state (state-at t i) s)
 
 unfoldable pub has-state : Tables → State → Bool
 has-state t s = ltb (state-index t s) (t .states .size)
-
-unfoldable pub tables-opens : Unit {0}
-unfolding entries tables is-value ascends first-misplaced list-check entry-check has each some-of same-state state-at state-index has-state
-tables-opens = tt

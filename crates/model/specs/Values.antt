@@ -70,7 +70,3 @@ process c r held frames mailbox = record { class = c; location = r; held = held;
 -- "Processes are numbered, 0 the start, then as spawned"
 abbrev pub Processes : Type 0
 Processes = List Process
-
-unfoldable pub values-opens : Unit {0}
-unfolding lookup global-row value-of values-of bind-all join
-values-opens = tt

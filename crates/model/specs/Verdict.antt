@@ -54,7 +54,3 @@ _>>_ none check = check
 unfoldable pub unless : Bool → Verdict → Check
 unless true v = none
 unless false v = some v
-
-unfoldable pub verdict-opens : Unit {0}
-unfolding number place _>>_ unless
-verdict-opens = tt

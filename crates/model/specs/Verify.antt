@@ -101,7 +101,3 @@ lent-after bytes lent =
 -- "On 0 the loader is handed the program's own bytes of the message, its part with the four sizes, not a copy; otherwise an empty part."
 unfoldable pub part-handed : List ℕ → ℕ → List ℕ
 part-handed bytes lent = take (if-safe (verdict bytes lent) (2 * bads-at (message bytes .sizes)) 0) bytes
-
-unfoldable pub verify-opens : Unit {0}
-unfolding message program-check evidence-check bounds-check message-check check answer verdict if-safe lent-after part-handed
-verify-opens = tt
