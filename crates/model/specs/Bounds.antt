@@ -2,11 +2,10 @@
 use Prim.Native.Nat.{ℕ, zero, suc, _+_, _-_}
 use mathlib.Core.Bool.{Bool, true, false, not, _&&_, _||_}
 use mathlib.Core.List.{List, [], _∷_}
-use mathlib.Core.Option.{Option, some, none, Option·map}
+use mathlib.Core.Option.{some, none, Option·map}
 use lib.ListN.{replicate}
 use lib.Dec.{leb, ltb, eqb}
 use Rattle.model.specs.declared.Sizes.{Sizes}
-use Rattle.model.specs.declared.Verdict.{Verdict}
 use Rattle.model.specs.declared.Verdict.the-variants.{Ceiling, Start, Met, Leak}
 use Rattle.model.specs.Limits.{omega-limit}
 use Rattle.model.specs.Index.{any, all, first}

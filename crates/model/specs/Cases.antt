@@ -1,6 +1,6 @@
 -- Document 01, "Station A" and the cases that it lists under "Proved", and cases of our own that tell wrong verifiers apart. proofs/Cases.antt
 -- proves by computation that the definitions give what stands here: number, place, part handed on and every lent word.
-use Prim.Native.Nat.{ℕ, _+_, _*_, _/_, _%_}
+use Prim.Native.Nat.{ℕ, _+_, _/_, _%_}
 use mathlib.Core.List.{List, [], _∷_, _++_, map}
 use lib.ListN.{length, take, set, replicate}
 use Rattle.model.specs.Rules.{from-all}

@@ -1,19 +1,18 @@
 -- Document 01, "Closed tables": what each state wants; refusal 8 (open).
 use Prim.Native.Nat.{ℕ, zero, suc, _+_, _-_}
-use mathlib.Core.Bool.{Bool, true, false, not, _&&_, _||_}
+use mathlib.Core.Bool.{Bool, true, false, not, _&&_}
 use mathlib.Core.List.{List, [], _∷_}
 use mathlib.Core.Option.{Option, some, none}
 use lib.ListN.{getD, replicate}
-use lib.Dec.{ltb, eqb}
+use lib.Dec.{eqb}
 use Rattle.model.specs.declared.Sizes.{Sizes}
-use Rattle.model.specs.declared.Verdict.{Verdict}
 use Rattle.model.specs.declared.Verdict.the-variants.{Open}
 use Rattle.model.specs.Limits.{maxDepth}
-use Rattle.model.specs.Index.{implies, any, all, first}
+use Rattle.model.specs.Index.{implies, all, first}
 use Rattle.model.specs.Verdict.{Check, _>>_, unless}
 use Rattle.model.specs.Message.{tables-at}
 use Rattle.model.specs.Rows.{Program, size, tag, num, arity, pattern, past-items}
-use Rattle.model.specs.Heads.{Call, call-at, Head, head-at, gives, builds, makes, calls, sends, spawns, selfs, cases, receives, no-head, branch-body, is-class, parameters, body, takes, innermost, start}
+use Rattle.model.specs.Heads.{Call, call-at, head-at, gives, builds, makes, calls, sends, spawns, selfs, cases, receives, no-head, branch-body, is-class, parameters, body, takes, innermost, start}
 use Rattle.model.specs.Tables.{Tables, has, each, some-of, State, state, state-at, has-state}
 
 -- the row of subpattern i of the constructor pattern at row q, which may be d levels deep

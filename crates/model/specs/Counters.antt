@@ -4,7 +4,6 @@ use mathlib.Core.Bool.{Bool, true, false, _&&_}
 use mathlib.Core.Option.{Option, some, none}
 use lib.Dec.{leb, ltb, eqb}
 use Rattle.model.specs.declared.Sizes.{Sizes}
-use Rattle.model.specs.declared.Verdict.{Verdict}
 use Rattle.model.specs.declared.Verdict.the-variants.{Counters}
 use Rattle.model.specs.Limits.{maxCounters}
 use Rattle.model.specs.Index.{any, count}
@@ -13,7 +12,7 @@ use Rattle.model.specs.Verdict.{Check, unless}
 use Rattle.model.specs.Message.{tables-at}
 use Rattle.model.specs.Rows.{Program, size}
 use Rattle.model.specs.Letters.{letters, row-letter}
-use Rattle.model.specs.Tables.{Tables, State, state, state-index, has-state}
+use Rattle.model.specs.Tables.{Tables, state, state-index, has-state}
 use Rattle.model.specs.Bads.{Counted, state-of, letter-of}
 
 -- (class, letter) as one number, in ascending order of the pairs

@@ -2,12 +2,11 @@
 use Prim.Native.Nat.{ℕ, _+_, _*_, _≤_, _<_}
 use mathlib.Core.Logic.{_↔_, _⊎_}
 use mathlib.Core.Path.{_≡_}
-use mathlib.Core.Bool.{Bool, true, false}
+use mathlib.Core.Bool.{Bool, true}
 use mathlib.Core.List.{List, [], _∷_, _++_, List·Memᴰ}
 use mathlib.Core.Option.{Option, some, none}
 use lib.ListN.{length, take, getD, replicate}
 use Rattle.model.specs.declared.Sizes.{Sizes}
-use Rattle.model.specs.declared.Verdict.{Verdict}
 use Rattle.model.specs.declared.Verdict.the-variants.{Safe}
 use Rattle.model.specs.Limits.{maxRows, maxNames, maxConstructors, maxFunctions, maxBads, minBadRows, maxBadRows, maxFlows, maxMails, maxStates, maxBounds, maxBoundEntries, maxCounters, omega-limit}
 use Rattle.model.specs.Words.{Columns, left, right}
@@ -20,7 +19,7 @@ use Rattle.model.specs.Values.{Processes}
 use Rattle.model.specs.Run.{step-of, run}
 use Rattle.model.specs.Letters.{processes-at, messages-of}
 use Rattle.model.specs.Bads.{bad-step, bad, bad-row, met, state-of, letter-of}
-use Rattle.model.specs.Tables.{Tables, is-value}
+use Rattle.model.specs.Tables.{is-value}
 use Rattle.model.specs.Wanted.{Closed}
 use Rattle.model.specs.Counters.{counter-count}
 use Rattle.model.specs.Rules.{Rule, rules}

@@ -1,14 +1,14 @@
 -- What stands at a head, taken from the rows once: the run, the closed tables and the rules all go by it.
 use Prim.Native.Nat.{ℕ, zero, suc, _+_}
-use mathlib.Core.Bool.{Bool, true, false, _&&_, _||_}
+use mathlib.Core.Bool.{Bool, _&&_, _||_}
 use mathlib.Core.List.{List, [], _∷_}
-use mathlib.Core.Option.{Option, some, none}
-use lib.ListN.{length, take, drop}
+use mathlib.Core.Option.{Option}
+use lib.ListN.{take, drop}
 use lib.Dec.{ltb, eqb}
 use Rattle.model.specs.Index.{last}
 use Rattle.model.specs.Limits.{maxDepth}
-use Rattle.model.specs.Rows.{Program, size, tag, num, kind, Item, header, expression, pattern, body-form, branch, arity, declarations, past-items}
-use Rattle.model.specs.Rows.{Kind, give, build, function, call, send, spawn, self, case, receive, other}
+use Rattle.model.specs.Rows.{Program, size, tag, num, kind, header, expression, pattern, body-form, branch, arity, declarations, past-items}
+use Rattle.model.specs.Rows.{give, build, function, call, send, spawn, self, case, receive, other}
 use Rattle.model.specs.Scopes.{rest}
 
 -- n numbers from row r on: names read or bound there

@@ -1,10 +1,9 @@
 -- Document 01, "The system": the listing as 32-bit words, and back; refusal 14 (space).
-use Prim.Native.Nat.{ℕ, zero, suc, _+_, _*_}
-use mathlib.Core.Bool.{Bool, true, false}
+use Prim.Native.Nat.{ℕ, zero, suc, _+_}
+use mathlib.Core.Bool.{true, false}
 use mathlib.Core.List.{List, [], _∷_, _++_, map}
-use lib.ListN.{length, getD, take, drop}
+use lib.ListN.{length, getD, drop}
 use lib.Dec.{leb, eqb}
-use Rattle.model.specs.declared.Verdict.{Verdict}
 use Rattle.model.specs.declared.Verdict.the-variants.{Space}
 use Rattle.model.specs.Verdict.{Check, unless}
 use Rattle.model.specs.Words.{Columns, left, right, columns}

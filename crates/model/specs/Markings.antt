@@ -6,7 +6,7 @@ use mathlib.Core.Option.{Option, some, none}
 use lib.Dec.{leb, eqb}
 use Rattle.model.specs.Rows.{Program, size}
 use Rattle.model.specs.Heads.{start}
-use Rattle.model.specs.Tables.{Tables, State, state, state-index}
+use Rattle.model.specs.Tables.{Tables, state, state-index}
 use Rattle.model.specs.Bads.{Counted}
 use Rattle.model.specs.Counters.{counter-of}
 use Rattle.model.specs.Rules.{Effect, quiet, reads, puts, starts, Rule}

@@ -1,12 +1,11 @@
 -- Document 01, "The message": four parts back to back, their sizes, limits and positions; refusals 1 (length) and 2 (size).
 use Prim.Native.Nat.{ℕ, _+_, _*_}
-use mathlib.Core.Bool.{Bool, true, false, _&&_}
+use mathlib.Core.Bool.{true, false, _&&_}
 use mathlib.Core.List.{List, [], _∷_}
-use mathlib.Core.Option.{Option, some, none}
+use mathlib.Core.Option.{some, none}
 use lib.ListN.{length, getD}
 use lib.Dec.{leb}
 use Rattle.model.specs.declared.Sizes.{Sizes}
-use Rattle.model.specs.declared.Verdict.{Verdict}
 use Rattle.model.specs.declared.Verdict.the-variants.{Length, Size}
 use Rattle.model.specs.Limits.{maxRows, maxNames, maxConstructors, maxFunctions, maxBads, minBadRows, maxBadRows, maxFlows, maxMails, maxStates, maxBounds, maxBoundEntries}
 use Rattle.model.specs.Words.{words}

@@ -2,16 +2,15 @@
 use Prim.Native.Nat.{ℕ, zero, suc, _+_, _-_}
 use mathlib.Core.Bool.{Bool, true, false, _&&_, _||_}
 use mathlib.Core.List.{List, [], _∷_, _++_}
-use mathlib.Core.Option.{Option, some, none, Option·map}
+use mathlib.Core.Option.{Option, none, Option·map}
 use lib.ListN.{getD, replicate}
 use lib.Dec.{leb, ltb, eqb}
 use Rattle.model.specs.declared.Sizes.{Sizes}
-use Rattle.model.specs.declared.Verdict.{Verdict}
 use Rattle.model.specs.declared.Verdict.the-variants.{Row}
 use Rattle.model.specs.Limits.{maxArity, maxBranches, maxDepth}
 use Rattle.model.specs.Words.{Columns, left, right, columns}
 use Rattle.model.specs.Verdict.{Check}
-use Rattle.model.specs.Reader.{Read, Grammar, fits, read, after, first-wrong}
+use Rattle.model.specs.Reader.{Grammar, fits, read, after, first-wrong}
 
 -- "Program: R rows, V names, C constructors, G functions; R tags, R numbers"
 pub record Program : Type 0 where

@@ -1,14 +1,13 @@
 -- Document 01, "How a station runs": one step of a numbered process, the run by a list of numbers, and its counts.
 use Prim.Native.Nat.{ℕ, _+_}
-use mathlib.Core.Bool.{Bool, true, false, _&&_}
+use mathlib.Core.Bool.{true, false}
 use mathlib.Core.List.{List, [], _∷_, _++_}
 use mathlib.Core.Option.{Option, some, none}
 use lib.ListN.{length, getElem?, set}
-use lib.Dec.{eqb}
 use Rattle.model.specs.Rows.{Program, size}
-use Rattle.model.specs.Heads.{Call, call-at, Head, head-at, gives, builds, makes, calls, sends, spawns, selfs, cases, receives, no-head, parameters, body, takes, start}
+use Rattle.model.specs.Heads.{call-at, head-at, gives, builds, makes, calls, sends, spawns, selfs, cases, receives, no-head, parameters, body, takes, start}
 use Rattle.model.specs.Values.{Value, closure, built, address, Bindings, empty, bind, value-of, values-of, bind-all, Frame, Process, process, Processes}
-use Rattle.model.specs.Matching.{Taken, first-branch, Received, receive-from}
+use Rattle.model.specs.Matching.{first-branch, receive-from}
 
 unfoldable pub _>>=_ : {A B : Type 0} → Option A → (A → Option B) → Option B
 _>>=_ none f = none

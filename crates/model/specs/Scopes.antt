@@ -1,14 +1,13 @@
 -- Document 01, "Program rows": where names are bound and where they hold; refusals 4 (name) and 5 (scope).
 use Prim.Native.Nat.{ℕ, _+_}
 use mathlib.Core.Bool.{Bool, true, false, not, _&&_, _||_}
-use mathlib.Core.List.{List, [], _∷_}
-use mathlib.Core.Option.{Option, some, none}
+use mathlib.Core.List.{[], _∷_}
+use mathlib.Core.Option.{none}
 use lib.Dec.{leb, ltb, eqb}
-use Rattle.model.specs.declared.Verdict.{Verdict}
 use Rattle.model.specs.declared.Verdict.the-variants.{Name, Scope}
-use Rattle.model.specs.Index.{implies, any, all, first}
+use Rattle.model.specs.Index.{any, all, first}
 use Rattle.model.specs.Verdict.{Check, _>>_, unless}
-use Rattle.model.specs.Rows.{Program, size, tag, num, kind, is-head, lead, Item, expression, past-items}
+use Rattle.model.specs.Rows.{Program, size, tag, num, kind, is-head, lead, expression, past-items}
 
 -- "name bound": the rows with tags 2 to 7, 11, 23 and 30
 unfoldable pub binds : ℕ → Bool

@@ -1,10 +1,9 @@
 -- Document 01, "Closed tables": the flow, mail and state lists; refusal 7 (entry).
 use Prim.Native.Nat.{ℕ, _+_, _-_}
-use mathlib.Core.Bool.{Bool, true, false, not, _&&_, _||_}
+use mathlib.Core.Bool.{Bool, not, _&&_, _||_}
 use mathlib.Core.List.{List}
 use lib.Dec.{ltb, eqb}
 use Rattle.model.specs.declared.Sizes.{Sizes}
-use Rattle.model.specs.declared.Verdict.{Verdict}
 use Rattle.model.specs.declared.Verdict.the-variants.{Entry}
 use Rattle.model.specs.Index.{implies, any, all, first}
 use Rattle.model.specs.Words.{Columns, left, right, columns}

@@ -1,10 +1,10 @@
 -- Document 01, "Closed tables", said outright: each sentence is a way to want an entry, and tables are closed when each wanted entry is there.
 -- (Closed.antt says the same as a test.)
-use Prim.Native.Nat.{ℕ, zero, suc, _+_, _<_}
+use Prim.Native.Nat.{ℕ, zero, suc, _<_}
 use mathlib.Core.Path.{_≡_}
-use mathlib.Core.Bool.{Bool, true, false}
-use mathlib.Core.List.{List, [], _∷_, List·Memᴰ}
-use mathlib.Core.Option.{Option, some, none}
+use mathlib.Core.Bool.{true, false}
+use mathlib.Core.List.{List, List·Memᴰ}
+use mathlib.Core.Option.{some}
 use lib.ListN.{getD}
 use lib.Dec.{eqb}
 use Rattle.model.specs.Limits.{maxDepth}
