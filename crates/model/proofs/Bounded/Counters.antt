@@ -6,7 +6,6 @@ use mathlib.Core.Bool.{true, _&&_}
 use mathlib.Core.Option.{some, Option·some-injective, Option·none-ne-some}
 use lib.Dec.{ltb}
 use borrow.Author.Tests.{ltb-true}
-use Rattle.model.specs.Index.{count}
 use Rattle.model.specs.Rows.{Program}
 use Rattle.model.specs.Letters.{letters}
 use Rattle.model.specs.Tables.{Tables, State, state, state-index, has-state}

@@ -3,7 +3,7 @@
 use Prim.Native.Nat.{ℕ, _≤_, _<_}
 use mathlib.Core.Path.{_≡_, refl}
 use mathlib.Core.Bool.{true}
-use mathlib.Core.Logic.{_↔_}
+use mathlib.Core.Logic.{_↔_, Iff·trans}
 use mathlib.Core.List.{List, List·Memᴰ}
 use mathlib.Core.Option.{some, none}
 use Rattle.model.specs.declared.Verdict.{Verdict}
@@ -21,7 +21,9 @@ use Rattle.model.specs.Bounds.{bound-entries, bound-step, bounds-of, bou
 use Rattle.model.specs.Verify.{Message, message, bounds-check}
 use Rattle.model.specs.Demands.{Bytes, Listed, Under-one, Met, Inductive}
 use Rattle.model.proofs.Bounded.Words.{short-words, short-minimum, short-limit}
-use Rattle.model.proofs.Bounded.Checks.{map-exact, then-exact}
+use Rattle.model.proofs.Exact.Checks.{then-iff}
+use Rattle.model.proofs.Exact.Entries.{bound-none}
+use Rattle.model.proofs.Exact.Sound.{tests-of-bounds}
 use Rattle.model.proofs.Bounded.Counters.{Keys}
 use Rattle.model.proofs.Bounded.Keys.{keys-below, program-end}
 use Rattle.model.proofs.Bounded.Met.{Bad-met, met-check-exact, met-check-refuses}
@@ -56,8 +58,7 @@ module _ (bytes : List ℕ) (short : Bytes bytes) where
   Bounds-in-form = first-wrong (bound-step (m .bounds .counters)) (bound-entries (m .words) (m .sizes)) (bounds-of (m .sizes .bounds)) ≡ none
 
   bound-check-exact : (bound-check (m .words) (m .sizes) (counter-count (m .program) (m .tables)) ≡ none) ↔ Bounds-in-form
-  unfolding bound-check
-  bound-check-exact = rw (← counters) (map-exact _ (first-wrong (bound-step (m .bounds .counters)) (bound-entries (m .words) (m .sizes)) (bounds-of (m .sizes .bounds))))
+  bound-check-exact = rw (← counters) (bound-none (m .words) (m .sizes) (m .bounds .counters))
 
   module _ (keys : Keys (m .program) (m .tables)) where
     shaped : (ρ : Rule) → List·Memᴰ ρ (rules (m .program) (m .tables)) → Shaped (m .bounds .counters) ρ
@@ -75,21 +76,14 @@ module _ (bytes : List ℕ) (short : Bytes bytes) where
     pub leak-refuses : (v : Verdict) → leak-check (m .words) (m .sizes) (m .bounds) (rules (m .program) (m .tables)) ≡ some v → Leaks (m .words) (m .sizes) (m .bounds) (rules (m .program) (m .tables)) v
     leak-refuses = leak-check-refuses (m .bounds) (rules (m .program) (m .tables)) limits shaped (m .words) (m .sizes)
 
+    -- refusals 11 to 13
+    pub tests-exact : (tests-of-bounds m ≡ none) ↔ Inductive m
+    tests-exact =
+        Iff·trans (then-iff _ _ (start-check-exact (m .sizes) (m .program) (m .tables) (m .bounds)) (then-iff _ _ met-exact leak-exact)) (
+          λ h. let (start, (meets, keeps)) = h in record { contain-start = start; kept = keeps; meet-no-bad = meets },
+          λ i. (i .contain-start, (i .meet-no-bad, i .kept)),
+        )
+
     pub bounds-check-exact : (bounds-check m ≡ none) ↔ (Bounds-in-form × Inductive m)
     unfolding bounds-check
-    bounds-check-exact =
-        let start = start-check-exact (m .sizes) (m .program) (m .tables) (m .bounds) in (
-          λ h.
-              let (form, h₁) = then-exact _ _ .0 h in
-              let (starts, h₂) = then-exact _ _ .0 h₁ in
-              let (meets, keeps) = then-exact _ _ .0 h₂ in
-              (bound-check-exact .0 form, record { contain-start = start .0 starts; kept = leak-exact .0 keeps; meet-no-bad = met-exact .0 meets }),
-          λ h. let (form, inductive) = h in
-              then-exact _ _ .1 (
-                bound-check-exact .1 form,
-                then-exact _ _ .1 (
-                  start .1 (inductive .contain-start),
-                  then-exact _ _ .1 (met-exact .1 (inductive .meet-no-bad), leak-exact .1 (inductive .kept)),
-                ),
-              ),
-        )
+    bounds-check-exact = then-iff _ _ bound-check-exact tests-exact

@@ -10,11 +10,11 @@ use borrow.Author.Tests.{eqb-true, eq-eqb}
 use Rattle.model.specs.Index.{gather, only}
 use Rattle.model.specs.Words.{Columns, left, right}
 use Rattle.model.specs.Rows.{Program}
-use Rattle.model.specs.Heads.{Head, head-at, gives, builds, makes, calls, sends, spawns, selfs, cases, receives, no-head, is-class, takes, innermost}
+use Rattle.model.specs.Heads.{Head, head-at, gives, builds, makes, calls, sends, spawns, selfs, cases, receives, no-head, is-class, innermost}
 use Rattle.model.specs.Letters.{letters, row-letter}
-use Rattle.model.specs.Tables.{Tables, some-of, State, state, state-at}
+use Rattle.model.specs.Tables.{Tables, some-of, State, state-at}
 use Rattle.model.specs.Counters.{letter-key, has-letter, counter-count}
-use Rattle.model.specs.Rules.{reads, Rule, rule, from-each, from-all, from-letters, letter-of-some, state-rules, rules}
+use Rattle.model.specs.Rules.{Rule, from-each, from-all, from-letters, letter-of-some, state-rules, rules}
 use Rattle.model.proofs.Logic.{and-left, and-right}
 use Rattle.model.proofs.Index.{any-intro, any-elim, gather-elim, only-elim}
 use Rattle.model.proofs.Reader.{by-option}

@@ -11,7 +11,7 @@ use Rattle.model.specs.Limits.{omega-limit}
 use Rattle.model.specs.Markings.{Marking}
 use Rattle.model.specs.Bounds.{Bound, Bounds, allowed, under, under-some, highest}
 use Rattle.model.specs.Demands.{Under, Under-one}
-use Rattle.model.proofs.Logic.{test, or-cases, or-left, or-right}
+use Rattle.model.proofs.Logic.{or-cases, or-left, or-right}
 use Rattle.model.proofs.Index.{any-intro, any-elim, all-intro, all-elim}
 
 -- a count that a limit allows
