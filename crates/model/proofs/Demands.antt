@@ -18,8 +18,9 @@ use Rattle.model.proofs.Exact.Sound
 use Rattle.model.proofs.Parse.Lengths.{Columns-whole}
 use Rattle.model.proofs.Listed.{listed-system}
 use Rattle.model.proofs.Runs.{all-runs-followed}
-use Rattle.model.proofs.Bounded.Keys.{letter-below, program-end}
-use Rattle.model.proofs.Bounded.Exact.{message-keys, tests-exact}
+use Rattle.model.proofs.Rows.{program-end}
+use Rattle.model.proofs.Numbering.Counters.{row-letter-low}
+use Rattle.model.proofs.Bounded.Exact.{message-built, message-keys, tests-exact}
 
 -- what an answer other than safe gives
 not-safe : {A : Type 0} (v : Verdict) (a b : A) → (v ≡ Safe → ⊥) → if-safe v a b ≡ b
@@ -72,10 +73,10 @@ rows-whole bytes h =
     let n : ℕ = sizes (words bytes) .rows in
     record { tags = column-whole (words bytes) n 4 (omega arith); numbers = column-whole (words bytes) n (4 + n) (omega arith) }
 
--- no row past the end has a tag
-past-the-end : (bytes : List ℕ) (r : ℕ) → size (message bytes .program) ≤ r → tag (message bytes .program) r ≡ 0
+-- the row past the end has no tag
+past-the-end : (bytes : List ℕ) → tag (message bytes .program) (size (message bytes .program)) ≡ 0
 unfolding message
-past-the-end bytes r h = program-end (words bytes) (sizes (words bytes)) r h
+past-the-end bytes = program-end (words bytes) (sizes (words bytes)) _ (omega arith)
 
 -- Demand 3
 pub runs-stay-counted : Runs-stay-counted
@@ -85,5 +86,5 @@ runs-stay-counted bytes lent short safe =
     let w = rows-whole bytes (sound .whole) in
     subst (All-runs-followed m)
     (sym (ap listed-rules (system-written bytes lent safe) ∙ listed-system (m .program) (m .tables) lent))
-    (all-runs-followed m (sound .program .rows-fit) w (past-the-end bytes (size (m .program)) (omega arith))
-    (letter-below (m .program) (past-the-end bytes) (sound .program .rows-fit)) (sound .closed) (sound .bounded))
+    (all-runs-followed m (sound .program .rows-fit) w (past-the-end bytes)
+    (row-letter-low (m .program) (message-built bytes (sound .program .rows-fit))) (sound .closed) (sound .bounded))

@@ -2,6 +2,7 @@ pub mod Cases
 pub mod Logic
 pub mod Index
 pub mod Reader
+pub mod Rows
 pub mod Heads
 pub mod Exact
 pub mod Listed

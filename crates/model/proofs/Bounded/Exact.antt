@@ -1,6 +1,7 @@
 -- Refusals 10 to 13 are exact: they refuse nothing exactly where the bounds are in form and are an inductive invariant of the system that no
 -- bad meets; and what refusals 12 and 13 tell.
-use Prim.Native.Nat.{ℕ, _≤_, _<_}
+use Prim.Native.Nat.{ℕ, _+_, _≤_, _<_}
+use native.Mathlib.Omega.{arith}
 use mathlib.Core.Path.{_≡_, refl}
 use mathlib.Core.Bool.{true}
 use mathlib.Core.Logic.{_↔_, Iff·trans}
@@ -11,7 +12,7 @@ use Rattle.model.specs.Limits.{omega-limit}
 use Rattle.model.specs.Words.{words, right}
 use Rattle.model.specs.Message.{sizes}
 use Rattle.model.specs.Reader.{first-wrong}
-use Rattle.model.specs.Rows.{step, whole}
+use Rattle.model.specs.Rows.{tag, num, step, whole}
 use Rattle.model.specs.Heads.{is-class}
 use Rattle.model.specs.Tables.{is-value}
 use Rattle.model.specs.Counters.{counter-count}
@@ -24,17 +25,26 @@ use Rattle.model.proofs.Bounded.Words.{short-words, short-minimum, shor
 use Rattle.model.proofs.Exact.Checks.{then-iff}
 use Rattle.model.proofs.Exact.Entries.{bound-none}
 use Rattle.model.proofs.Exact.Sound.{tests-of-bounds}
-use Rattle.model.proofs.Bounded.Counters.{Keys}
-use Rattle.model.proofs.Bounded.Keys.{keys-below, program-end}
+use Rattle.model.proofs.Rows.{tag-inside}
+use Rattle.model.proofs.Parse.Lengths.{built-below}
+use Rattle.model.proofs.Numbering.Letters.{Keys}
+use Rattle.model.proofs.Numbering.Counters.{listed-keys}
 use Rattle.model.proofs.Bounded.Met.{Bad-met, met-check-exact, met-check-refuses}
 use Rattle.model.proofs.Bounded.Fire.{Shaped}
 use Rattle.model.proofs.Bounded.Shaped.{rules-shaped}
 use Rattle.model.proofs.Bounded.Leak.{Leaks, start-check-exact, leak-check-exact, leak-check-refuses}
 
+-- the constructor that a row of a message builds, where its rows fit
+pub message-built : (bytes : List ℕ) → first-wrong (step (message bytes .program)) (message bytes .program .rows) (whole (message bytes .program)) ≡ none → (v : ℕ) → tag (message bytes .program) v ≡ 2 → num (message bytes .program) (v + 1) < message bytes .program .constructors
+unfolding message
+message-built bytes fit v t = built-below (message bytes .program) fit v (tag-inside (words bytes) (sizes (words bytes)) v (omega arith)) t
+
 -- the keys of mail of a message whose rows fit and whose mail is in range
 pub message-keys : (bytes : List ℕ) → first-wrong (step (message bytes .program)) (message bytes .program .rows) (whole (message bytes .program)) ≡ none → Listed (is-class (message bytes .program)) (is-value (message bytes .program)) (message bytes .tables .mail) → Keys (message bytes .program) (message bytes .tables)
 unfolding message
-message-keys bytes fit mail = keys-below (message bytes .program) (program-end (words bytes) (sizes (words bytes))) fit (message bytes .tables) mail
+message-keys bytes fit mail =
+    listed-keys (message bytes .program) (message bytes .tables)
+    (λ r t. tag-inside (words bytes) (sizes (words bytes)) r (omega arith)) (message-built bytes fit) mail
 
 module _ (bytes : List ℕ) (short : Bytes bytes) where
   abbrev m : Message

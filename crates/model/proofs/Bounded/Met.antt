@@ -23,7 +23,8 @@ use Rattle.model.specs.Demands.{Under, Under-one}
 use Rattle.model.proofs.Logic.{true-false, test, not-failing, and-left, and-right, and-intro}
 use Rattle.model.proofs.Index.{any-none, any-elim}
 use Rattle.model.proofs.Bounded.Under.{below-highest, highest-under-one}
-use Rattle.model.proofs.Bounded.Counters.{Keys, counter-below}
+use Rattle.model.proofs.Numbering.Letters.{Keys}
+use Rattle.model.proofs.Numbering.Counters.{counter-below-of}
 use Rattle.model.proofs.Exact.Checks.{first-none, first-some}
 
 -- counts that are as high, or past every minimum, meet what the lower ones meet
@@ -79,7 +80,7 @@ module _ (p : Program) (t : Tables) (bs : Bounds) (rows : Columns) where
     highest-meet k m r u h =
         met-from-higher (count-in p t m) (count-in p t (highest (bs .limit k))) rows (rows .size - r) r
         (λ c. higher-standing m (highest (bs .limit k)) (bs .counters) (counter-of p t c)
-        (λ y e. rw counters (counter-below p t keys c y e))
+        (λ y e. rw counters (counter-below-of p t keys c y e))
         (λ y below. ⊎-elim (λ z. inl z) (λ z. inr (omega arith)) (below-highest (bs .limit k) y (m y) (u y below))))
         short h
 

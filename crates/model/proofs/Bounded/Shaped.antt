@@ -18,7 +18,7 @@ use Rattle.model.specs.Rules.{Rule, from-each, from-all, from-letters, l
 use Rattle.model.proofs.Logic.{and-left, and-right}
 use Rattle.model.proofs.Index.{any-intro, any-elim, gather-elim, only-elim}
 use Rattle.model.proofs.Reader.{by-option}
-use Rattle.model.proofs.Bounded.Counters.{Keys, letter-index-from, letter-index-below}
+use Rattle.model.proofs.Numbering.Letters.{Keys, letter-index-behind, letter-index-below}
 use Rattle.model.proofs.Bounded.Fire.{Shaped}
 
 -- each element of a list has the property; what the ways to make a list hand on
@@ -95,7 +95,7 @@ module _ (p : Program) (t : Tables) where
         (each-from-all Good qs _
         (λ q. each-from-letters Good p _ _
         (λ l v. let c : ℕ = s .class in
-        let behind = letter-index-from p t c l in
+        let behind = letter-index-behind p t c l in
         (below-all, (letter-index-below p t keys c l (letter-of-mail c l _ v), λ z. omega arith)))))
     head-shaped no-head e = rw (e, state-rules) (each-none Good)
 

@@ -9,10 +9,10 @@ use lib.Dec.{eqb}
 use borrow.Author.Tests.{eqb-true, eq-eqb}
 use Rattle.model.specs.Index.{count}
 use Rattle.model.specs.Words.{left, right}
-use Rattle.model.specs.Rows.{Program}
+use Rattle.model.specs.Rows.{Program, size}
 use Rattle.model.specs.Letters.{letters, row-letter}
 use Rattle.model.specs.Tables.{Tables}
-use Rattle.model.specs.Counters.{letter-key, has-letter, letter-index}
+use Rattle.model.specs.Counters.{letter-key, letter-keys, has-letter, letter-count, counter-count, letter-index}
 use Rattle.model.specs.Wanted.{Member}
 use Rattle.model.proofs.Logic.{test}
 use Rattle.model.proofs.Index.{any-elim, any-intro, count-end, count-hit, count-split, count-last, count-last-miss}
@@ -81,7 +81,23 @@ module _ (p : Program) (t : Tables) where
   letter-index-injective c l c′ l′ b b′ h h′ e =
       letter-key-injective p c l c′ l′ b b′ (count-injective (letter-key p c l) (letter-key p c′ l′) (has-letter p t) h h′ (omega arith))
 
-  -- letter counters stand behind the state counters
+  -- the keys of mail lie below their count
+  abbrev pub Keys : Type 0
+  Keys = (k : ℕ) → has-letter p t k ≡ true → k < letter-keys p
+
+  -- as they do where the classes and letters of mail are low
+  pub low-keys : ((i : ℕ) → i < t .mail .size → left (t .mail) i ≤ size p) → ((i : ℕ) → i < t .mail .size → row-letter p (right (t .mail) i) < letters p) → Keys
+  unfolding letter-keys letter-key
+  low-keys class-low letter-low k h =
+      let (i, b, e) = letter-entry k h in
+      omega (arith, letter-low i b, key-room (letters p) (left (t .mail) i) (size p + 1) (omega (arith, class-low i b)))
+
+  -- letter counters lie below the count of all, and stand behind the state counters
+  pub letter-index-below : Keys → (c l : ℕ) → has-letter p t (letter-key p c l) ≡ true → letter-index p t c l < counter-count p t
+  unfolding letter-index counter-count letter-count
+  letter-index-below keys c l h =
+      omega (arith, count-before (letter-key p c l) (letter-keys p) (has-letter p t) (keys (letter-key p c l) h) h)
+
   pub letter-index-behind : (c l : ℕ) → t .states .size ≤ letter-index p t c l
   unfolding letter-index
   letter-index-behind c l = omega arith

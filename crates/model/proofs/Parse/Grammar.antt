@@ -5,7 +5,7 @@ use mathlib.Core.Path.{_≡_, refl, sym, _∙_, ap}
 use mathlib.Core.Bool.{Bool, true, false, _&&_}
 use mathlib.Core.List.{List, [], _∷_, _++_}
 use mathlib.Core.Logic.{_⊎_, inl, inr, ⊎-elim}
-use mathlib.Core.Option.{some, Option·some-injective, Option·none-ne-some}
+use mathlib.Core.Option.{some, Option·none-ne-some}
 use lib.ListN.{replicate, List·getD-eq-default}
 use native.Mathlib.Decide.{decLt}
 use lib.Dec.{leb, eqb}
@@ -15,14 +15,9 @@ use Rattle.model.specs.Reader.{fits}
 use Rattle.model.specs.Rows.{Program, Kind, give, build, function, call, send, spawn, self, case, receive, other, kind, Item, constructor, global, header, parameter, expression, made, operand, arguments, branches, pattern, branch-items, lead, arity, is-name, expression-step, pattern-step, step}
 use Rattle.model.proofs.Logic.{test, and-left, and-right, or-cases}
 use Rattle.model.proofs.Index.{all-elim}
+pub use Rattle.model.proofs.Reader.{fits-some}
 
--- what fits passes its test
-pub fits-some : {I : Type 0} (b : Bool) (items more : List I) → fits b items ≡ some more → (b ≡ true) × (items ≡ more)
-unfolding fits
-fits-some true items more h = (refl, Option·some-injective items more h)
-fits-some false items more h = absurd (Option·none-ne-some more h)
-
--- ... and has its tag, where the test begins with that
+-- what fits has its tag, where the test begins with that
 pub fits-tag : {I : Type 0} (t k : ℕ) (b : Bool) (items more : List I) → fits (eqb t k && b) items ≡ some more → (t ≡ k) × (items ≡ more)
 fits-tag t k b items more h =
     let (passes, same) = fits-some (eqb t k && b) items more h in
