@@ -12,7 +12,7 @@ use Rattle.model.specs.Limits.{omega-limit}
 use Rattle.model.specs.Words.{words, right}
 use Rattle.model.specs.Message.{sizes}
 use Rattle.model.specs.Reader.{first-wrong}
-use Rattle.model.specs.Rows.{tag, num, step, whole}
+use Rattle.model.specs.Rows.{tag, num}
 use Rattle.model.specs.Heads.{is-class}
 use Rattle.model.specs.Tables.{is-value}
 use Rattle.model.specs.Counters.{counter-count}
@@ -26,6 +26,7 @@ use Rattle.model.proofs.Exact.Checks.{then-iff}
 use Rattle.model.proofs.Exact.Entries.{bound-none}
 use Rattle.model.proofs.Exact.Sound.{tests-of-bounds}
 use Rattle.model.proofs.Rows.{tag-inside}
+use Rattle.model.proofs.Parse.Reached.{Rows-fit}
 use Rattle.model.proofs.Parse.Lengths.{built-below}
 use Rattle.model.proofs.Numbering.Letters.{Keys}
 use Rattle.model.proofs.Numbering.Counters.{listed-keys}
@@ -35,12 +36,12 @@ use Rattle.model.proofs.Bounded.Shaped.{rules-shaped}
 use Rattle.model.proofs.Bounded.Leak.{Leaks, start-check-exact, leak-check-exact, leak-check-refuses}
 
 -- the constructor that a row of a message builds, where its rows fit
-pub message-built : (bytes : List ℕ) → first-wrong (step (message bytes .program)) (message bytes .program .rows) (whole (message bytes .program)) ≡ none → (v : ℕ) → tag (message bytes .program) v ≡ 2 → num (message bytes .program) (v + 1) < message bytes .program .constructors
+pub message-built : (bytes : List ℕ) → Rows-fit (message bytes .program) → (v : ℕ) → tag (message bytes .program) v ≡ 2 → num (message bytes .program) (v + 1) < message bytes .program .constructors
 unfolding message
 message-built bytes fit v t = built-below (message bytes .program) fit v (tag-inside (words bytes) (sizes (words bytes)) v (omega arith)) t
 
 -- the keys of mail of a message whose rows fit and whose mail is in range
-pub message-keys : (bytes : List ℕ) → first-wrong (step (message bytes .program)) (message bytes .program .rows) (whole (message bytes .program)) ≡ none → Listed (is-class (message bytes .program)) (is-value (message bytes .program)) (message bytes .tables .mail) → Keys (message bytes .program) (message bytes .tables)
+pub message-keys : (bytes : List ℕ) → Rows-fit (message bytes .program) → Listed (is-class (message bytes .program)) (is-value (message bytes .program)) (message bytes .tables .mail) → Keys (message bytes .program) (message bytes .tables)
 unfolding message
 message-keys bytes fit mail =
     listed-keys (message bytes .program) (message bytes .tables)
