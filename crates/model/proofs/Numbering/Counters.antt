@@ -17,8 +17,9 @@ use Rattle.model.specs.Bads.{Counted, state-of, letter-of}
 use Rattle.model.specs.Counters.{letter-key, letter-keys, has-letter, letter-count, counter-count, letter-index, counter-of}
 use Rattle.model.specs.Demands.{Listed}
 use Rattle.model.proofs.Logic.{test, and-left, and-right, or-cases}
+use Rattle.model.proofs.Index.{count-reached}
 use Rattle.model.proofs.Numbering.States.{Ascending, member-has, index-below, state-index-injective, index-state-at}
-use Rattle.model.proofs.Numbering.Letters.{count-reached, letter-entry, member-letter, letter-index-injective, letter-index-behind, Keys, low-keys, letter-index-below}
+use Rattle.model.proofs.Numbering.Letters.{letter-entry, member-letter, letter-index-injective, letter-index-behind, Keys, low-keys, letter-index-below}
 pub use Rattle.model.proofs.Rows.{tag-inside}
 
 -- what number of counter belongs to what is counted, read both ways
