@@ -3,15 +3,18 @@ use Prim.Native.Nat.{ℕ, _+_, _≤_, _<_}
 use native.Mathlib.Decide.{decLt}
 use native.Mathlib.Omega.{arith}
 use mathlib.Core.Path.{_≡_, refl, sym, _∙_, ap}
+use mathlib.Core.Bool.{true}
+use mathlib.Core.Logic.{_⊎_, inl, inr, ⊎-elim}
 use mathlib.Core.List.{[], _∷_}
 use lib.ListN.{List·getD-eq-default}
 use lib.Dec.{eqb}
 use borrow.Author.Tests.{eqb-true}
 use Rattle.model.specs.Index.{all, allIn}
-use Rattle.model.specs.Rows.{Program, tag, num, arity, kind}
+use Rattle.model.specs.Rows.{Program, size, tag, num, arity, kind}
 use Rattle.model.specs.Rows.{Kind, give, build, function, call, send, spawn, self, case, receive, other}
 use Rattle.model.specs.Scopes.{rest}
-use Rattle.model.specs.Heads.{nums, call-at, branch-rows, head-at, gives, builds, makes, calls, sends, spawns, selfs, cases, receives, no-head}
+use Rattle.model.specs.Heads.{nums, call-at, branch-rows, head-at, gives, builds, makes, calls, sends, spawns, selfs, cases, receives, no-head, is-function, is-class}
+use Rattle.model.proofs.Logic.{or-cases}
 use Rattle.model.proofs.Index.{all-elim}
 
 -- by the kind, with its equation
@@ -82,6 +85,20 @@ tag-is t self e = kind-tag t self e (omega arith)
 tag-is t case e = kind-tag t case e (omega arith)
 tag-is t receive e = kind-tag t receive e (omega arith)
 tag-is t other e = tt
+
+-- a function's tag is 3 or 11
+pub function-tag : (p : Program) (f : ℕ) → is-function p f ≡ true → (tag p f ≡ 3) ⊎ (tag p f ≡ 11)
+unfolding is-function
+function-tag p f h =
+    ⊎-elim (λ e. inl (eqb-true (tag p f) 3 e)) (λ e. inr (eqb-true (tag p f) 11 e))
+    (or-cases (eqb (tag p f) 3) (eqb (tag p f) 11) h)
+
+-- a class is a row with tag 6, or R
+pub class-tag : (p : Program) (c : ℕ) → is-class p c ≡ true → (tag p c ≡ 6) ⊎ (c ≡ size p)
+unfolding is-class
+class-tag p c h =
+    ⊎-elim (λ e. inl (eqb-true (tag p c) 6 e)) (λ e. inr (eqb-true c (size p) e))
+    (or-cases (eqb (tag p c) 6) (eqb c (size p)) h)
 
 module _ (p : Program) (r : ℕ) where
   pub head-give : kind (tag p r) ≡ give → head-at p r ≡ gives (num p r)

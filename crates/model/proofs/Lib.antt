@@ -4,6 +4,7 @@ pub mod Index
 pub mod Reader
 pub mod Rows
 pub mod Heads
+pub mod Markings
 pub mod Exact
 pub mod Listed
 pub mod Numbering

@@ -16,7 +16,8 @@ use Rattle.model.specs.Tables.{Tables, is-value, state, state-at, state-
 use Rattle.model.specs.Bads.{Counted, state-of, letter-of}
 use Rattle.model.specs.Counters.{letter-key, letter-keys, has-letter, letter-count, counter-count, letter-index, counter-of}
 use Rattle.model.specs.Demands.{Listed}
-use Rattle.model.proofs.Logic.{test, and-left, and-right, or-cases}
+use Rattle.model.proofs.Logic.{test, and-left, and-right}
+use Rattle.model.proofs.Heads.{class-tag}
 use Rattle.model.proofs.Index.{count-reached}
 use Rattle.model.proofs.Numbering.States.{Ascending, member-has, index-below, state-index-injective, index-state-at}
 use Rattle.model.proofs.Numbering.Letters.{letter-entry, member-letter, letter-index-injective, letter-index-behind, Keys, low-keys, letter-index-below}
@@ -97,11 +98,7 @@ row-letter-low p built v =
     (λ f. rw (e, f, row-shape) (omega arith)))
 
 pub class-at-most : (p : Program) → ((r : ℕ) → tag p r ≡ 6 → r < size p) → (c : ℕ) → is-class p c ≡ true → c ≤ size p
-unfolding is-class
-class-at-most p inside c h =
-    ⊎-elim (λ (e : eqb (tag p c) 6 ≡ true). omega (arith, inside c (eqb-true (tag p c) 6 e)))
-    (λ (e : eqb c (size p) ≡ true). omega (arith, eqb-true c (size p) e))
-    (or-cases (eqb (tag p c) 6) (eqb c (size p)) h)
+class-at-most p inside c h = ⊎-elim (λ e. let b = inside c e in omega arith) (λ e. omega arith) (class-tag p c h)
 
 -- mail in form has its keys below their count
 pub listed-keys : (p : Program) (t : Tables) → ((r : ℕ) → tag p r ≡ 6 → r < size p) → ((v : ℕ) → tag p v ≡ 2 → num p (v + 1) < p .constructors) → Listed (is-class p) (is-value p) (t .mail) → Keys p t
