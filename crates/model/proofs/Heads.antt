@@ -1,4 +1,4 @@
--- What stands at a head, by its kind (specs/Heads.antt), and the tag of each kind.
+-- What stands at a head, by its kind (specs/Heads.antt), and the tag of each kind, of a function and of a class.
 use Prim.Native.Nat.{ℕ, _+_, _≤_, _<_}
 use native.Mathlib.Decide.{decLt}
 use native.Mathlib.Omega.{arith}

@@ -1,4 +1,4 @@
--- The counts after a message is put into a mailbox (`deliver` of specs/Run.antt).
+-- A message is put into a mailbox (`deliver` of specs/Run.antt): where, and the counts after it.
 use Prim.Native.Nat.{ℕ, zero, suc, _+_}
 use native.Mathlib.Omega.{arith}
 use mathlib.Core.Path.{_≡_, refl, sym, ap}

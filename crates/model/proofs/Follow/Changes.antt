@@ -1,4 +1,4 @@
--- What a step changes in the counts of a station, and what a rule changes in the counters.
+-- What a step changes in the counts of a station, and the rule that changes the counters so.
 use Prim.Native.Nat.{ℕ, _+_, _≤_, _<_}
 use mathlib.Core.Path.{_≡_}
 use mathlib.Core.Bool.{true}

@@ -1,4 +1,4 @@
--- Each (class, letter) of mail has a counter of its own (`letter-index` of specs/Counters.antt).
+-- Each (class, letter) of mail has a counter of its own (`letter-index` of specs/Counters.antt), below the count of all where its key is.
 use Prim.Native.Nat.{ℕ, _+_, _*_, _≤_, _<_}
 use native.Mathlib.Decide.{decLt}
 use native.Mathlib.Nat.{mul-le-mul-right}

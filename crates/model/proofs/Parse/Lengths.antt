@@ -1,4 +1,4 @@
--- The lists of names at a head are as long as the rows say.
+-- The lists of names at a head are as long as the rows say, and what a row builds has a constructor.
 use Prim.Native.Nat.{ℕ, _+_, _≤_, _<_}
 use native.Mathlib.Omega.{arith}
 use mathlib.Core.Path.{_≡_, _∙_, ap}
