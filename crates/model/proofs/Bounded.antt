@@ -1,9 +1,6 @@
 -- Refusals 10 to 13 are exact: the counts under the bounds hold the start, are kept by each rule and meet no bad.
 pub mod Words
-pub mod Checks
 pub mod Under
-pub mod Counters
-pub mod Keys
 pub mod Met
 pub mod Fire
 pub mod Shaped

@@ -2,9 +2,7 @@
 use Prim.Native.Nat.{ℕ, _+_, _*_, _≤_}
 use native.Mathlib.Omega.{arith}
 use mathlib.Core.Path.{_≡_, refl, sym, _∙_, ap, subst}
-use mathlib.Core.Logic.{_↔_, Iff·trans}
-use mathlib.Core.List.{List, []}
-use mathlib.Core.Option.{none}
+use mathlib.Core.List.{List}
 use lib.ListN.{length, take, drop, length-take, length-drop}
 use Rattle.model.specs.declared.Verdict.{Verdict}
 use Rattle.model.specs.declared.Verdict.the-variants.{Safe, Length, Size, Row, Name, Scope, Bad, Entry, Open, Counters, Ceiling, Start, Met, Leak, Space}
@@ -13,17 +11,16 @@ use Rattle.model.specs.Words.{words, columns}
 use Rattle.model.specs.Rows.{size, tag, program}
 use Rattle.model.specs.Listing.{listed-rules}
 use Rattle.model.specs.Verify.{message, verdict, if-safe, lent-after, part-handed}
-use Rattle.model.specs.Demands.{Bytes, All-runs-followed, Refusal-changes-nothing, Inductive, Safe-exactly, System-written, Runs-stay-counted}
+use Rattle.model.specs.Demands.{All-runs-followed, Refusal-changes-nothing, Safe-exactly, System-written, Runs-stay-counted}
 use Rattle.model.proofs.Exact.Parts.{words-length}
-use Rattle.model.proofs.Exact.Checks.{then-iff}
-use Rattle.model.proofs.Exact.Sound.{Formed, tests-of-bounds, Bounds-exactly}
+use Rattle.model.proofs.Exact.Sound.{Bounds-exactly}
 use Rattle.model.proofs.Exact.Sound
 use Rattle.model.proofs.Parse.Lengths.{Columns-whole}
 use Rattle.model.proofs.Listed.{listed-system}
 use Rattle.model.proofs.Runs.{all-runs-followed}
-use Rattle.model.proofs.Bounded.Leak.{start-check-exact}
-use Rattle.model.proofs.Bounded.Keys.{letter-below, program-end}
-use Rattle.model.proofs.Bounded.Exact.{message-keys, met-exact, leak-exact}
+use Rattle.model.proofs.Rows.{program-end}
+use Rattle.model.proofs.Numbering.Counters.{row-letter-low}
+use Rattle.model.proofs.Bounded.Exact.{message-built, message-keys, tests-exact}
 
 -- what an answer other than safe gives
 not-safe : {A : Type 0} (v : Verdict) (a b : A) → (v ≡ Safe → ⊥) → if-safe v a b ≡ b
@@ -55,15 +52,7 @@ refusal-changes-nothing =
 
 -- refusals 11 to 13 are exact
 bounds-exactly : Bounds-exactly
-bounds-exactly bytes short formed =
-    let m = message bytes in
-    let keys = message-keys bytes (formed .program .rows-fit) (formed .form .mail) in
-    Iff·trans
-    (then-iff _ _ (start-check-exact (m .sizes) (m .program) (m .tables) (m .bounds))
-    (then-iff _ _ (met-exact bytes short keys) (leak-exact bytes short keys))) (
-      λ h. let (start, (met, kept)) = h in record { contain-start = start; kept = kept; meet-no-bad = met },
-      λ i. (i .contain-start, (i .meet-no-bad, i .kept)),
-    )
+bounds-exactly bytes short formed = tests-exact bytes short (message-keys bytes (formed .program .rows-fit) (formed .form .mail))
 
 -- Demand 2
 pub safe-exactly : Safe-exactly
@@ -84,10 +73,10 @@ rows-whole bytes h =
     let n : ℕ = sizes (words bytes) .rows in
     record { tags = column-whole (words bytes) n 4 (omega arith); numbers = column-whole (words bytes) n (4 + n) (omega arith) }
 
--- no row past the end has a tag
-past-the-end : (bytes : List ℕ) (r : ℕ) → size (message bytes .program) ≤ r → tag (message bytes .program) r ≡ 0
+-- the row past the end has no tag
+past-the-end : (bytes : List ℕ) → tag (message bytes .program) (size (message bytes .program)) ≡ 0
 unfolding message
-past-the-end bytes r h = program-end (words bytes) (sizes (words bytes)) r h
+past-the-end bytes = program-end (words bytes) (sizes (words bytes)) _ (omega arith)
 
 -- Demand 3
 pub runs-stay-counted : Runs-stay-counted
@@ -97,5 +86,5 @@ runs-stay-counted bytes lent short safe =
     let w = rows-whole bytes (sound .whole) in
     subst (All-runs-followed m)
     (sym (ap listed-rules (system-written bytes lent safe) ∙ listed-system (m .program) (m .tables) lent))
-    (all-runs-followed m (sound .program .rows-fit) w (past-the-end bytes (size (m .program)) (omega arith))
-    (letter-below (m .program) (past-the-end bytes) (sound .program .rows-fit)) (sound .closed) (sound .bounded))
+    (all-runs-followed m (sound .program .rows-fit) w (past-the-end bytes)
+    (row-letter-low (m .program) (message-built bytes (sound .program .rows-fit))) (sound .closed) (sound .bounded))

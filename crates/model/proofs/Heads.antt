@@ -1,10 +1,21 @@
--- What stands at a head, by its kind (specs/Heads.antt), and the tag of each kind.
-use Prim.Native.Nat.{ℕ, zero, suc, _+_}
-use mathlib.Core.Path.{_≡_, refl, subst}
-use Rattle.model.specs.Rows.{Program, tag, num, arity, kind}
+-- What stands at a head, by its kind (specs/Heads.antt), and the tag of each kind, of a function and of a class.
+use Prim.Native.Nat.{ℕ, _+_, _≤_, _<_}
+use native.Mathlib.Decide.{decLt}
+use native.Mathlib.Omega.{arith}
+use mathlib.Core.Path.{_≡_, refl, sym, _∙_, ap}
+use mathlib.Core.Bool.{true}
+use mathlib.Core.Logic.{_⊎_, inl, inr, ⊎-elim}
+use mathlib.Core.List.{[], _∷_}
+use lib.ListN.{List·getD-eq-default}
+use lib.Dec.{eqb}
+use borrow.Author.Tests.{eqb-true}
+use Rattle.model.specs.Index.{all, allIn}
+use Rattle.model.specs.Rows.{Program, size, tag, num, arity, kind}
 use Rattle.model.specs.Rows.{Kind, give, build, function, call, send, spawn, self, case, receive, other}
 use Rattle.model.specs.Scopes.{rest}
-use Rattle.model.specs.Heads.{nums, call-at, branch-rows, Head, head-at, gives, builds, makes, calls, sends, spawns, selfs, cases, receives, no-head}
+use Rattle.model.specs.Heads.{nums, call-at, branch-rows, head-at, gives, builds, makes, calls, sends, spawns, selfs, cases, receives, no-head, is-function, is-class}
+use Rattle.model.proofs.Logic.{or-cases}
+use Rattle.model.proofs.Index.{all-elim}
 
 -- by the kind, with its equation
 pub by-kind {ℓ} : {A : Type ℓ} (k : Kind) → (k ≡ give → A) → (k ≡ build → A) → (k ≡ function → A) → (k ≡ call → A) → (k ≡ send → A) → (k ≡ spawn → A) → (k ≡ self → A) → (k ≡ case → A) → (k ≡ receive → A) → (k ≡ other → A) → A
@@ -19,6 +30,37 @@ by-kind case a b c d e f g h i j = h refl
 by-kind receive a b c d e f g h i j = i refl
 by-kind other a b c d e f g h i j = j refl
 
+-- the tag of a kind
+abbrev pub code : Kind → ℕ
+code give = 1
+code build = 2
+code function = 3
+code call = 4
+code send = 5
+code spawn = 6
+code self = 7
+code case = 8
+code receive = 9
+code other = 0
+
+-- a tag above 9 has no kind
+pub kind-other : (t : ℕ) → 9 < t → kind t ≡ other
+unfolding kind
+kind-other t h =
+    List·getD-eq-default (other ∷ give ∷ build ∷ function ∷ call ∷ send ∷ spawn ∷ self ∷ case ∷ receive ∷ []) other {n = t} (omega arith)
+
+-- the tags up to 9 are those of the kinds
+kind-code : (t : ℕ) → t ≤ 9 → code (kind t) ≡ t
+unfolding kind all allIn
+kind-code t h = eqb-true (code (kind t)) t (all-elim 0 10 t (λ k. eqb (code (kind k)) k) refl (omega arith) (omega arith))
+
+-- a tag whose kind is known
+pub kind-tag : (t : ℕ) (k : Kind) → kind t ≡ k → 0 < code k → t ≡ code k
+kind-tag t k e known = elim (decLt 9 t) [
+  | yes h ↦ let z : code k ≡ 0 = ap code (sym e ∙ kind-other t h) in absurd (omega arith)
+  | no h ↦ sym (kind-code t (omega arith)) ∙ ap code e
+]
+
 -- what the kind says of the tag
 abbrev pub Tagged : ℕ → Kind → Type 0
 Tagged t give = t ≡ 1
@@ -32,22 +74,31 @@ Tagged t case = t ≡ 8
 Tagged t receive = t ≡ 9
 Tagged t other = Unit {0}
 
-tagged : (t : ℕ) → Tagged t (kind t)
-unfolding kind
-tagged zero = tt
-tagged (suc zero) = refl
-tagged (suc (suc zero)) = refl
-tagged (suc (suc (suc zero))) = refl
-tagged (suc (suc (suc (suc zero)))) = refl
-tagged (suc (suc (suc (suc (suc zero))))) = refl
-tagged (suc (suc (suc (suc (suc (suc zero)))))) = refl
-tagged (suc (suc (suc (suc (suc (suc (suc zero))))))) = refl
-tagged (suc (suc (suc (suc (suc (suc (suc (suc zero)))))))) = refl
-tagged (suc (suc (suc (suc (suc (suc (suc (suc (suc zero))))))))) = refl
-tagged (suc (suc (suc (suc (suc (suc (suc (suc (suc (suc t)))))))))) = tt
-
 pub tag-is : (t : ℕ) (k : Kind) → kind t ≡ k → Tagged t k
-tag-is t k e = subst (Tagged t) e (tagged t)
+tag-is t give e = kind-tag t give e (omega arith)
+tag-is t build e = kind-tag t build e (omega arith)
+tag-is t function e = kind-tag t function e (omega arith)
+tag-is t call e = kind-tag t call e (omega arith)
+tag-is t send e = kind-tag t send e (omega arith)
+tag-is t spawn e = kind-tag t spawn e (omega arith)
+tag-is t self e = kind-tag t self e (omega arith)
+tag-is t case e = kind-tag t case e (omega arith)
+tag-is t receive e = kind-tag t receive e (omega arith)
+tag-is t other e = tt
+
+-- a function's tag is 3 or 11
+pub function-tag : (p : Program) (f : ℕ) → is-function p f ≡ true → (tag p f ≡ 3) ⊎ (tag p f ≡ 11)
+unfolding is-function
+function-tag p f h =
+    ⊎-elim (λ e. inl (eqb-true (tag p f) 3 e)) (λ e. inr (eqb-true (tag p f) 11 e))
+    (or-cases (eqb (tag p f) 3) (eqb (tag p f) 11) h)
+
+-- a class is a row with tag 6, or R
+pub class-tag : (p : Program) (c : ℕ) → is-class p c ≡ true → (tag p c ≡ 6) ⊎ (c ≡ size p)
+unfolding is-class
+class-tag p c h =
+    ⊎-elim (λ e. inl (eqb-true (tag p c) 6 e)) (λ e. inr (eqb-true c (size p) e))
+    (or-cases (eqb (tag p c) 6) (eqb c (size p)) h)
 
 module _ (p : Program) (r : ℕ) where
   pub head-give : kind (tag p r) ≡ give → head-at p r ≡ gives (num p r)

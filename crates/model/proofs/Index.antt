@@ -5,10 +5,9 @@ use native.Mathlib.Decide.{ℕ-discrete, decLt}
 use native.Mathlib.Omega.{arith}
 use mathlib.Core.Path.{_≡_, refl, sym, _∙_, ap, subst}
 use mathlib.Core.Bool.{Bool, true, false}
-use mathlib.Core.Logic.{_⊎_, inl, inr, ⊎-elim}
-use mathlib.Core.List.{List, [], _∷_, _++_, List·Memᴰ, Memᴰ·append-left, Memᴰ·append-right, List·Memᴰ·append-cases, List·Memᴰ·not-nil, List·Memᴰ·eq-of-singleton, List·Memᴰ·head, List·Memᴰ·tail}
-use mathlib.Core.Option.{Option, some, none, Option·some-injective, Option·none-ne-some}
-use lib.ListN.{length, length-append}
+use mathlib.Core.Logic.{_⊎_, ⊎-elim}
+use mathlib.Core.List.{List, [], _++_, List·Memᴰ, Memᴰ·append-left, Memᴰ·append-right, List·Memᴰ·append-cases, List·Memᴰ·not-nil, List·Memᴰ·eq-of-singleton, List·Memᴰ·head}
+use mathlib.Core.Option.{some, none, Option·some-injective, Option·none-ne-some}
 use Rattle.model.specs.Index.{anyIn, allIn, firstIn, countIn, gatherIn, any, all, first, count, gather, last, only}
 use Rattle.model.proofs.Logic.{true-false, test}
 
@@ -251,6 +250,34 @@ count-last-miss i e f h t =
     let m = count-miss e (e + 1) f (omega arith) t in
     omega arith
 
+-- an index that passes is counted before every later one
+pub count-before : (k e : ℕ) (f : ℕ → Bool) → k < e → f k ≡ true → count 0 k f < count 0 e f
+count-before k e f h t = omega (arith, count-split 0 k e f (omega arith) (omega arith), count-hit k e f h t)
+
+pub count-injective : (k k′ : ℕ) (f : ℕ → Bool) → f k ≡ true → f k′ ≡ true → count 0 k f ≡ count 0 k′ f → k ≡ k′
+count-injective k k′ f t t′ e = elim (decLt k k′) [
+  | yes a ↦ absurd (omega (arith, count-before k k′ f a t))
+  | no a ↦ elim (decLt k′ k) [
+    | yes b ↦ absurd (omega (arith, count-before k′ k f b t′))
+    | no b ↦ omega arith
+  ]
+]
+
+-- each number below the count is the count before some index that passes
+pub count-reached : (e x : ℕ) (f : ℕ → Bool) → x < count 0 e f → (k : ℕ) × (k < e) × (f k ≡ true) × (count 0 k f ≡ x)
+count-reached zero x f h = absurd (omega (arith, count-end 0 0 f (omega arith)))
+count-reached (suc e) x f h =
+    let s : suc e ≡ e + 1 = omega arith in
+    let b : x < count 0 (e + 1) f = rw s at h in
+    test (f e)
+    (λ t. let z = count-last 0 e f (omega arith) t in elim (decLt x (count 0 e f)) [
+      | yes a ↦ let (k, u, v, w) = count-reached e x f a in (k, omega arith, v, w)
+      | no a ↦ (e, omega arith, t, omega arith)
+    ])
+    (λ t. let z = count-last-miss 0 e f (omega arith) t in
+    let (k, u, v, w) = count-reached e x f (omega arith) in
+    (k, omega arith, v, w))
+
 -- gather
 
 pub gather-end : {A : Type 0} (i e : ℕ) (f : ℕ → List A) → e ≤ i → gather i e f ≡ []
@@ -328,6 +355,22 @@ last-elim (suc n) k f h =
       passes = r .passes;
       behind = λ j a b. elim (ℕ-discrete j n) [ yes z ↦ ap f z ∙ e | no z ↦ r .behind j a (omega arith) ];
     })
+
+-- the last index is the same where the tests are
+pub last-same : (n : ℕ) (f g : ℕ → Bool) → ((j : ℕ) → j < n → f j ≡ g j) → last n f ≡ last n g
+unfolding last
+last-same zero f g h = refl
+last-same (suc n) f g h =
+    test (g n) (λ t. last-hit n f (h n (omega arith) ∙ t) ∙ sym (last-hit n g t))
+    (λ t. last-miss n f (h n (omega arith) ∙ t) ∙ (last-same n f g (λ j l. h j (omega arith)) ∙ sym (last-miss n g t)))
+
+-- ... and where none passes behind n
+pub last-upto : (n m : ℕ) (f : ℕ → Bool) → n ≤ m → ((j : ℕ) → n ≤ j → j < m → f j ≡ false) → last m f ≡ last n f
+last-upto n zero f l h = let z : n ≡ zero = omega arith in rw z
+last-upto n (suc m) f l h = elim (ℕ-discrete n (suc m)) [
+  | yes z ↦ rw z
+  | no z ↦ last-miss m f (h m (omega arith) (omega arith)) ∙ last-upto n m f (omega arith) (λ j a b. h j a (omega arith))
+]
 
 -- only
 

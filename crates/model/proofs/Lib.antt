@@ -3,7 +3,9 @@ pub mod Cases
 pub mod Logic
 pub mod Index
 pub mod Reader
+pub mod Rows
 pub mod Heads
+pub mod Markings
 pub mod Exact
 pub mod Listed
 pub mod Numbering

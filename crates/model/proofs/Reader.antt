@@ -1,15 +1,15 @@
 -- Laws of reading by a grammar (specs/Reader.antt): one turn, and items one after the other.
 use Prim.Native.Nat.{ℕ, zero, suc, _+_, _-_, _≤_, _<_}
 use native.Mathlib.Omega.{arith}
-use mathlib.Core.Path.{_≡_, refl, sym, _∙_, ap, subst}
+use mathlib.Core.Path.{_≡_, refl, sym, _∙_, ap}
 use mathlib.Core.Bool.{Bool, true, false}
-use mathlib.Core.List.{List, [], _∷_, _++_, append-assoc, append-nil}
-use mathlib.Core.Option.{Option, some, none, Option·some-ne-none}
+use mathlib.Core.List.{List, [], _∷_, _++_, append-assoc}
+use mathlib.Core.Option.{Option, some, none, Option·some-injective, Option·none-ne-some, Option·some-ne-none}
 use lib.Dec.{eqb}
 use borrow.Author.Tests.{eqb-true, eq-eqb}
 use Rattle.model.specs.Words.{Columns, left, right}
 use Rattle.model.proofs.Logic.{test}
-use Rattle.model.specs.Reader.{Read, past, wrong, row-of, Grammar, read, after, complete, first-wrong}
+use Rattle.model.specs.Reader.{Read, past, wrong, row-of, fits, Grammar, read, after, complete, first-wrong}
 
 -- `past` and `wrong` are told apart, and tell their row
 pub past-wrong : {A : Type 0} (q r : ℕ) → past q ≡ wrong r → A
@@ -30,6 +30,12 @@ by-read (wrong q) f g = g q refl
 pub by-option {ℓ} : {I : Type 0} {A : Type ℓ} (x : Option I) → (x ≡ none → A) → ((i : I) → x ≡ some i → A) → A
 by-option none f g = f refl
 by-option (some i) f g = g i refl
+
+-- what fits passes its test
+pub fits-some : {I : Type 0} (b : Bool) (items more : List I) → fits b items ≡ some more → (b ≡ true) × (items ≡ more)
+unfolding fits
+fits-some true items more h = (refl, Option·some-injective items more h)
+fits-some false items more h = absurd (Option·none-ne-some more h)
 
 complete-none : (size : ℕ) (x : Read) → complete size x ≡ none → x ≡ past size
 unfolding complete

@@ -2,30 +2,31 @@
 use Prim.Native.Nat.{ℕ, zero, suc, _+_, _<_}
 use native.Mathlib.Omega.{arith}
 use mathlib.Core.Path.{_≡_, refl, sym, _∙_, ap, subst}
-use mathlib.Core.Bool.{Bool, true, false}
-use mathlib.Core.List.{List, [], _∷_, _++_, map, List·Memᴰ}
-use mathlib.Core.Option.{Option, some, none, Option·some-injective, Option·none-ne-some}
-use lib.ListN.{length, getD, getElem?, set, length-map, length-append, length-set}
-use Rattle.model.specs.Rows.{Program, size, tag, num, kind}
+use mathlib.Core.Bool.{true}
+use mathlib.Core.List.{List, [], _∷_, _++_, List·Memᴰ}
+use mathlib.Core.Option.{some, Option·some-injective, Option·none-ne-some}
+use lib.ListN.{length, getD, getElem?, set, length-map}
+use Rattle.model.specs.Rows.{Program, size, tag, kind}
 use Rattle.model.specs.Scopes.{rest}
-use Rattle.model.specs.Heads.{is-class, body}
+use Rattle.model.specs.Heads.{body}
 use Rattle.model.specs.Letters.{letters, row-letter, value-letter}
 use Rattle.model.specs.Values.{Value, Process, process, Processes}
-use Rattle.model.specs.Run.{moved, deliver, spawned, act, step-of}
+use Rattle.model.specs.Run.{moved, spawned, act, step-of}
 use Rattle.model.specs.Tables.{Tables, State, state}
 use Rattle.model.specs.Counters.{letter-key, has-letter}
-use Rattle.model.specs.Rules.{Rule, rules}
+use Rattle.model.specs.Rules.{rules}
 use Rattle.model.specs.Wanted.{Member, Closed}
 use Rattle.model.proofs.Reader.{by-option}
 use Rattle.model.proofs.Heads.{by-kind}
 use Rattle.model.proofs.Acts.{act-other}
-use Rattle.model.proofs.Covering.{row-for, Covered}
+use Rattle.model.proofs.Covering.{row-for}
 use Rattle.model.proofs.Numbering.Letters.{member-letter}
+use Rattle.model.proofs.Counting.Deliveries.{Delivery, deliver-some}
 use Rattle.model.proofs.Follow.Changes.{Change, no-change, read-one, put-one, start-one, Moves, Known, rule-of}
 use Rattle.model.proofs.Follow.Steps.{moves-on, receives-one, sends-one, starts-one}
 use Rattle.model.proofs.Parse.Reached.{Rows-fit}
 use Rattle.model.proofs.Parse.Lengths.{Columns-whole}
-use Rattle.model.proofs.Invariant.{classes-of, Mailed, Good, All-good, good-at, good-set, good-append, all-good-grown}
+use Rattle.model.proofs.Invariant.{classes-of, Good, All-good, good-at, good-set, good-append, all-good-grown}
 use Rattle.model.proofs.Steps.Letters.{Classes}
 use Rattle.model.proofs.Steps.Quiet.{Quietly, build-step, function-step, self-step, call-step, give-step, case-step}
 use Rattle.model.proofs.Steps.Receive.{Receives, receive-step}
@@ -73,18 +74,6 @@ classed p t classes (q ∷ qs) g (suc i) h = classed p t classes qs (g .1) i (om
 sized : (qs : Processes) → length qs ≡ length (classes-of qs)
 unfolding classes-of
 sized qs = sym (length-map qs (λ q. q .class))
-
--- where a message was delivered
-pub record Delivery (qs : Processes) (j : ℕ) (v : Value) (qs′ : Processes) : Type 0 where
-  pub target : Process
-  pub found : getElem? qs j ≡ some target
-  pub result : qs′ ≡ set qs j (process (target .class) (target .location) (target .held) (target .frames) (target .mailbox ++ (v ∷ [])))
-
-deliver-some : (qs : Processes) (j : ℕ) (v : Value) (qs′ : Processes) → deliver qs j v ≡ some qs′ → Delivery qs j v qs′
-unfolding deliver
-deliver-some qs j v qs′ h =
-    by-option (getElem? qs j) (λ e. absurd (Option·none-ne-some qs′ (rw (e, deliver) at h)))
-    (λ b e. record { target = b; found = e; result = sym (Option·some-injective _ qs′ (rw (e, deliver) at h)) })
 
 module _ (p : Program) (t : Tables) (fit : Rows-fit p) (w : Columns-whole p) (past-end : tag p (size p) ≡ 0) (low : (v : ℕ) → row-letter p v < letters p) (closed : Closed p t) (qs : Processes) (good : All-good p t (classes-of qs) qs) (i : ℕ) (q : Process) (there : getElem? qs i ≡ some q) (qs′ : Processes) where
   abbrev classes : List ℕ

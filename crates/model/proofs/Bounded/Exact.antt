@@ -1,9 +1,10 @@
 -- Refusals 10 to 13 are exact: they refuse nothing exactly where the bounds are in form and are an inductive invariant of the system that no
 -- bad meets; and what refusals 12 and 13 tell.
-use Prim.Native.Nat.{ℕ, _≤_, _<_}
+use Prim.Native.Nat.{ℕ, _+_, _≤_, _<_}
+use native.Mathlib.Omega.{arith}
 use mathlib.Core.Path.{_≡_, refl}
 use mathlib.Core.Bool.{true}
-use mathlib.Core.Logic.{_↔_}
+use mathlib.Core.Logic.{_↔_, Iff·trans}
 use mathlib.Core.List.{List, List·Memᴰ}
 use mathlib.Core.Option.{some, none}
 use Rattle.model.specs.declared.Verdict.{Verdict}
@@ -11,7 +12,7 @@ use Rattle.model.specs.Limits.{omega-limit}
 use Rattle.model.specs.Words.{words, right}
 use Rattle.model.specs.Message.{sizes}
 use Rattle.model.specs.Reader.{first-wrong}
-use Rattle.model.specs.Rows.{step, whole}
+use Rattle.model.specs.Rows.{tag, num}
 use Rattle.model.specs.Heads.{is-class}
 use Rattle.model.specs.Tables.{is-value}
 use Rattle.model.specs.Counters.{counter-count}
@@ -21,18 +22,30 @@ use Rattle.model.specs.Bounds.{bound-entries, bound-step, bounds-of, bou
 use Rattle.model.specs.Verify.{Message, message, bounds-check}
 use Rattle.model.specs.Demands.{Bytes, Listed, Under-one, Met, Inductive}
 use Rattle.model.proofs.Bounded.Words.{short-words, short-minimum, short-limit}
-use Rattle.model.proofs.Bounded.Checks.{map-exact, then-exact}
-use Rattle.model.proofs.Bounded.Counters.{Keys}
-use Rattle.model.proofs.Bounded.Keys.{keys-below, program-end}
+use Rattle.model.proofs.Exact.Checks.{then-iff}
+use Rattle.model.proofs.Exact.Entries.{bound-none}
+use Rattle.model.proofs.Exact.Sound.{tests-of-bounds}
+use Rattle.model.proofs.Rows.{tag-inside}
+use Rattle.model.proofs.Parse.Reached.{Rows-fit}
+use Rattle.model.proofs.Parse.Lengths.{built-below}
+use Rattle.model.proofs.Numbering.Letters.{Keys}
+use Rattle.model.proofs.Numbering.Counters.{listed-keys}
 use Rattle.model.proofs.Bounded.Met.{Bad-met, met-check-exact, met-check-refuses}
 use Rattle.model.proofs.Bounded.Fire.{Shaped}
 use Rattle.model.proofs.Bounded.Shaped.{rules-shaped}
 use Rattle.model.proofs.Bounded.Leak.{Leaks, start-check-exact, leak-check-exact, leak-check-refuses}
 
--- the keys of mail of a message whose rows fit and whose mail is in range
-pub message-keys : (bytes : List ℕ) → first-wrong (step (message bytes .program)) (message bytes .program .rows) (whole (message bytes .program)) ≡ none → Listed (is-class (message bytes .program)) (is-value (message bytes .program)) (message bytes .tables .mail) → Keys (message bytes .program) (message bytes .tables)
+-- the constructor that a row of a message builds, where its rows fit
+pub message-built : (bytes : List ℕ) → Rows-fit (message bytes .program) → (v : ℕ) → tag (message bytes .program) v ≡ 2 → num (message bytes .program) (v + 1) < message bytes .program .constructors
 unfolding message
-message-keys bytes fit mail = keys-below (message bytes .program) (program-end (words bytes) (sizes (words bytes))) fit (message bytes .tables) mail
+message-built bytes fit v t = built-below (message bytes .program) fit v (tag-inside (words bytes) (sizes (words bytes)) v (omega arith)) t
+
+-- the keys of mail of a message whose rows fit and whose mail is in range
+pub message-keys : (bytes : List ℕ) → Rows-fit (message bytes .program) → Listed (is-class (message bytes .program)) (is-value (message bytes .program)) (message bytes .tables .mail) → Keys (message bytes .program) (message bytes .tables)
+unfolding message
+message-keys bytes fit mail =
+    listed-keys (message bytes .program) (message bytes .tables)
+    (λ r t. tag-inside (words bytes) (sizes (words bytes)) r (omega arith)) (message-built bytes fit) mail
 
 module _ (bytes : List ℕ) (short : Bytes bytes) where
   abbrev m : Message
@@ -56,8 +69,7 @@ module _ (bytes : List ℕ) (short : Bytes bytes) where
   Bounds-in-form = first-wrong (bound-step (m .bounds .counters)) (bound-entries (m .words) (m .sizes)) (bounds-of (m .sizes .bounds)) ≡ none
 
   bound-check-exact : (bound-check (m .words) (m .sizes) (counter-count (m .program) (m .tables)) ≡ none) ↔ Bounds-in-form
-  unfolding bound-check
-  bound-check-exact = rw (← counters) (map-exact _ (first-wrong (bound-step (m .bounds .counters)) (bound-entries (m .words) (m .sizes)) (bounds-of (m .sizes .bounds))))
+  bound-check-exact = rw (← counters) (bound-none (m .words) (m .sizes) (m .bounds .counters))
 
   module _ (keys : Keys (m .program) (m .tables)) where
     shaped : (ρ : Rule) → List·Memᴰ ρ (rules (m .program) (m .tables)) → Shaped (m .bounds .counters) ρ
@@ -75,21 +87,14 @@ module _ (bytes : List ℕ) (short : Bytes bytes) where
     pub leak-refuses : (v : Verdict) → leak-check (m .words) (m .sizes) (m .bounds) (rules (m .program) (m .tables)) ≡ some v → Leaks (m .words) (m .sizes) (m .bounds) (rules (m .program) (m .tables)) v
     leak-refuses = leak-check-refuses (m .bounds) (rules (m .program) (m .tables)) limits shaped (m .words) (m .sizes)
 
+    -- refusals 11 to 13
+    pub tests-exact : (tests-of-bounds m ≡ none) ↔ Inductive m
+    tests-exact =
+        Iff·trans (then-iff _ _ (start-check-exact (m .sizes) (m .program) (m .tables) (m .bounds)) (then-iff _ _ met-exact leak-exact)) (
+          λ h. let (start, (meets, keeps)) = h in record { contain-start = start; kept = keeps; meet-no-bad = meets },
+          λ i. (i .contain-start, (i .meet-no-bad, i .kept)),
+        )
+
     pub bounds-check-exact : (bounds-check m ≡ none) ↔ (Bounds-in-form × Inductive m)
     unfolding bounds-check
-    bounds-check-exact =
-        let start = start-check-exact (m .sizes) (m .program) (m .tables) (m .bounds) in (
-          λ h.
-              let (form, h₁) = then-exact _ _ .0 h in
-              let (starts, h₂) = then-exact _ _ .0 h₁ in
-              let (meets, keeps) = then-exact _ _ .0 h₂ in
-              (bound-check-exact .0 form, record { contain-start = start .0 starts; kept = leak-exact .0 keeps; meet-no-bad = met-exact .0 meets }),
-          λ h. let (form, inductive) = h in
-              then-exact _ _ .1 (
-                bound-check-exact .1 form,
-                then-exact _ _ .1 (
-                  start .1 (inductive .contain-start),
-                  then-exact _ _ .1 (met-exact .1 (inductive .meet-no-bad), leak-exact .1 (inductive .kept)),
-                ),
-              ),
-        )
+    bounds-check-exact = then-iff _ _ bound-check-exact tests-exact

@@ -1,18 +1,20 @@
 -- A rule's step, one counter at a time: higher counts stay higher, a count falls by one at most, and what can be used at counts under a bound
 -- can be used at its highest counts.
-use Prim.Native.Nat.{ℕ, _+_, _≤_, _<_}
+use Prim.Native.Nat.{ℕ, _+_, _-_, _≤_, _<_}
 use native.Mathlib.Decide.{ℕ-discrete}
 use native.Mathlib.Omega.{arith}
 use mathlib.Core.Path.{_≡_, refl, sym, _∙_}
-use mathlib.Core.Bool.{true}
+use mathlib.Core.Bool.{Bool, true, false}
 use mathlib.Core.Logic.{inl, inr, ⊎-elim}
 use lib.Dec.{leb, eqb}
 use borrow.Author.Tests.{leb-true, le-leb, ne-eqb}
 use Rattle.model.specs.Limits.{omega-limit}
+use Rattle.model.specs.Letters.{one-if}
 use Rattle.model.specs.Rules.{Effect, quiet, reads, puts, starts, Rule}
-use Rattle.model.specs.Markings.{Marking, taking, adding, readable, usable, effect-taken, effect-added, fire}
+use Rattle.model.specs.Markings.{Marking, readable, usable, fire}
 use Rattle.model.specs.Bounds.{Bound, highest}
-use Rattle.model.proofs.Logic.{test, and-left, and-right, and-intro}
+use Rattle.model.proofs.Logic.{and-left, and-right, and-intro}
+use Rattle.model.proofs.Markings.{effect-less, effect-more, fire-at}
 use Rattle.model.proofs.Bounded.Under.{Allowed, below-highest}
 
 -- what a rule reads is a counter, and not the one that it leaves
@@ -27,81 +29,32 @@ abbrev pub Shaped : ℕ → Rule → Type 0
 Shaped counters ρ = (ρ .from < counters) × Apart counters (ρ .from) (ρ .effect)
 
 -- one counter, before and after a rule
-
-taking-mono : (x : ℕ) (m m′ : Marking) (y : ℕ) → m y ≤ m′ y → taking x m y ≤ taking x m′ y
-unfolding taking
-taking-mono x m m′ y h = test (eqb y x) (λ e. rw (e, taking) (omega arith)) (λ e. rw (e, taking) h)
-
-adding-mono : (x : ℕ) (m m′ : Marking) (y : ℕ) → m y ≤ m′ y → adding x m y ≤ adding x m′ y
-unfolding adding
-adding-mono x m m′ y h = test (eqb y x) (λ e. rw (e, adding) (omega arith)) (λ e. rw (e, adding) h)
-
-effect-taken-mono : (e : Effect) (m m′ : Marking) (y : ℕ) → m y ≤ m′ y → effect-taken e m y ≤ effect-taken e m′ y
-unfolding effect-taken
-effect-taken-mono quiet m m′ y h = h
-effect-taken-mono (reads x) m m′ y h = taking-mono x m m′ y h
-effect-taken-mono (puts x) m m′ y h = h
-effect-taken-mono (starts x) m m′ y h = h
-
-effect-added-mono : (e : Effect) (m m′ : Marking) (y : ℕ) → m y ≤ m′ y → effect-added e m y ≤ effect-added e m′ y
-unfolding effect-added
-effect-added-mono quiet m m′ y h = h
-effect-added-mono (reads x) m m′ y h = h
-effect-added-mono (puts x) m m′ y h = adding-mono x m m′ y h
-effect-added-mono (starts x) m m′ y h = adding-mono x m m′ y h
+fired : (ρ : Rule) (m : Marking) (y : ℕ) → fire ρ m y ≡ m y - one-if (eqb y (ρ .from)) - effect-less (ρ .effect) y + one-if (eqb y (ρ .to)) + effect-more (ρ .effect) y
+fired ρ = fire-at (ρ .from) (ρ .to) (ρ .effect)
 
 -- a higher count is higher afterwards
 pub fire-mono : (ρ : Rule) (m m′ : Marking) (y : ℕ) → m y ≤ m′ y → fire ρ m y ≤ fire ρ m′ y
-unfolding fire
-fire-mono ρ m m′ y h =
-    effect-added-mono (ρ .effect) _ _ y (adding-mono (ρ .to) _ _ y (effect-taken-mono (ρ .effect) _ _ y (taking-mono (ρ .from) m m′ y h)))
+fire-mono ρ m m′ y h = omega (arith, fired ρ m y, fired ρ m′ y)
 
--- how far a count falls
+one-at-most : (b : Bool) → one-if b ≤ 1
+unfolding one-if
+one-at-most true = omega arith
+one-at-most false = omega arith
 
-taking-other : (x : ℕ) (m : Marking) (y : ℕ) → (y ≡ x → ⊥) → taking x m y ≡ m y
-unfolding taking
-taking-other x m y h = rw (ne-eqb y x h, taking)
-
-taking-loss : (x : ℕ) (m : Marking) (y : ℕ) → m y ≤ taking x m y + 1
-unfolding taking
-taking-loss x m y = test (eqb y x) (λ e. rw (e, taking) (omega arith)) (λ e. rw (e, taking) (omega arith))
-
-adding-gain : (x : ℕ) (m : Marking) (y : ℕ) → m y ≤ adding x m y
-unfolding adding
-adding-gain x m y = test (eqb y x) (λ e. rw (e, adding) (omega arith)) (λ e. rw (e, adding) (omega arith))
-
-effect-added-gain : (e : Effect) (m : Marking) (y : ℕ) → m y ≤ effect-added e m y
-unfolding effect-added
-effect-added-gain quiet m y = omega arith
-effect-added-gain (reads x) m y = omega arith
-effect-added-gain (puts x) m y = adding-gain x m y
-effect-added-gain (starts x) m y = adding-gain x m y
-
-effect-taken-loss : (counters from : ℕ) (e : Effect) (m : Marking) (y : ℕ) → Apart counters from e → m y ≤ effect-taken e (taking from m) y + 1
-unfolding effect-taken
-effect-taken-loss counters from quiet m y a = taking-loss from m y
-effect-taken-loss counters from (reads x) m y a = elim (ℕ-discrete y x) [
-  | yes e ↦
-      let other = taking-other from m y (λ z. a .1 (sym e ∙ z)) in
-      let loss = taking-loss x (taking from m) y in
-      omega arith
-  | no e ↦
-      let other = taking-other x (taking from m) y e in
-      let loss = taking-loss from m y in
-      omega arith
+-- no counter is taken from twice
+taken-once : (counters from : ℕ) (e : Effect) (y : ℕ) → Apart counters from e → one-if (eqb y from) + effect-less e y ≤ 1
+unfolding effect-less one-if
+taken-once counters from quiet y a = omega (arith, one-at-most (eqb y from))
+taken-once counters from (reads x) y a = elim (ℕ-discrete y x) [
+  | yes e ↦ rw (ne-eqb y from (λ z. a .1 (sym e ∙ z))) (omega (arith, one-at-most (eqb y x)))
+  | no e ↦ rw (ne-eqb y x e) (omega (arith, one-at-most (eqb y from)))
 ]
-effect-taken-loss counters from (puts x) m y a = taking-loss from m y
-effect-taken-loss counters from (starts x) m y a = taking-loss from m y
+taken-once counters from (puts x) y a = omega (arith, one-at-most (eqb y from))
+taken-once counters from (starts x) y a = omega (arith, one-at-most (eqb y from))
 
 -- a count falls by one at most
 pub fire-loss : (counters : ℕ) (ρ : Rule) (m : Marking) (y : ℕ) → Shaped counters ρ → m y ≤ fire ρ m y + 1
-unfolding fire
-fire-loss counters ρ m y s =
-    let taken : Marking = effect-taken (ρ .effect) (taking (ρ .from) m) in
-    let loss = effect-taken-loss counters (ρ .from) (ρ .effect) m y (s .1) in
-    let to = adding-gain (ρ .to) taken y in
-    let gain = effect-added-gain (ρ .effect) (adding (ρ .to) taken) y in
-    omega arith
+fire-loss counters ρ m y s = omega (arith, fired ρ m y, taken-once counters (ρ .from) (ρ .effect) y (s .1))
 
 -- counts, and the highest counts of the bound that they lie under
 

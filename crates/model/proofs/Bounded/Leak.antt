@@ -2,7 +2,7 @@
 use Prim.Native.Nat.{ℕ, _+_, _≤_, _<_}
 use mathlib.Core.Path.{_≡_, refl, sym}
 use mathlib.Core.Bool.{Bool, true, false, not, _&&_}
-use mathlib.Core.Logic.{⊎-elim, _↔_}
+use mathlib.Core.Logic.{⊎-elim, _↔_, Iff·trans}
 use mathlib.Core.List.{List, [], _∷_, List·Memᴰ, List·Memᴰ·head, List·Memᴰ·tail, List·Memᴰ·not-nil, List·Memᴰ·cases-cons}
 use mathlib.Core.Option.{some, none}
 use borrow.Author.Tests.{not-true, not-false}
@@ -17,18 +17,15 @@ use Rattle.model.specs.Rules.{Rule}
 use Rattle.model.specs.Markings.{Marking, usable, fire, initial}
 use Rattle.model.specs.Bounds.{Bounds, bound-entries, bound-entry, under-some, highest, start-check, leads-out, leak-check}
 use Rattle.model.specs.Demands.{Under, Under-one}
-use Rattle.model.proofs.Logic.{true-false, test, and-left, and-right, and-false-right, or-cases, or-false-left, or-false-right}
+use Rattle.model.proofs.Logic.{true-false, test, not-failing, and-left, and-right, and-false-right, or-cases, or-false-left, or-false-right}
 use Rattle.model.proofs.Bounded.Under.{under-some-exact, highest-under}
-use Rattle.model.proofs.Bounded.Checks.{unless-exact, first-check-exact, first-check-refuses}
+use Rattle.model.proofs.Exact.Checks.{unless-iff, first-none, first-some}
 use Rattle.model.proofs.Bounded.Fire.{Shaped, usable-at-highest, fire-allowed}
 
 -- refusal 11: the start lies under one of the bounds
 pub start-check-exact : (s : Sizes) (p : Program) (t : Tables) (bs : Bounds) → (start-check s p t bs ≡ none) ↔ Under-one bs (initial p t)
 unfolding start-check
-start-check-exact s p t bs =
-    let passes = unless-exact (under-some bs (initial p t)) (Start (bounds-at s)) in
-    let lies = under-some-exact bs (initial p t) in
-    (λ h. lies .0 (passes .0 h), λ h. passes .1 (lies .1 h))
+start-check-exact s p t bs = unless-iff (under-some bs (initial p t)) (Start (bounds-at s)) (under-some-exact bs (initial p t))
 
 -- a rule that can be used at the counts and leads out of all bounds
 pub record Leads-out (bs : Bounds) (ρs : List Rule) (m : Marking) : Type 0 where
@@ -103,21 +100,19 @@ module _ (bs : Bounds) (ρs : List Rule) (short : (k x : ℕ) → bs .limit k x 
     pub leak-check-exact : (leak-check ws s bs ρs ≡ none) ↔ ((m : Marking) (ρ : Rule) → Under-one bs m → List·Memᴰ ρ ρs → usable ρ m ≡ true → Under-one bs (fire ρ m))
     unfolding leak-check
     leak-check-exact =
-        let e = first-check-exact (bs .size) leaks refusal in (
-          λ h m ρ u. let (k, below, lies) = u in leads-out-exact k .0 (e .0 h k below) m ρ lies,
-          λ h. e .1 (λ k below. leads-out-exact k .1 (λ m ρ lies. h m ρ (k, below, lies))),
-        )
+        Iff·trans (first-none (bs .size) leaks (λ k below. leads-out-exact k) refusal)
+        (λ h m ρ u. let (k, below, lies) = u in h k below m ρ lies, λ h k below m ρ lies. h m ρ (k, below, lies))
 
     pub leak-check-refuses : (v : Verdict) → leak-check ws s bs ρs ≡ some v → Leaks ws s bs ρs v
     unfolding leak-check
     leak-check-refuses v h =
-        let r = first-check-refuses (bs .size) leaks refusal v h in
+        let (k, f, same) = first-some (bs .size) leaks (λ j b. leads-out-exact j) refusal v h in
         record {
-          bound = r .at;
-          below = r .below;
-          refused = sym (r .refused);
-          counts = highest (bs .limit (r .at));
-          under = highest-under bs (r .at);
-          leads-out = leads-out-elim bs ρs _ (r .passes);
-          earlier = λ k before. leads-out-exact k .0 (r .before k before);
+          bound = k;
+          below = f .below;
+          refused = sym same;
+          counts = highest (bs .limit k);
+          under = highest-under bs k;
+          leads-out = leads-out-elim bs ρs _ (not-failing (leaks k) (λ e. f .not-good (leads-out-exact k .0 e)));
+          earlier = f .before;
         }

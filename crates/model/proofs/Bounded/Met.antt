@@ -3,7 +3,7 @@ use Prim.Native.Nat.{ℕ, zero, suc, _+_, _-_, _≤_, _<_}
 use native.Mathlib.Omega.{arith}
 use mathlib.Core.Path.{_≡_, refl, sym}
 use mathlib.Core.Bool.{Bool, true, false}
-use mathlib.Core.Logic.{_⊎_, inl, inr, ⊎-elim, _↔_}
+use mathlib.Core.Logic.{_⊎_, inl, inr, ⊎-elim, _↔_, Iff·trans}
 use mathlib.Core.Option.{Option, some, none}
 use lib.Dec.{leb, eqb}
 use borrow.Author.Tests.{leb-true, le-leb}
@@ -20,11 +20,12 @@ use Rattle.model.specs.Counters.{counter-count, counter-of}
 use Rattle.model.specs.Markings.{Marking, standing, count-in}
 use Rattle.model.specs.Bounds.{Bounds, highest, bad-allowed, met-check}
 use Rattle.model.specs.Demands.{Under, Under-one}
-use Rattle.model.proofs.Logic.{true-false, test, and-left, and-right, and-intro}
+use Rattle.model.proofs.Logic.{true-false, test, not-failing, and-left, and-right, and-intro}
 use Rattle.model.proofs.Index.{any-none, any-elim}
 use Rattle.model.proofs.Bounded.Under.{below-highest, highest-under-one}
-use Rattle.model.proofs.Bounded.Counters.{Keys, counter-below}
-use Rattle.model.proofs.Bounded.Checks.{first-check-exact, first-check-refuses}
+use Rattle.model.proofs.Numbering.Letters.{Keys}
+use Rattle.model.proofs.Numbering.Counters.{counter-below-of}
+use Rattle.model.proofs.Exact.Checks.{first-none, first-some}
 
 -- counts that are as high, or past every minimum, meet what the lower ones meet
 met-from-higher : (low high : Counted → ℕ) (rows : Columns) (n r : ℕ) → ((k : Counted) → (low k ≤ high k) ⊎ (omega-limit ≤ high k)) → ((i : ℕ) → right rows i ≤ omega-limit) → met-from low rows n r ≡ true → met-from high rows n r ≡ true
@@ -79,7 +80,7 @@ module _ (p : Program) (t : Tables) (bs : Bounds) (rows : Columns) where
     highest-meet k m r u h =
         met-from-higher (count-in p t m) (count-in p t (highest (bs .limit k))) rows (rows .size - r) r
         (λ c. higher-standing m (highest (bs .limit k)) (bs .counters) (counter-of p t c)
-        (λ y e. rw counters (counter-below p t keys c y e))
+        (λ y e. rw counters (counter-below-of p t keys c y e))
         (λ y below. ⊎-elim (λ z. inl z) (λ z. inr (omega arith)) (below-highest (bs .limit k) y (m y) (u y below))))
         short h
 
@@ -96,22 +97,21 @@ module _ (p : Program) (t : Tables) (bs : Bounds) (rows : Columns) where
       pub met-check-exact : (met-check s p t bs rows ≡ none) ↔ ((m : Marking) (j : ℕ) → Under-one bs m → j < s .bads → Meets m (bad-row p rows j) → ⊥)
       unfolding met-check
       met-check-exact =
-          let e = first-check-exact (s .bads) allows (refusal s) in (
-            λ h m j u below. bad-allowed-exact (bad-row p rows j) .0 (e .0 h j below) m u,
-            λ h. e .1 (λ j below. bad-allowed-exact (bad-row p rows j) .1 (λ m u. h m j u below)),
-          )
+          Iff·trans (first-none (s .bads) allows (λ j below. bad-allowed-exact (bad-row p rows j)) (refusal s))
+          (λ h m j u below. h j below m u, λ h j below m u. h m j u below)
 
       pub met-check-refuses : (v : Verdict) → met-check s p t bs rows ≡ some v → Bad-met s v
       unfolding met-check
       met-check-refuses v h =
-          let r = first-check-refuses (s .bads) allows (refusal s) v h in
-          let (k, below, meets) = bad-allowed-elim (bad-row p rows (r .at)) (r .passes) in
+          let (j, f, same) = first-some (s .bads) allows (λ i b. bad-allowed-exact (bad-row p rows i)) (refusal s) v h in
+          let allowed = not-failing (allows j) (λ e. f .not-good (bad-allowed-exact (bad-row p rows j) .0 e)) in
+          let (k, below, meets) = bad-allowed-elim (bad-row p rows j) allowed in
           record {
-            bad = r .at;
-            below = r .below;
-            refused = sym (r .refused);
+            bad = j;
+            below = f .below;
+            refused = sym same;
             counts = highest (bs .limit k);
             under = highest-under-one bs k below;
             meets = meets;
-            earlier = λ j m before. bad-allowed-exact (bad-row p rows j) .0 (r .before j before) m;
+            earlier = λ i m before. f .before i before m;
           }

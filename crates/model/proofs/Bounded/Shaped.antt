@@ -1,24 +1,25 @@
 -- Every rule of the system leaves a state's counter and reads no other than a letter's: it takes no counter twice.
 use Prim.Native.Nat.{ℕ, _<_}
 use native.Mathlib.Omega.{arith}
-use mathlib.Core.Path.{_≡_, refl, sym, ap₂, subst}
-use mathlib.Core.Bool.{Bool, true, false}
-use mathlib.Core.Logic.{⊎-elim}
+use mathlib.Core.Path.{_≡_, refl, sym, subst}
+use mathlib.Core.Bool.{Bool, true, false, _&&_}
+use mathlib.Core.Logic.{⊎-elim, Iff·rfl}
 use mathlib.Core.List.{List, [], _∷_, List·Memᴰ, List·Memᴰ·not-nil, List·Memᴰ·eq-of-singleton, List·Memᴰ·append-cases}
 use lib.Dec.{eqb}
-use borrow.Author.Tests.{eqb-true, eq-eqb}
+use borrow.Author.Tests.{eqb-true}
 use Rattle.model.specs.Index.{gather, only}
 use Rattle.model.specs.Words.{Columns, left, right}
 use Rattle.model.specs.Rows.{Program}
-use Rattle.model.specs.Heads.{Head, head-at, gives, builds, makes, calls, sends, spawns, selfs, cases, receives, no-head, is-class, takes, innermost}
+use Rattle.model.specs.Heads.{Head, head-at, gives, builds, makes, calls, sends, spawns, selfs, cases, receives, no-head, is-class, innermost}
 use Rattle.model.specs.Letters.{letters, row-letter}
-use Rattle.model.specs.Tables.{Tables, some-of, State, state, state-at}
+use Rattle.model.specs.Tables.{Tables, State, state-at}
 use Rattle.model.specs.Counters.{letter-key, has-letter, counter-count}
-use Rattle.model.specs.Rules.{reads, Rule, rule, from-each, from-all, from-letters, letter-of-some, state-rules, rules}
-use Rattle.model.proofs.Logic.{and-left, and-right}
-use Rattle.model.proofs.Index.{any-intro, any-elim, gather-elim, only-elim}
+use Rattle.model.specs.Rules.{Rule, from-each, from-all, from-letters, letter-of-some, state-rules, rules}
+use Rattle.model.proofs.Logic.{and-left}
+use Rattle.model.proofs.Index.{gather-elim, only-elim}
 use Rattle.model.proofs.Reader.{by-option}
-use Rattle.model.proofs.Bounded.Counters.{Keys, letter-index-from, letter-index-below}
+use Rattle.model.proofs.Exact.Members.{some-of-iff}
+use Rattle.model.proofs.Numbering.Letters.{member-letter, Keys, letter-index-behind, letter-index-below}
 use Rattle.model.proofs.Bounded.Fire.{Shaped}
 
 -- each element of a list has the property; what the ways to make a list hand on
@@ -57,12 +58,10 @@ each-from-letters P p passes f h = each-gather P 0 (letters p) _ (λ l below. ea
 module _ (p : Program) (t : Tables) where
   -- a value of that letter in the class's mail makes the letter one of mail
   letter-of-mail : (c l : ℕ) (passes : ℕ → Bool) → letter-of-some p (t .mail) c passes l ≡ true → has-letter p t (letter-key p c l) ≡ true
-  unfolding letter-of-some some-of has-letter
+  unfolding letter-of-some
   letter-of-mail c l passes h =
-      let (i, w, e) = any-elim 0 (t .mail .size) _ h in
-      let class = eqb-true (left (t .mail) i) c (and-left _ _ e) in
-      let letter = eqb-true (row-letter p (right (t .mail) i)) l (and-left _ (passes (right (t .mail) i)) (and-right (eqb (left (t .mail) i) c) _ e)) in
-      any-intro 0 (t .mail .size) i _ (w .0) (w .1) (eq-eqb _ _ (ap₂ (letter-key p) class letter))
+      let (v, m, e) = some-of-iff (t .mail) c (λ v. eqb (row-letter p v) l && passes v) (λ v. Iff·rfl) .0 h in
+      subst (λ k. has-letter p t (letter-key p c k) ≡ true) (eqb-true (row-letter p v) l (and-left _ (passes v) e)) (member-letter p t c v m)
 
   module _ (keys : Keys p t) (i : ℕ) (below : i < t .states .size) (s : State) where
     abbrev Good : Rule → Type 0
@@ -95,7 +94,7 @@ module _ (p : Program) (t : Tables) where
         (each-from-all Good qs _
         (λ q. each-from-letters Good p _ _
         (λ l v. let c : ℕ = s .class in
-        let behind = letter-index-from p t c l in
+        let behind = letter-index-behind p t c l in
         (below-all, (letter-index-below p t keys c l (letter-of-mail c l _ v), λ z. omega arith)))))
     head-shaped no-head e = rw (e, state-rules) (each-none Good)
 

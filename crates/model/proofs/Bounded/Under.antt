@@ -5,45 +5,29 @@ use native.Mathlib.Omega.{arith}
 use mathlib.Core.Path.{_≡_}
 use mathlib.Core.Bool.{true}
 use mathlib.Core.Logic.{_⊎_, inl, inr, ⊎-elim, _↔_}
-use lib.Dec.{eqb}
-use borrow.Author.Tests.{leb-true, le-leb, eqb-true, eq-eqb, ne-eqb}
+use borrow.Author.Tests.{eq-eqb, ne-eqb}
 use Rattle.model.specs.Limits.{omega-limit}
 use Rattle.model.specs.Markings.{Marking}
 use Rattle.model.specs.Bounds.{Bound, Bounds, allowed, under, under-some, highest}
 use Rattle.model.specs.Demands.{Under, Under-one}
-use Rattle.model.proofs.Logic.{test, or-cases, or-left, or-right}
-use Rattle.model.proofs.Index.{any-intro, any-elim, all-intro, all-elim}
+use Rattle.model.proofs.Exact.Tests.{leb-iff, eqb-iff, or-iff, all-iff, any-iff}
 
 -- a count that a limit allows
 abbrev pub Allowed : ℕ → ℕ → Type 0
 Allowed limit n = (limit ≡ omega-limit) ⊎ (n ≤ limit)
 
-allowed-elim : (limit n : ℕ) → allowed limit n ≡ true → Allowed limit n
+allowed-iff : (limit n : ℕ) → (allowed limit n ≡ true) ↔ Allowed limit n
 unfolding allowed
-allowed-elim limit n h = ⊎-elim (λ e. inl (eqb-true _ _ e)) (λ e. inr (leb-true _ _ e)) (or-cases _ _ h)
-
-allowed-intro : (limit n : ℕ) → Allowed limit n → allowed limit n ≡ true
-unfolding allowed
-allowed-intro limit n h = ⊎-elim (λ e. or-left _ _ (eq-eqb _ _ e)) (λ e. or-right (eqb limit omega-limit) _ (le-leb _ _ e)) h
-
-pub under-elim : (counters : ℕ) (b : Bound) (m : Marking) → under counters b m ≡ true → (x : ℕ) → x < counters → Allowed (b x) (m x)
-unfolding under
-under-elim counters b m h x below = allowed-elim (b x) (m x) (all-elim 0 counters x _ h (omega arith) below)
-
-pub under-intro : (counters : ℕ) (b : Bound) (m : Marking) → ((x : ℕ) → x < counters → Allowed (b x) (m x)) → under counters b m ≡ true
-unfolding under
-under-intro counters b m h = all-intro 0 counters _ (λ x lo below. allowed-intro (b x) (m x) (h x below))
+allowed-iff limit n = or-iff _ _ (eqb-iff limit omega-limit) (leb-iff n limit)
 
 -- the test for one bound, and for some bound
 pub under-exact : (bs : Bounds) (k : ℕ) (m : Marking) → (under (bs .counters) (bs .limit k) m ≡ true) ↔ Under bs k m
-under-exact bs k m = (under-elim (bs .counters) (bs .limit k) m, under-intro (bs .counters) (bs .limit k) m)
+unfolding under
+under-exact bs k m = all-iff (bs .counters) _ (λ x. allowed-iff (bs .limit k x) (m x))
 
 pub under-some-exact : (bs : Bounds) (m : Marking) → (under-some bs m ≡ true) ↔ Under-one bs m
 unfolding under-some
-under-some-exact bs m = (
-  λ h. let (k, w, u) = any-elim 0 (bs .size) _ h in (k, w .1, under-exact bs k m .0 u),
-  λ h. any-intro 0 (bs .size) (h .0) _ (omega arith) (h .1) (under-exact bs (h .0) m .1 (h .2)),
-)
+under-some-exact bs m = any-iff (bs .size) _ (λ k. under-exact bs k m)
 
 -- the highest count, by its limit
 pub highest-unbounded : (b : Bound) (x : ℕ) → b x ≡ omega-limit → highest b x ≡ omega-limit + 1

@@ -11,7 +11,7 @@ use Rattle.model.specs.declared.Verdict.{Verdict}
 use Rattle.model.specs.Index.{first}
 use Rattle.model.specs.Verdict.{Check, _>>_, unless}
 use Rattle.model.proofs.Logic.{true-false}
-use Rattle.model.proofs.Index.{First, first-is, first-unique}
+use Rattle.model.proofs.Index.{first-is, first-unique}
 
 -- two checks in order refuse nothing exactly where neither does
 pub then-none : (a b : Check) → ((a >> b) ≡ none) ↔ ((a ≡ none) × (b ≡ none))
@@ -56,21 +56,17 @@ module _ (n : ℕ) (fault : ℕ → Bool) {Good : ℕ → Type 0} (good : (i : �
   -- nothing where each is good
   pub first-none : (unless (eqb (first 0 n fault) n) (v (first 0 n fault)) ≡ none) ↔ ((i : ℕ) → i < n → Good i)
   first-none = (
-    λ h i b. let e = eqb-true k n (unless-none (eqb k n) (v k) .0 h) in good i b .0 (r .before i (omega arith) (omega arith)),
-    λ h. unless-none (eqb k n) (v k) .1
-        (eq-eqb k n (first-unique 0 n n fault (omega arith)
+    λ h i b. let e = eqb-true _ n (unless-none _ _ .0 h) in good i b .0 (first-is 0 n fault (omega arith) .before i (omega arith) (omega arith)),
+    λ h. unless-none _ _ .1
+        (eq-eqb _ n (first-unique 0 n n fault (omega arith)
         (record { from = omega arith; upto = omega arith; passes = λ b. absurd (omega arith); before = λ j a b. good j b .1 (h j b) }))),
   )
-    where
-      k : ℕ
-      k = first 0 n fault
-
-      r : First 0 n fault k
-      r = first-is 0 n fault (omega arith)
 
   -- or the first that is not
   pub first-some : (w : Verdict) → unless (eqb (first 0 n fault) n) (v (first 0 n fault)) ≡ some w → (i : ℕ) × First-not n Good i × (v i ≡ w)
   first-some w h =
+      let k = first 0 n fault in
+      let r = first-is 0 n fault (omega arith) in
       let (ne, q) = unless-refutes (eqb k n) (v k) w (eqb-true k n, eq-eqb k n) h in
       let b : k < n = omega (arith, r .upto) in (
         k,
@@ -81,9 +77,3 @@ module _ (n : ℕ) (fault : ℕ → Bool) {Good : ℕ → Type 0} (good : (i : �
         },
         q,
       )
-    where
-      k : ℕ
-      k = first 0 n fault
-
-      r : First 0 n fault k
-      r = first-is 0 n fault (omega arith)

@@ -1,17 +1,16 @@
 -- Refusal 8: nothing is refused exactly where the tables are closed, with a way to want an entry for each sentence of the paper.
-use Prim.Native.Nat.{ℕ, _+_, _≤_, _<_}
-use native.Mathlib.Decide.{decLt}
+use Prim.Native.Nat.{ℕ, _+_, _<_}
 use native.Mathlib.Omega.{arith}
 use mathlib.Core.Path.{_≡_, refl, subst}
 use mathlib.Core.Bool.{true, false, not}
 use mathlib.Core.Logic.{_↔_, Iff·trans}
 use mathlib.Core.List.{List}
 use mathlib.Core.Option.{Option, some, none}
-use lib.ListN.{getD, take, drop, length-take, List·getD-eq-default}
+use lib.ListN.{getD}
 use lib.Dec.{eqb}
 use Rattle.model.specs.declared.Sizes.{Sizes}
 use Rattle.model.specs.declared.Verdict.the-variants.{Open}
-use Rattle.model.specs.Words.{left, right, columns}
+use Rattle.model.specs.Words.{left, right}
 use Rattle.model.specs.Message.{tables-at}
 use Rattle.model.specs.Rows.{Program, program, size, tag, num}
 use Rattle.model.specs.Heads.{call-at, Head, head-at, branch-body, parameters, body, gives, builds, makes, calls, sends, spawns, selfs, cases, receives, no-head, innermost, start}
@@ -19,6 +18,7 @@ use Rattle.model.specs.Tables.{Tables, has, state-at, has-state}
 use Rattle.model.specs.Tables.{state as at-state}
 use Rattle.model.specs.Closed.{state-closed, opening-closed, open-check}
 use Rattle.model.specs.Wanted.{Member, MayTake, Returns, Sends, Spawns, flow, mail, state, by-case, by-receive, global-name, first-state, build-name, build-rest, function-name, function-rest, self-name, self-rest, call-parameter, call-body, return-name, return-rest, send-mail, send-name, send-rest, spawn-name, spawn-rest, spawn-body, branch-name, branch-state, Closed}
+use Rattle.model.proofs.Rows.{tag-inside}
 use Rattle.model.proofs.Exact.Tests.{eqb-iff, not-iff, and-iff, implies-iff, all-iff}
 use Rattle.model.proofs.Exact.Checks.{then-iff, unless-iff, first-none}
 use Rattle.model.proofs.Exact.Members.{entries-iff, has-iff, has-state-iff}
@@ -134,15 +134,8 @@ module _ (p : Program) (t : Tables) where
       (Iff·trans (first-none (t .states .size) _ (λ i b. state-kept-iff i) (λ i. Open (tables-at s + 3 + s .flows + s .mails + i))) (entries-iff (t .states))))
       (λ h. kept-closed below (h .0) (h .1), λ w. (closed-opened w, λ c at m. closed-at w c at (head-at p at) m refl))
 
--- a program's rows past the end have tag 0
-program-tag : (ws : List ℕ) (s : Sizes) (r : ℕ) → s .rows ≤ r → tag (program ws s) r ≡ 0
-unfolding tag program columns left
-program-tag ws s r h =
-    List·getD-eq-default (take (s .rows) (drop 4 ws)) 0 {n = r} (let l = length-take (s .rows) (drop 4 ws) in omega arith)
-
 pub function-below : (ws : List ℕ) (s : Sizes) (r : ℕ) → tag (program ws s) r ≡ 11 → r < size (program ws s)
-unfolding program columns
-function-below ws s r h = elim (decLt r (s .rows)) [ yes b ↦ b | no b ↦ let z = program-tag ws s r (omega arith) in absurd (omega arith) ]
+function-below ws s r h = tag-inside ws s r (omega arith)
 
 -- Refusal 8 of a message
 pub open-none : (ws : List ℕ) (s : Sizes) (t : Tables) → (open-check s (program ws s) t ≡ none) ↔ Closed (program ws s) t

@@ -2,7 +2,7 @@
 use Prim.Native.Nat.{ℕ, zero, suc, _+_, _-_, _≤_, _<_}
 use native.Mathlib.Decide.{ℕ-discrete}
 use native.Mathlib.Omega.{arith}
-use mathlib.Core.Path.{_≡_, sym, _∙_, ap, subst}
+use mathlib.Core.Path.{_≡_, refl, sym, _∙_, ap, ap₂, subst}
 use mathlib.Core.Logic.{_↔_, _⊎_, inl, inr, ⊎-elim}
 use mathlib.Core.List.{List, [], _∷_, _++_}
 use mathlib.Core.Option.{some, none, Option·some-injective, Option·none-ne-some}
@@ -39,6 +39,19 @@ complete-some size r (past q) h =
 complete-some size r (wrong q) h = inl (ap wrong (Option·some-injective q r h))
 
 module _ {Item : Type 0} (step : Grammar Item) (rows : Columns) (whole : List Item) where
+  -- before a row at most one list of items is ahead
+  pub ahead-unique : (r r′ : ℕ) (xs ys : List Item) → r ≡ r′ → Ahead step rows whole r xs → Ahead step rows whole r′ ys → xs ≡ ys
+  ahead-unique r r′ xs ys z at-first at-first = refl
+  ahead-unique r r′ xs ys z at-first (after-row q item items more a e) = absurd (omega arith)
+  ahead-unique r r′ xs ys z (after-row q item items more a e) at-first = absurd (omega arith)
+  ahead-unique r r′ xs ys z (after-row q item items more a e) (after-row q′ item′ items′ more′ a′ e′) =
+      let w : q ≡ q′ = omega arith in
+      let same = ahead-unique q q′ (item ∷ items) (item′ ∷ items′) w a a′ in
+      let front : item ≡ item′ = cc in
+      let back : items ≡ items′ = cc in
+      let said : some more ≡ some more′ = sym e ∙ (ap₂ (λ i k. step i (left rows k) (right rows k)) front w ∙ e′) in
+      ap₂ (λ m is. m ++ is) (Option·some-injective more more′ said) back
+
   -- where the items end, nothing is ahead
   ahead-past : (n r q : ℕ) (items : List Item) → Ahead step rows whole r items → read step rows n items r ≡ past q → Ahead step rows whole q []
   ahead-past zero r q [] a h = subst (λ k. Ahead step rows whole k []) (past-row r q (sym (read-none step rows zero r) ∙ h)) a

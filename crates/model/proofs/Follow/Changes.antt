@@ -1,9 +1,7 @@
--- What a step changes in the counts of a station, and what a rule changes in the counters.
-use Prim.Native.Nat.{ℕ, _+_, _-_, _≤_, _<_}
-use native.Mathlib.Omega.{arith}
+-- What a step changes in the counts of a station, and the rule that changes the counters so.
+use Prim.Native.Nat.{ℕ, _+_, _≤_, _<_}
 use mathlib.Core.Path.{_≡_}
 use mathlib.Core.Bool.{true}
-use lib.Dec.{eqb}
 use Rattle.model.specs.Rows.{Program}
 use Rattle.model.specs.Values.{Processes}
 use Rattle.model.specs.Letters.{letters, one-if, processes-at}
@@ -11,10 +9,10 @@ use Rattle.model.specs.Bads.{Counted, state-of, letter-of}
 use Rattle.model.specs.Tables.{Tables, State, state-index}
 use Rattle.model.specs.Counters.{letter-key, has-letter, letter-index}
 use Rattle.model.specs.Rules.{Effect, quiet, reads, puts, starts, Rule, rule}
-use Rattle.model.specs.Markings.{Marking, taking, adding, effect-taken, effect-added, fire}
 use Rattle.model.specs.Wanted.{Member}
-use Rattle.model.proofs.Logic.{test}
 use Rattle.model.proofs.Counting.Station.{station-count, same}
+pub use Rattle.model.proofs.Markings.{fire-at}
+unfoldable pub use Rattle.model.proofs.Markings.{effect-less, effect-more}
 
 -- what a step does besides moving its process: a message of this class and letter read or put, a process started in this state
 pub data Change : Type 0 where
@@ -61,35 +59,3 @@ Known p t no-change = Unit {0}
 Known p t (read-one c l) = (l < letters p) × (has-letter p t (letter-key p c l) ≡ true)
 Known p t (put-one c l) = (l < letters p) × (has-letter p t (letter-key p c l) ≡ true)
 Known p t (start-one s) = Member (t .states) (s .class) (s .location)
-
--- what an effect takes from a counter, and what it adds
-unfoldable pub effect-less : Effect → ℕ → ℕ
-effect-less quiet y = 0
-effect-less (reads x) y = one-if (eqb y x)
-effect-less (puts x) y = 0
-effect-less (starts x) y = 0
-
-unfoldable pub effect-more : Effect → ℕ → ℕ
-effect-more quiet y = 0
-effect-more (reads x) y = 0
-effect-more (puts x) y = one-if (eqb y x)
-effect-more (starts x) y = one-if (eqb y x)
-
-taking-one : (x : ℕ) (m : Marking) (y : ℕ) → taking x m y ≡ m y - one-if (eqb y x)
-unfolding taking one-if
-taking-one x m y = test (eqb y x) (λ e. rw (e, taking)) (λ e. rw (e, taking) (omega arith))
-
-adding-one : (x : ℕ) (m : Marking) (y : ℕ) → adding x m y ≡ m y + one-if (eqb y x)
-unfolding adding one-if
-adding-one x m y = test (eqb y x) (λ e. rw (e, adding)) (λ e. rw (e, adding) (omega arith))
-
-moving-one : (a b : ℕ) (m : Marking) (y : ℕ) → adding b (taking a m) y ≡ m y - one-if (eqb y a) + one-if (eqb y b)
-moving-one a b m y = omega (arith, adding-one b (taking a m) y, taking-one a m y)
-
--- a counter after a rule
-pub fire-at : (a b : ℕ) (e : Effect) (m : Marking) (y : ℕ) → fire (rule a b e) m y ≡ m y - one-if (eqb y a) - effect-less e y + one-if (eqb y b) + effect-more e y
-unfolding fire effect-taken effect-added effect-less effect-more
-fire-at a b quiet m y = omega (arith, moving-one a b m y)
-fire-at a b (reads x) m y = omega (arith, moving-one x b (taking a m) y, taking-one a m y)
-fire-at a b (puts x) m y = omega (arith, adding-one x (adding b (taking a m)) y, moving-one a b m y)
-fire-at a b (starts x) m y = omega (arith, adding-one x (adding b (taking a m)) y, moving-one a b m y)

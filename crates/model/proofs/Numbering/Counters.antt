@@ -5,23 +5,23 @@ use native.Mathlib.Omega.{arith}
 use mathlib.Core.Path.{_≡_, refl, sym, _∙_, ap}
 use mathlib.Core.Bool.{Bool, true, _&&_}
 use mathlib.Core.Logic.{⊎-elim}
-use mathlib.Core.List.{List}
 use mathlib.Core.Option.{some, Option·none-ne-some}
-use lib.ListN.{length-take, take, drop, List·getD-eq-default}
 use lib.Dec.{ltb, eqb}
 use borrow.Author.Tests.{ltb-true, lt-ltb, eqb-true}
-use Rattle.model.specs.declared.Sizes.{Sizes}
-use Rattle.model.specs.Words.{left, right, columns}
-use Rattle.model.specs.Rows.{Program, program, size, tag, num}
+use Rattle.model.specs.Words.{left, right}
+use Rattle.model.specs.Rows.{Program, size, tag, num}
 use Rattle.model.specs.Heads.{is-function, is-class}
 use Rattle.model.specs.Letters.{letters, letter, row-shape, row-letter}
 use Rattle.model.specs.Tables.{Tables, is-value, state, state-at, state-index, has-state}
 use Rattle.model.specs.Bads.{Counted, state-of, letter-of}
 use Rattle.model.specs.Counters.{letter-key, letter-keys, has-letter, letter-count, counter-count, letter-index, counter-of}
 use Rattle.model.specs.Demands.{Listed}
-use Rattle.model.proofs.Logic.{test, and-left, and-right, or-cases}
+use Rattle.model.proofs.Logic.{test, and-left, and-right}
+use Rattle.model.proofs.Heads.{class-tag}
+use Rattle.model.proofs.Index.{count-reached}
 use Rattle.model.proofs.Numbering.States.{Ascending, member-has, index-below, state-index-injective, index-state-at}
-use Rattle.model.proofs.Numbering.Letters.{count-before, count-reached, key-room, letter-entry, member-letter, letter-index-injective, letter-index-behind}
+use Rattle.model.proofs.Numbering.Letters.{letter-entry, member-letter, letter-index-injective, letter-index-behind, Keys, low-keys, letter-index-below}
+pub use Rattle.model.proofs.Rows.{tag-inside}
 
 -- what number of counter belongs to what is counted, read both ways
 module _ (p : Program) (t : Tables) where
@@ -71,6 +71,16 @@ module _ (p : Program) (t : Tables) where
       let (a, b) = letter-index-injective p t c l c′ l′ u u′ v v′ (w ∙ sym w′) in
       cc
 
+  -- every counter is one of those that are counted
+  pub counter-below-of : Keys p t → (k : Counted) (x : ℕ) → counter-of p t k ≡ some x → x < counter-count p t
+  unfolding counter-count
+  counter-below-of keys (state-of c r) x h =
+      let (a, b) = state-numbered c r x h in
+      omega (arith, index-below t (state c r) a)
+  counter-below-of keys (letter-of c l) x h =
+      let (u, v, w) = letter-numbered c l x h in
+      omega (arith, letter-index-below p t keys c l v)
+
 -- What leaves no gap: the states ascend, and the classes and letters of mail are low enough for `letter-keys`
 pub record Numbered (p : Program) (t : Tables) : Type 0 where
   pub ascending : Ascending (t .states)
@@ -88,20 +98,12 @@ row-letter-low p built v =
     (λ f. rw (e, f, row-shape) (omega arith)))
 
 pub class-at-most : (p : Program) → ((r : ℕ) → tag p r ≡ 6 → r < size p) → (c : ℕ) → is-class p c ≡ true → c ≤ size p
-unfolding is-class
-class-at-most p inside c h =
-    ⊎-elim (λ (e : eqb (tag p c) 6 ≡ true). omega (arith, inside c (eqb-true (tag p c) 6 e)))
-    (λ (e : eqb c (size p) ≡ true). omega (arith, eqb-true c (size p) e))
-    (or-cases (eqb (tag p c) 6) (eqb c (size p)) h)
+class-at-most p inside c h = ⊎-elim (λ e. let b = inside c e in omega arith) (λ e. omega arith) (class-tag p c h)
 
--- a row with a tag above 0 is one of the program's rows
-pub tag-inside : (ws : List ℕ) (s : Sizes) (r : ℕ) → 1 ≤ tag (program ws s) r → r < size (program ws s)
-unfolding program tag left columns
-tag-inside ws s r h = elim (decLt r (s .rows)) [
-  | yes a ↦ a
-  | no a ↦
-      let z = List·getD-eq-default (take (s .rows) (drop 4 ws)) 0 {n = r} (simp length-take (omega arith)) in absurd (omega arith)
-]
+-- mail in form has its keys below their count
+pub listed-keys : (p : Program) (t : Tables) → ((r : ℕ) → tag p r ≡ 6 → r < size p) → ((v : ℕ) → tag p v ≡ 2 → num p (v + 1) < p .constructors) → Listed (is-class p) (is-value p) (t .mail) → Keys p t
+listed-keys p t inside built mail =
+    low-keys p t (λ i h. class-at-most p inside (left (t .mail) i) (mail .left-legal i h)) (λ i h. row-letter-low p built (right (t .mail) i))
 
 -- tables in form are numbered
 pub numbered : (p : Program) (t : Tables) (head : ℕ → Bool) → ((r : ℕ) → tag p r ≡ 6 → r < size p) → ((v : ℕ) → tag p v ≡ 2 → num p (v + 1) < p .constructors) → Listed (is-class p) (is-value p) (t .mail) → Listed (is-class p) head (t .states) → Numbered p t
@@ -113,21 +115,8 @@ numbered p t head inside built mail states =
     }
 
 module _ (p : Program) (t : Tables) (n : Numbered p t) where
-  -- the keys of mail are counted
-  key-below : (k : ℕ) → has-letter p t k ≡ true → k < letter-keys p
-  unfolding letter-keys letter-key
-  key-below k h =
-      let (i, b, e) = letter-entry p t k h in
-      omega (arith, n .letter-low i b, key-room (letters p) (left (t .mail) i) (size p + 1) (omega (arith, n .class-low i b)))
-
   pub counter-below : (k : Counted) (x : ℕ) → counter-of p t k ≡ some x → x < counter-count p t
-  unfolding counter-count letter-count letter-index
-  counter-below (state-of c r) x h =
-      let (a, b) = state-numbered p t c r x h in
-      omega (arith, index-below t (state c r) a)
-  counter-below (letter-of c l) x h =
-      let (u, v, w) = letter-numbered p t c l x h in
-      omega (arith, count-before (letter-key p c l) (letter-keys p) (has-letter p t) (key-below (letter-key p c l) v) v)
+  counter-below = counter-below-of p t (low-keys p t (n .class-low) (n .letter-low))
 
   -- a counter behind the states belongs to an entry of mail
   pub letter-reached : (x : ℕ) → t .states .size ≤ x → x < counter-count p t → (i : ℕ) × (i < t .mail .size) × (letter-index p t (left (t .mail) i) (row-letter p (right (t .mail) i)) ≡ x)

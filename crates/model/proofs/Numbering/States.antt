@@ -5,13 +5,14 @@ use mathlib.Core.Path.{_≡_, refl, sym, _∙_, ap}
 use mathlib.Core.Bool.{true}
 use mathlib.Core.Logic.{⊎-elim}
 use lib.Dec.{eqb}
-use borrow.Author.Tests.{ltb-true, lt-ltb, eqb-true, eq-eqb}
+use borrow.Author.Tests.{ltb-true, eqb-true, eq-eqb}
 use Rattle.model.specs.Words.{Columns, left, right}
 use Rattle.model.specs.Tables.{Tables, State, state, same-state, state-at, state-index, has-state}
 use Rattle.model.specs.Wanted.{Member}
 use Rattle.model.specs.Demands.{Pair-below}
 use Rattle.model.proofs.Logic.{test, and-left, and-right, and-intro}
-use Rattle.model.proofs.Index.{First, first-is, first-unique, first-below}
+use Rattle.model.proofs.Exact.Members.{has-state-iff}
+use Rattle.model.proofs.Index.{First, first-is, first-unique}
 
 same-state-path : (a b : State) → same-state a b ≡ true → a ≡ b
 unfolding same-state
@@ -47,17 +48,10 @@ module _ (t : Tables) where
   state-index-injective s s′ h h′ e = sym (state-at-index s h) ∙ (ap (state-at t) e ∙ state-at-index s′ h′)
 
   pub has-member : (c r : ℕ) → has-state t (state c r) ≡ true → Member (t .states) c r
-  unfolding state-at
-  has-member c r h =
-      let e = state-at-index (state c r) h in
-      record { at = state-index t (state c r); below = index-below (state c r) h; first = ap (λ s. s .class) e; second = ap (λ s. s .location) e }
+  has-member c r = has-state-iff t c r .0
 
   pub member-has : (c r : ℕ) → Member (t .states) c r → has-state t (state c r) ≡ true
-  unfolding has-state state-index state-at
-  member-has c r m =
-      let k = first-below 0 (t .states .size) (m .at) (λ i. same-state (state-at t i) (state c r)) (omega arith) (m .below)
-      (same-state-intro (state-at t (m .at)) (state c r) (m .first) (m .second)) in
-      lt-ltb (state-index t (state c r)) (t .states .size) (omega (arith, m .below))
+  member-has c r = has-state-iff t c r .1
 
   -- in a list that ascends each entry is the first of its kind
   pub index-state-at : (i : ℕ) → Ascending (t .states) → i < t .states .size → state-index t (state-at t i) ≡ i

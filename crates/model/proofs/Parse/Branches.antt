@@ -9,6 +9,7 @@ use native.Mathlib.Decide.{ℕ-discrete}
 use Rattle.model.specs.Limits.{maxDepth}
 use Rattle.model.specs.Rows.{Program, tag, num, Item, expression, pattern, branch, branch-items, step}
 use Rattle.model.specs.Heads.{cases, receives, head-at, branch-rows, branch-body, is-function}
+use Rattle.model.proofs.Heads.{head-case, head-receive}
 use Rattle.model.proofs.Parse.Spans.{spans-past, spans-range}
 use Rattle.model.proofs.Parse.Reached.{Stands, stands-only, stands-split}
 use Rattle.model.proofs.Parse.Grammar.{fits-tag}
@@ -92,11 +93,11 @@ module _ {p : Program} where
 
   -- the branches of a case, and of a receive
   pub case-branches : {r n : ℕ} {qs : List ℕ} (l : Location p r) → head-at p r ≡ cases n qs → Branches p r qs (l .below) (l .end)
-  unfolding head-at is-function step
+  unfolding is-function step
   case-branches {r} {n} {qs} l h =
       let k = known-kind p r (cases n qs) h in
       let t : tag p r ≡ 8 = known-tag p r (cases n qs) h (omega arith) in
-      let z : cases (num p r) (branch-rows p (num p (r + 1)) (r + 2)) ≡ cases n qs = rw (k, head-at) at h in
+      let z : cases (num p r) (branch-rows p (num p (r + 1)) (r + 2)) ≡ cases n qs = sym (head-case p r k) ∙ h in
       let (more, says, others) = stands-only (rw k at (location-follows l)) in
       let (t′, same) = fits-tag (tag p (r + 1)) 25 _ (branch-items (num p (r + 1))) more says in
       let two : r + 1 + 1 ≡ r + 2 = omega arith in
@@ -112,12 +113,12 @@ module _ {p : Program} where
       }
 
   pub receive-branches : {r : ℕ} {qs : List ℕ} (l : Location p r) → head-at p r ≡ receives qs → Branches p r qs (l .below) (l .end)
-  unfolding head-at is-function
+  unfolding is-function
   receive-branches {r} {qs} l h =
       let k = known-kind p r (receives qs) h in
       let t : tag p r ≡ 9 = known-tag p r (receives qs) h (omega arith) in
       let a : is-function p r ≡ false = rw t in
-      let z : receives (branch-rows p (num p r) (r + 1)) ≡ receives qs = rw (k, head-at) at h in
+      let z : receives (branch-rows p (num p r) (r + 1)) ≡ receives qs = sym (head-receive p r k) ∙ h in
       record {
         count = num p r;
         from = r + 1;

@@ -6,11 +6,9 @@ use mathlib.Core.Bool.{true}
 use mathlib.Core.List.{List, [], _∷_}
 use mathlib.Core.Logic.{_⊎_, inl, inr, ⊎-elim}
 use native.Mathlib.Decide.{decLt}
-use lib.Dec.{eqb}
-use borrow.Author.Tests.{eqb-true}
 use Rattle.model.specs.Rows.{Program, size, tag, num, kind, function, Item, global, header, expression, body-form, lead, past-items, step}
 use Rattle.model.specs.Heads.{is-function, body}
-use Rattle.model.proofs.Logic.{or-cases}
+pub use Rattle.model.proofs.Heads.{function-tag}
 use Rattle.model.proofs.Parse.Spans.{spans-past, spans-range, spans-takes}
 use Rattle.model.proofs.Parse.Reached.{Rows-fit, Stands, stands-only, stands-split, stands-front, stands-inside, row-taken}
 use Rattle.model.proofs.Parse.Grammar.{fits-tag, expression-follows, head-or-global}
@@ -26,13 +24,6 @@ pub record Function-form (p : Program) (f e : ℕ) : Type 0 where
 -- each function from row s below row e has its body form before e
 pub record Enclosed (p : Program) (s e : ℕ) : Type 0 where
   pub ends : (f : ℕ) → s ≤ f → f < e → is-function p f ≡ true → past-items p body-form (f + 1) ≤ e
-
--- a function's tag is 3 or 11
-pub function-tag : (p : Program) (f : ℕ) → is-function p f ≡ true → (tag p f ≡ 3) ⊎ (tag p f ≡ 11)
-unfolding is-function
-function-tag p f h =
-    ⊎-elim (λ e. inl (eqb-true (tag p f) 3 e)) (λ e. inr (eqb-true (tag p f) 11 e))
-    (or-cases (eqb (tag p f) 3) (eqb (tag p f) 11) h)
 
 module _ {p : Program} where
   -- a function in an expression (tag 3), and one of the first (tag 11)

@@ -1,63 +1,27 @@
 -- What an item of the grammar says to a row that fits it: the row's tag, and what follows the row.
-use Prim.Native.Nat.{ℕ, _-_, _≤_, _<_}
+use Prim.Native.Nat.{ℕ, _-_, _≤_}
 use native.Mathlib.Omega.{arith}
-use mathlib.Core.Path.{_≡_, refl, sym, _∙_, ap}
+use mathlib.Core.Path.{_≡_, refl}
 use mathlib.Core.Bool.{Bool, true, false, _&&_}
 use mathlib.Core.List.{List, [], _∷_, _++_}
 use mathlib.Core.Logic.{_⊎_, inl, inr, ⊎-elim}
-use mathlib.Core.Option.{some, Option·some-injective, Option·none-ne-some}
-use lib.ListN.{replicate, List·getD-eq-default}
+use mathlib.Core.Option.{some, Option·none-ne-some}
+use lib.ListN.{replicate}
 use native.Mathlib.Decide.{decLt}
 use lib.Dec.{leb, eqb}
 use borrow.Author.Tests.{eqb-true, leb-true}
-use Rattle.model.specs.Index.{all, allIn}
 use Rattle.model.specs.Reader.{fits}
 use Rattle.model.specs.Rows.{Program, Kind, give, build, function, call, send, spawn, self, case, receive, other, kind, Item, constructor, global, header, parameter, expression, made, operand, arguments, branches, pattern, branch-items, lead, arity, is-name, expression-step, pattern-step, step}
 use Rattle.model.proofs.Logic.{test, and-left, and-right, or-cases}
-use Rattle.model.proofs.Index.{all-elim}
+use Rattle.model.proofs.Heads.{kind-other}
+pub use Rattle.model.proofs.Heads.{code, kind-tag}
+pub use Rattle.model.proofs.Reader.{fits-some}
 
--- what fits passes its test
-pub fits-some : {I : Type 0} (b : Bool) (items more : List I) → fits b items ≡ some more → (b ≡ true) × (items ≡ more)
-unfolding fits
-fits-some true items more h = (refl, Option·some-injective items more h)
-fits-some false items more h = absurd (Option·none-ne-some more h)
-
--- ... and has its tag, where the test begins with that
+-- what fits has its tag, where the test begins with that
 pub fits-tag : {I : Type 0} (t k : ℕ) (b : Bool) (items more : List I) → fits (eqb t k && b) items ≡ some more → (t ≡ k) × (items ≡ more)
 fits-tag t k b items more h =
     let (passes, same) = fits-some (eqb t k && b) items more h in
     (eqb-true t k (and-left (eqb t k) b passes), same)
-
--- the tag of a kind
-abbrev pub code : Kind → ℕ
-code give = 1
-code build = 2
-code function = 3
-code call = 4
-code send = 5
-code spawn = 6
-code self = 7
-code case = 8
-code receive = 9
-code other = 0
-
--- a tag above 9 has no kind
-kind-other : (t : ℕ) → 9 < t → kind t ≡ other
-unfolding kind
-kind-other t h =
-    List·getD-eq-default (other ∷ give ∷ build ∷ function ∷ call ∷ send ∷ spawn ∷ self ∷ case ∷ receive ∷ []) other {n = t} (omega arith)
-
--- the tags up to 9 are those of the kinds
-kind-code : (t : ℕ) → t ≤ 9 → code (kind t) ≡ t
-unfolding kind all allIn
-kind-code t h = eqb-true (code (kind t)) t (all-elim 0 10 t (λ k. eqb (code (kind k)) k) refl (omega arith) (omega arith))
-
--- a tag whose kind is known
-pub kind-tag : (t : ℕ) (k : Kind) → kind t ≡ k → 0 < code k → t ≡ code k
-kind-tag t k e known = elim (decLt 9 t) [
-  | yes h ↦ let z : code k ≡ 0 = ap code (sym e ∙ kind-other t h) in absurd (omega arith)
-  | no h ↦ sym (kind-code t (omega arith)) ∙ ap code e
-]
 
 -- a tag of some kind is from 1 to 9
 kind-range : (t : ℕ) → (kind t ≡ other → ⊥) → (1 ≤ t) × (t ≤ 9)

@@ -8,6 +8,8 @@ use mathlib.Core.Option.{Option, some, none, Option·some-injective, Option·non
 use Rattle.model.specs.Rows.{Program, tag, num, Kind, give, build, function, call, send, spawn, self, case, receive, other, kind, expression, lead, arity}
 use Rattle.model.specs.Scopes.{rest}
 use Rattle.model.specs.Heads.{nums, Call, call-at, Head, gives, builds, makes, calls, sends, spawns, selfs, cases, receives, no-head, head-at, is-function, is-class}
+use Rattle.model.proofs.Heads
+use Rattle.model.proofs.Heads.{head-give, head-function, head-send, head-spawn, head-self, head-case, head-receive, head-other}
 use Rattle.model.proofs.Parse.Grammar.{code, kind-tag, follows}
 
 -- the kind of a head
@@ -38,34 +40,33 @@ rest-of no-head = none
 
 module _ (p : Program) (r : ℕ) where
   kind-in : (k : Kind) → kind (tag p r) ≡ k → head-kind (head-at p r) ≡ k
-  unfolding head-at
-  kind-in give e = rw (e, head-at)
-  kind-in build e = rw (e, head-at)
-  kind-in function e = rw (e, head-at)
-  kind-in call e = rw (e, head-at)
-  kind-in send e = rw (e, head-at)
-  kind-in spawn e = rw (e, head-at)
-  kind-in self e = rw (e, head-at)
-  kind-in case e = rw (e, head-at)
-  kind-in receive e = rw (e, head-at)
-  kind-in other e = rw (e, head-at)
+  kind-in give e = ap head-kind (head-give p r e)
+  kind-in build e = ap head-kind (Heads.head-build p r e)
+  kind-in function e = ap head-kind (head-function p r e)
+  kind-in call e = ap head-kind (Heads.head-call p r e)
+  kind-in send e = ap head-kind (head-send p r e)
+  kind-in spawn e = ap head-kind (head-spawn p r e)
+  kind-in self e = ap head-kind (head-self p r e)
+  kind-in case e = ap head-kind (head-case p r e)
+  kind-in receive e = ap head-kind (head-receive p r e)
+  kind-in other e = ap head-kind (head-other p r e)
 
   -- a head has the kind of its row's tag
   pub kind-of-head : head-kind (head-at p r) ≡ kind (tag p r)
   kind-of-head = kind-in (kind (tag p r)) refl
 
   rest-in : (k : Kind) (r′ : ℕ) → kind (tag p r) ≡ k → rest-of (head-at p r) ≡ some r′ → (follows k (num p r) ≡ lead k ++ expression ∷ []) × (rest p r ≡ r′)
-  unfolding head-at call-at
-  rest-in give r′ e h = absurd (Option·none-ne-some r′ (rw (e, head-at) at h))
-  rest-in build r′ e h = (refl, Option·some-injective (rest p r) r′ (rw (e, head-at) at h))
-  rest-in function r′ e h = (refl, Option·some-injective (rest p r) r′ (rw (e, head-at) at h))
-  rest-in call r′ e h = (refl, Option·some-injective (rest p r) r′ (rw (e, head-at) at h))
-  rest-in send r′ e h = (refl, Option·some-injective (rest p r) r′ (rw (e, head-at) at h))
-  rest-in spawn r′ e h = (refl, Option·some-injective (rest p r) r′ (rw (e, head-at) at h))
-  rest-in self r′ e h = (refl, Option·some-injective (rest p r) r′ (rw (e, head-at) at h))
-  rest-in case r′ e h = absurd (Option·none-ne-some r′ (rw (e, head-at) at h))
-  rest-in receive r′ e h = absurd (Option·none-ne-some r′ (rw (e, head-at) at h))
-  rest-in other r′ e h = absurd (Option·none-ne-some r′ (rw (e, head-at) at h))
+  unfolding call-at
+  rest-in give r′ e h = absurd (Option·none-ne-some r′ (rw (head-give p r e) at h))
+  rest-in build r′ e h = (refl, Option·some-injective (rest p r) r′ (rw (Heads.head-build p r e) at h))
+  rest-in function r′ e h = (refl, Option·some-injective (rest p r) r′ (rw (head-function p r e) at h))
+  rest-in call r′ e h = (refl, Option·some-injective (rest p r) r′ (rw (Heads.head-call p r e) at h))
+  rest-in send r′ e h = (refl, Option·some-injective (rest p r) r′ (rw (head-send p r e) at h))
+  rest-in spawn r′ e h = (refl, Option·some-injective (rest p r) r′ (rw (head-spawn p r e) at h))
+  rest-in self r′ e h = (refl, Option·some-injective (rest p r) r′ (rw (head-self p r e) at h))
+  rest-in case r′ e h = absurd (Option·none-ne-some r′ (rw (head-case p r e) at h))
+  rest-in receive r′ e h = absurd (Option·none-ne-some r′ (rw (head-receive p r e) at h))
+  rest-in other r′ e h = absurd (Option·none-ne-some r′ (rw (head-other p r e) at h))
 
   -- a head with a rest is followed by its lead and the rest
   pub rest-of-head : (r′ : ℕ) → rest-of (head-at p r) ≡ some r′ → (follows (kind (tag p r)) (num p r) ≡ lead (kind (tag p r)) ++ expression ∷ []) × (rest p r ≡ r′)
@@ -81,12 +82,12 @@ module _ (p : Program) (r : ℕ) where
 
   -- what stands at a build and at a call, from the tag and back
   pub head-build : tag p r ≡ 2 → head-at p r ≡ builds (num p r) (num p (r + 1)) (nums p (r + 2) (arity p (num p (r + 1)))) (rest p r)
-  unfolding head-at kind
-  head-build e = rw (e, head-at)
+  unfolding kind
+  head-build e = Heads.head-build p r (ap kind e)
 
   pub head-call : tag p r ≡ 4 → head-at p r ≡ calls (call-at p r)
-  unfolding head-at kind
-  head-call e = rw (e, head-at)
+  unfolding kind
+  head-call e = Heads.head-call p r (ap kind e)
 
   pub build-tag : (n k r′ : ℕ) (ns : List ℕ) → head-at p r ≡ builds n k ns r′ → (tag p r ≡ 2) × (num p (r + 1) ≡ k) × (nums p (r + 2) (arity p k) ≡ ns)
   build-tag n k r′ ns h =

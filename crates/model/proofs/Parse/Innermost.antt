@@ -1,41 +1,24 @@
 -- The innermost function around a head: none at the start, the same at a head's rest and branches, a function's own at its body.
-use Prim.Native.Nat.{ℕ, zero, suc, _+_, _≤_, _<_}
+use Prim.Native.Nat.{ℕ, _+_, _≤_, _<_}
 use native.Mathlib.Omega.{arith}
 use native.Mathlib.Decide.{ℕ-discrete, decLt}
-use mathlib.Core.Path.{_≡_, refl, sym, _∙_}
+use mathlib.Core.Path.{_≡_, _∙_}
 use mathlib.Core.Bool.{Bool, true, false, _&&_}
 use mathlib.Core.List.{List, List·Memᴰ}
 use mathlib.Core.Logic.{⊎-elim}
 use mathlib.Core.Option.{some, none}
 use lib.Dec.{ltb}
 use borrow.Author.Tests.{lt-ltb, le-ltb}
-use Rattle.model.specs.Index.{last}
 use Rattle.model.specs.Rows.{Program, size, tag, kind, Item, body-form, lead, past-items}
 use Rattle.model.specs.Heads.{head-at, branch-body, is-function, body, innermost, start}
 use Rattle.model.proofs.Logic.{true-false, test}
-use Rattle.model.proofs.Index.{last-hit, last-miss, last-is, last-none}
+use Rattle.model.proofs.Index.{last-is, last-none, last-same, last-upto}
 use Rattle.model.proofs.Parse.Spans.{spans-past, spans-range, spans-takes}
 use Rattle.model.proofs.Parse.Reached.{Rows-fit, Stands, stands-within, stands-inside}
 use Rattle.model.proofs.Parse.Heads.{rest-of}
 use Rattle.model.proofs.Parse.Locations.{Location, head-range, location-head, rest-stands, start-stands}
 use Rattle.model.proofs.Parse.Functions.{Enclosed, function-tag, row-form, form-body, stands-enclosed, enclosed-append}
 use Rattle.model.proofs.Parse.Branches.{Branches, branch-in}
-
--- the last index is the same where the tests are
-last-same : (n : ℕ) (f g : ℕ → Bool) → ((j : ℕ) → j < n → f j ≡ g j) → last n f ≡ last n g
-unfolding last
-last-same zero f g h = refl
-last-same (suc n) f g h =
-    test (g n) (λ t. last-hit n f (h n (omega arith) ∙ t) ∙ sym (last-hit n g t))
-    (λ t. last-miss n f (h n (omega arith) ∙ t) ∙ (last-same n f g (λ j l. h j (omega arith)) ∙ sym (last-miss n g t)))
-
--- ... and where none passes behind n
-last-upto : (n m : ℕ) (f : ℕ → Bool) → n ≤ m → ((j : ℕ) → n ≤ j → j < m → f j ≡ false) → last m f ≡ last n f
-last-upto n zero f l h = let z : n ≡ zero = omega arith in rw z
-last-upto n (suc m) f l h = elim (ℕ-discrete n (suc m)) [
-  | yes z ↦ rw z
-  | no z ↦ last-miss m f (h m (omega arith) (omega arith)) ∙ last-upto n m f (omega arith) (λ j a b. h j a (omega arith))
-]
 
 -- the function at row f holds row r
 abbrev encloses : Program → ℕ → ℕ → Bool

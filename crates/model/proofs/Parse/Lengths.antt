@@ -1,19 +1,22 @@
--- The lists of names at a head are as long as the rows say.
+-- The lists of names at a head are as long as the rows say, and what a row builds has a constructor.
 use Prim.Native.Nat.{ℕ, _+_, _≤_, _<_}
 use native.Mathlib.Omega.{arith}
-use native.Mathlib.Decide.{decLt}
 use mathlib.Core.Path.{_≡_, _∙_, ap}
 use mathlib.Core.Bool.{true}
-use mathlib.Core.List.{List, [], _++_}
+use mathlib.Core.List.{List, [], _∷_, _++_}
 use mathlib.Core.Logic.{⊎-elim}
-use lib.ListN.{length, getD, drop, replicate, length-append, length-replicate, length-take, length-drop, List·getD-eq-default}
+use lib.ListN.{length, getD, drop, replicate, length-append, length-replicate, length-take, length-drop}
 use lib.Seq.{getD-take, getD-drop}
-use Rattle.model.specs.Words.{left, right}
-use Rattle.model.specs.Rows.{Program, size, tag, num, kind, build, call, is-head, Item, parameter, operand, lead, arity, step}
+use lib.Dec.{eqb}
+use borrow.Author.Tests.{ltb-true}
+use Rattle.model.specs.Words.{right}
+use Rattle.model.specs.Rows.{Program, size, tag, num, kind, build, call, is-head, Item, parameter, expression, made, operand, lead, arity, step}
 use Rattle.model.specs.Heads.{nums, call-at, is-function, parameters}
+use Rattle.model.proofs.Logic.{and-right}
+use Rattle.model.proofs.Rows.{row-inside}
 use Rattle.model.proofs.Parse.Spans.{Spans, spans-length, spans-takes}
 use Rattle.model.proofs.Parse.Reached.{Rows-fit, Row, stands-row}
-use Rattle.model.proofs.Parse.Grammar.{fits-tag}
+use Rattle.model.proofs.Parse.Grammar.{fits-some, fits-tag}
 use Rattle.model.proofs.Parse.Locations.{Location, location-follows, head-range, head-location}
 use Rattle.model.proofs.Parse.Functions.{Function-form, function-tag}
 
@@ -25,11 +28,7 @@ pub record Columns-whole (p : Program) : Type 0 where
 module _ {p : Program} (w : Columns-whole p) where
   -- a row with a tag is one of the program's
   pub row-within : (r : ℕ) → 0 < tag p r → r < size p
-  unfolding tag left
-  row-within r h = elim (decLt r (size p)) [
-    | yes l ↦ l
-    | no l ↦ let z = w .tags in let y = List·getD-eq-default (p .rows .lefts) 0 {n = r} (omega arith) in absurd (omega arith)
-  ]
+  row-within r h = let z = w .tags in row-inside p (omega arith) r h
 
   -- n numbers of the program's rows are n
   pub nums-length : (r n : ℕ) → r + n ≤ size p → length (nums p r n) ≡ n
@@ -52,6 +51,17 @@ counted {p} {x} {xs} {below} {r} {e} n y g same =
 pub row-location : {p : Program} → Rows-fit p → Columns-whole p → (r : ℕ) → is-head (tag p r) ≡ true → Location p r
 row-location {p} fit w r h = head-location fit (row-within w r (head-range (tag p r) h .0)) h
 
+-- behind a build stands the row of its constructor
+build-row : {p : Program} {r : ℕ} (l : Location p r) → tag p r ≡ 2 → Row p made (expression ∷ []) (l .below) (r + 1) (l .end)
+unfolding lead kind
+build-row {p} {r} l t = let k : kind (tag p r) ≡ build = rw t in stands-row (rw k at (location-follows l))
+
+pub built-below : (p : Program) → Rows-fit p → (v : ℕ) → v < size p → tag p v ≡ 2 → num p (v + 1) < p .constructors
+unfolding step is-head
+built-below p fit v h t =
+    let row = build-row (head-location fit h (rw t)) t in
+    ltb-true _ _ (and-right (eqb (tag p (v + 1)) 20) _ (fits-some _ _ (row .more) (row .says) .0))
+
 -- a function is one of the program's rows
 pub function-within : {p : Program} → Columns-whole p → (f : ℕ) → is-function p f ≡ true → f < size p
 function-within {p} w f h = row-within w f (⊎-elim (λ t. omega arith) (λ t. omega arith) (function-tag p f h))
@@ -72,12 +82,11 @@ module _ {p : Program} (w : Columns-whole p) where
       nums-length w (r + 3) (num p (r + 2)) (omega (arith, ap (num p) two))
 
   pub build-length : {r : ℕ} → Location p r → tag p r ≡ 2 → length (nums p (r + 2) (arity p (num p (r + 1)))) ≡ arity p (num p (r + 1))
-  unfolding lead kind step
+  unfolding step
   build-length {r} l t =
-      let k : kind (tag p r) ≡ build = rw t in
-      let made = stands-row (rw k at (location-follows l)) in
-      let (t₁, same₁) = fits-tag (tag p (r + 1)) 20 _ (replicate (arity p (num p (r + 1))) operand) (made .more) (made .says) in
-      let fit = counted (arity p (num p (r + 1))) operand made same₁ in
+      let row = build-row l t in
+      let (t₁, same₁) = fits-tag (tag p (r + 1)) 20 _ (replicate (arity p (num p (r + 1))) operand) (row .more) (row .says) in
+      let fit = counted (arity p (num p (r + 1))) operand row same₁ in
       let v = spans-takes (l .stands .spans) in
       nums-length w (r + 2) (arity p (num p (r + 1))) (omega arith)
 

@@ -1,32 +1,22 @@
 -- What is still to come at each row when the whole program is read.
 use Prim.Native.Nat.{ℕ, zero, suc, _+_, _-_, _≤_, _<_}
 use native.Mathlib.Omega.{arith}
-use native.Mathlib.Numerals.{add-one}
 use mathlib.Core.Path.{_≡_, refl, sym, _∙_}
 use mathlib.Core.List.{List, [], _∷_, _++_, append-assoc, append-nil}
-use mathlib.Core.Option.{Option, some, none, Option·some-injective, Option·none-ne-some}
+use mathlib.Core.Option.{some, none, Option·some-injective}
 use Rattle.model.specs.Reader.{first-wrong}
 use Rattle.model.specs.Rows.{Program, size, tag, num, Item, step, whole, past-items}
-use Rattle.model.proofs.Reader.{by-option, first-wrong-none}
+use Rattle.model.proofs.Reader.{first-wrong-none}
+use Rattle.model.proofs.Exact.Reading.{Ahead, at-first, after-row, ahead-unique}
 use Rattle.model.proofs.Parse.Spans.{Spans, spans-past, spans-unique, spans-none, spans-range, spans-takes, spans-split, spans-first}
 
 -- the program's rows fit: refusal 3 does not apply
 abbrev pub Rows-fit : Program → Type 0
 Rows-fit p = first-wrong (step p) (p .rows) (whole p) ≡ none
 
--- the items behind row r, which the first one takes
-unfoldable pub next : Program → List Item → ℕ → Option (List Item)
-next p [] r = none
-next p (item ∷ items) r = elim (step p item (tag p r) (num p r)) [ none ↦ none | some more ↦ some (more ++ items) ]
-
--- the items still to come at row r
-unfoldable pub stack : Program → ℕ → Option (List Item)
-stack p zero = some (whole p)
-stack p (suc r) = elim (stack p r) [ none ↦ none | some items ↦ next p items r ]
-
 -- the reader of the whole program comes to row r with these items still to come
 pub record Reached (p : Program) (items : List Item) (r : ℕ) : Type 0 where
-  pub stacked : stack p r ≡ some items
+  pub ahead : Ahead (step p) (p .rows) (whole p) r items
 
 -- the items xs stand from row r up to row e, and `below` is to come behind them
 pub record Stands (p : Program) (xs below : List Item) (r e : ℕ) : Type 0 where
@@ -49,17 +39,16 @@ pub record Inside (p : Program) (below : List Item) (s e : ℕ) : Type 0 where
 module _ {p : Program} where
   -- at the first row everything is to come
   pub reached-begin : Reached p (whole p) 0
-  unfolding stack
-  reached-begin = record { stacked = refl }
+  reached-begin = record { ahead = at-first }
 
   -- at most one list of items is reached
   pub reached-unique : {xs ys : List Item} {r : ℕ} → Reached p xs r → Reached p ys r → xs ≡ ys
-  reached-unique {xs} {ys} h k = Option·some-injective xs ys (sym (h .stacked) ∙ k .stacked)
+  reached-unique {xs} {ys} {r} h k = ahead-unique (step p) (p .rows) (whole p) r r xs ys refl (h .ahead) (k .ahead)
 
   -- one row on
   pub reached-next : {item : Item} {items more : List Item} {r : ℕ} → Reached p (item ∷ items) r → step p item (tag p r) (num p r) ≡ some more → Reached p (more ++ items) (r + 1)
-  unfolding stack next
-  reached-next {item} {items} {more} {r} h goes = record { stacked = rw (add-one r, h .stacked, goes, next) }
+  unfolding tag num
+  reached-next {item} {items} {more} {r} h goes = record { ahead = after-row r item items more (h .ahead) goes }
 
   -- the first row of items
   pub stands-row : {x : Item} {xs below : List Item} {r e : ℕ} → Stands p (x ∷ xs) below r e → Row p x xs below r e
@@ -131,26 +120,18 @@ module _ {p : Program} where
 -- In a program whose rows fit:
 
 module _ {p : Program} (fit : Rows-fit p) where
-  -- one row on
-  spans-on : (prev : List Item) {items : List Item} {r : ℕ} → Reached p prev r → Spans p prev r (size p) → Reached p items (r + 1) → Spans p items (r + 1) (size p)
-  unfolding stack next
-  spans-on [] {items} {r} h s k = absurd (Option·none-ne-some items (rw (add-one r, h .stacked) at (k .stacked)))
-  spans-on (x ∷ xs) {items} {r} h s k =
-      let f = spans-first s in
-      rw (reached-unique (reached-next h (f .says)) k) at (f .rest)
+  ahead-spans : (r : ℕ) (items : List Item) → Ahead (step p) (p .rows) (whole p) r items → Spans p items r (size p)
+  unfolding tag num
+  ahead-spans r items at-first =
+      let z : size p - 0 ≡ size p = omega arith in
+      record { reads = rw z (first-wrong-none (step p) (p .rows) (whole p) fit) }
+  ahead-spans r′ items′ (after-row r item items more a says) =
+      let f = spans-first (ahead-spans r (item ∷ items) a) in
+      rw (Option·some-injective (f .more) more (sym (f .says) ∙ says)) at (f .rest)
 
   -- from each row that is reached, reading goes on to the end
   pub reached-spans : (r : ℕ) {items : List Item} → Reached p items r → Spans p items r (size p)
-  unfolding stack
-  reached-spans zero {items} h =
-      let z : size p - 0 ≡ size p = omega arith in
-      rw (← reached-unique reached-begin h) (record { reads = rw z (first-wrong-none (step p) (p .rows) (whole p) fit) })
-  reached-spans (suc r) {items} h =
-      by-option (stack p r)
-      (λ e. absurd (Option·none-ne-some items (rw (e, stack) at (h .stacked))))
-      (λ prev e.
-      let k : Reached p prev r = record { stacked = e } in
-      rw (add-one r) at (spans-on prev {items = items} k (reached-spans r k) (rw (add-one r) h)))
+  reached-spans r {items} h = ahead-spans r items (h .ahead)
 
   -- items that are reached stand up to some row
   pub reached-stands : (xs : List Item) {below : List Item} {r : ℕ} → Reached p (xs ++ below) r → (e : ℕ) × Stands p xs below r e
