@@ -1,14 +1,14 @@
 -- A step, by the kind of its head (`act` of specs/Run.antt).
 use Prim.Native.Nat.{ℕ, _+_}
-use mathlib.Core.Path.{_≡_, refl}
-use mathlib.Core.List.{List, [], _∷_, _++_}
+use mathlib.Core.Path.{_≡_}
+use mathlib.Core.List.{[], _∷_, _++_}
 use mathlib.Core.Option.{Option, some, none}
 use lib.ListN.{length, set}
 use Rattle.model.specs.Rows.{Program, tag, num, arity, kind}
-use Rattle.model.specs.Rows.{Kind, give, build, function, call, send, spawn, self, case, receive, other}
+use Rattle.model.specs.Rows.{give, build, function, call, send, spawn, self, case, receive, other}
 use Rattle.model.specs.Scopes.{rest}
 use Rattle.model.specs.Heads.{nums, call-at, branch-rows}
-use Rattle.model.specs.Values.{Value, closure, built, address, Bindings, bind, value-of, values-of, Process, process, Processes}
+use Rattle.model.specs.Values.{closure, built, address, bind, value-of, values-of, Process, process, Processes}
 use Rattle.model.specs.Matching.{first-branch, receive-from}
 use Rattle.model.specs.Run.{_>>=_, moved, function-of, process-of, deliver, give-back, enter, spawned, act}
 use Rattle.model.proofs.Heads.{head-give, head-build, head-function, head-call, head-send, head-spawn, head-self, head-case, head-receive, head-other}

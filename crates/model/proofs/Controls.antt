@@ -3,14 +3,12 @@ use Prim.Native.Nat.{ℕ}
 use mathlib.Core.Path.{_≡_, refl}
 use mathlib.Core.List.{List, [], _∷_, _++_}
 use mathlib.Core.Option.{Option, some, none}
-use lib.ListN.{length}
 use Rattle.model.specs.Index.{gather}
-use Rattle.model.specs.Rows.{Program}
 use Rattle.model.specs.Values.{Processes}
 use Rattle.model.specs.Run.{starting, next}
 use Rattle.model.specs.Letters.{processes-at, messages-of}
-use Rattle.model.specs.Tables.{Tables, state-at}
-use Rattle.model.specs.Rules.{Effect, quiet, reads, puts, starts, Rule, rule}
+use Rattle.model.specs.Tables.{state-at}
+use Rattle.model.specs.Rules.{quiet, reads, puts, starts, Rule, rule}
 use Rattle.model.specs.Markings.{Marking, initial, fire-all}
 use Rattle.model.specs.Verify.{Message, message}
 use Rattle.model.proofs.Opens.{model-opens}

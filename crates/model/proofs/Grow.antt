@@ -1,9 +1,9 @@
 -- A new process changes nothing of what covers the values there are: their addresses are of the processes before.
-use Prim.Native.Nat.{ℕ, _+_, _<_}
+use Prim.Native.Nat.{ℕ, _+_}
 use native.Mathlib.Omega.{arith}
-use mathlib.Core.Path.{_≡_, refl, sym, _∙_, ap, subst}
-use mathlib.Core.List.{List, [], _∷_, _++_}
-use lib.ListN.{length, getD, List·getD-append, length-append}
+use mathlib.Core.Path.{_≡_, refl, sym, subst}
+use mathlib.Core.List.{List, _++_}
+use lib.ListN.{List·getD-append, length-append}
 use Rattle.model.specs.Rows.{Program}
 use Rattle.model.specs.Values.{Value, closure, built, address, Bindings, empty, bind}
 use Rattle.model.specs.Tables.{Tables}

@@ -1,15 +1,13 @@
 -- The invariant of every run: each process is at a state of the tables, and all that it keeps is covered by them.
-use Prim.Native.Nat.{ℕ, zero, suc, _+_, _<_}
-use native.Mathlib.Omega.{arith}
-use mathlib.Core.Path.{_≡_, refl, sym, _∙_, ap, subst}
-use mathlib.Core.Bool.{Bool, true, false}
-use mathlib.Core.Logic.{⊎-elim}
-use mathlib.Core.List.{List, [], _∷_, _++_, map, List·Memᴰ, List·Memᴰ·head, List·Memᴰ·tail, List·Memᴰ·cases-cons, List·Memᴰ·append-cases, List·Memᴰ·eq-of-singleton}
-use mathlib.Core.Option.{Option, some, none, Option·some-injective, Option·none-ne-some}
-use lib.ListN.{length, getD, getElem?, set}
+use Prim.Native.Nat.{ℕ, zero, suc, _+_}
+use mathlib.Core.Path.{_≡_, sym, _∙_, subst}
+use mathlib.Core.Bool.{true}
+use mathlib.Core.List.{List, [], _∷_, _++_, map, List·Memᴰ}
+use mathlib.Core.Option.{some, Option·some-injective, Option·none-ne-some}
+use lib.ListN.{getElem?, set}
 use Rattle.model.specs.Rows.{Program, tag}
 use Rattle.model.specs.Heads.{call-at, is-class, innermost}
-use Rattle.model.specs.Values.{Value, Bindings, Frame, Process, process, Processes}
+use Rattle.model.specs.Values.{Value, Frame, Process, process, Processes}
 use Rattle.model.specs.Tables.{Tables}
 use Rattle.model.specs.Wanted.{Member, MayCall}
 use Rattle.model.proofs.Covering.{row-for, Covered, Held}

@@ -1,16 +1,16 @@
 -- Reading names: what a name holds is covered by flow, and so are the arguments read for a call or a build.
-use Prim.Native.Nat.{ℕ, suc, _+_, _<_}
+use Prim.Native.Nat.{ℕ, suc, _<_}
 use native.Mathlib.Omega.{arith}
-use mathlib.Core.Path.{_≡_, refl, sym, _∙_, ap, subst}
-use mathlib.Core.Bool.{Bool, true, false, _&&_}
-use mathlib.Core.List.{List, [], _∷_, _++_}
+use mathlib.Core.Path.{_≡_, refl, ap, subst}
+use mathlib.Core.Bool.{_&&_}
+use mathlib.Core.List.{List, [], _∷_}
 use mathlib.Core.Option.{Option, some, none, Option·some-injective, Option·none-ne-some}
 use lib.ListN.{length, getD}
 use lib.Dec.{eqb, ltb}
-use borrow.Author.Tests.{eqb-true, eq-eqb, ltb-true}
+use borrow.Author.Tests.{eqb-true, ltb-true}
 use Rattle.model.specs.Rows.{Program, size, tag, num}
 use Rattle.model.specs.Heads.{is-function}
-use Rattle.model.specs.Values.{Value, closure, built, address, Bindings, empty, bind, lookup, global-row, value-of, values-of, bind-all}
+use Rattle.model.specs.Values.{Value, closure, Bindings, empty, bind, lookup, global-row, value-of, values-of, bind-all}
 use Rattle.model.specs.Tables.{Tables}
 use Rattle.model.specs.Wanted.{Member, Closed, global-name, flow}
 use Rattle.model.specs.Run.{_>>=_}

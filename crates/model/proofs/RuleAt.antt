@@ -1,28 +1,28 @@
 -- For each kind of step the rule that it follows is among the rules.
-use Prim.Native.Nat.{ℕ, zero, suc, _+_, _<_, _≤_}
+use Prim.Native.Nat.{ℕ, _+_, _<_}
 use native.Mathlib.Omega.{arith}
-use mathlib.Core.Path.{_≡_, refl, sym, _∙_, ap, subst}
+use mathlib.Core.Path.{_≡_, refl, subst}
 use mathlib.Core.Bool.{Bool, true, false, _&&_}
-use mathlib.Core.List.{List, [], _∷_, _++_, List·Memᴰ, List·Memᴰ·head, List·Memᴰ·tail, Memᴰ·append-left, Memᴰ·append-right, List·Memᴰ·cases-cons}
+use mathlib.Core.List.{List, [], _∷_, List·Memᴰ, List·Memᴰ·head, Memᴰ·append-left, Memᴰ·append-right, List·Memᴰ·cases-cons}
 use mathlib.Core.Logic.{⊎-elim}
-use mathlib.Core.Option.{Option, some, none}
-use lib.Dec.{eqb, ltb}
-use borrow.Author.Tests.{eqb-true, eq-eqb, lt-ltb}
-use Rattle.model.specs.Index.{gather, only}
+use mathlib.Core.Option.{some}
+use lib.Dec.{eqb}
+use borrow.Author.Tests.{eq-eqb}
+use Rattle.model.specs.Index.{only}
 use Rattle.model.specs.Words.{Columns, left, right}
 use Rattle.model.specs.Rows.{Program, size, tag, num, kind}
-use Rattle.model.specs.Rows.{Kind, give, build, function, call, send, spawn, self, case, receive, other}
+use Rattle.model.specs.Rows.{give, build, function, call, send, spawn, self, case, receive}
 use Rattle.model.specs.Scopes.{rest}
-use Rattle.model.specs.Heads.{Call, call-at, head-at, branch-rows, branch-body, is-class, body, takes, innermost}
+use Rattle.model.specs.Heads.{call-at, branch-rows, branch-body, is-class, body, takes, innermost}
 use Rattle.model.specs.Letters.{letters, row-letter}
-use Rattle.model.specs.Tables.{Tables, State, state, state-at, state-index, same-state, has, some-of}
+use Rattle.model.specs.Tables.{Tables, state, state-at, state-index, has, some-of}
 use Rattle.model.specs.Closed.{may-take, may-call, returns-to}
 use Rattle.model.specs.Counters.{letter-index}
 use Rattle.model.specs.Rules.{Effect, quiet, reads, puts, starts, Rule, rule, from-each, from-all, from-letters, letter-of-some, state-rules, rules}
 use Rattle.model.specs.Limits.{maxDepth}
 use Rattle.model.specs.Wanted.{Member, MayMatch, MayCall}
-use Rattle.model.proofs.Logic.{and-intro, and-left, and-right}
-use Rattle.model.proofs.Index.{any-intro, gather-intro, first-is, first-below, only-intro}
+use Rattle.model.proofs.Logic.{and-intro}
+use Rattle.model.proofs.Index.{gather-intro, only-intro}
 use Rattle.model.proofs.Exact.Members.{has-iff, some-of-iff}
 use Rattle.model.proofs.Exact.MayMatch.{may-match-iff}
 use Rattle.model.proofs.Numbering.States.{member-has, index-below, state-at-index}

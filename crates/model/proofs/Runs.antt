@@ -1,9 +1,9 @@
 -- Demand 3 from its parts: every list of process numbers has its rules, a longer list's go on from a shorter one's, and the counts agree all along.
 use Prim.Native.Nat.{ℕ, zero, suc, _+_, _<_, _≤_}
 use native.Mathlib.Omega.{arith}
-use mathlib.Core.Path.{_≡_, refl, sym, _∙_, ap, subst}
-use mathlib.Core.Bool.{Bool, true, false}
-use mathlib.Core.List.{List, [], _∷_, _++_, List·Memᴰ, List·Memᴰ·not-nil}
+use mathlib.Core.Path.{_≡_, refl, _∙_, ap}
+use mathlib.Core.Bool.{true}
+use mathlib.Core.List.{List, [], _∷_, _++_, List·Memᴰ·not-nil}
 use mathlib.Core.Option.{Option, some, none, Option·some-injective, Option·none-ne-some}
 use lib.ListN.{length, getD, take}
 use Rattle.model.specs.Rows.{Program, size, tag}
@@ -18,16 +18,16 @@ use Rattle.model.specs.Rules.{Rule, rules}
 use Rattle.model.specs.Markings.{Marking, usable, fire, initial, fire-all}
 use Rattle.model.specs.Verify.{Message}
 use Rattle.model.specs.Wanted.{Closed, state, first-state}
-use Rattle.model.specs.Demands.{Under-one, Inductive, Matches, made, not-made, used, Equal-counts, Together, Followed, All-runs-followed}
+use Rattle.model.specs.Demands.{Under-one, Inductive, Matches, made, not-made, used, Equal-counts, All-runs-followed}
 use Rattle.model.proofs.Logic.{test, or-right}
 use Rattle.model.proofs.Reader.{by-option}
 use Rattle.model.proofs.Follow.Changes.{rule-of}
 use Rattle.model.proofs.Follow.Fire.{fire-follows, equal-start}
-use Rattle.model.proofs.Invariant.{classes-of, Good, All-good}
+use Rattle.model.proofs.Invariant.{classes-of, All-good}
 use Rattle.model.proofs.Parse.Reached.{Rows-fit}
 use Rattle.model.proofs.Parse.Locations.{start-location}
 use Rattle.model.proofs.Parse.Lengths.{Columns-whole}
-use Rattle.model.proofs.Stepped.{Stepped, step-stepped}
+use Rattle.model.proofs.Stepped.{step-stepped}
 
 -- counts that agree with a station, under one bound
 pub record Agrees (m : Message) (qs : Processes) (counts : Marking) : Type 0 where

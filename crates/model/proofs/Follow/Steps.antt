@@ -7,7 +7,7 @@ use mathlib.Core.Option.{some}
 use lib.ListN.{getElem?, set}
 use Rattle.model.specs.Rows.{Program}
 use Rattle.model.specs.Values.{Value, Process, Processes}
-use Rattle.model.specs.Matching.{Received, receive-from}
+use Rattle.model.specs.Matching.{Received}
 use Rattle.model.specs.Run.{deliver}
 use Rattle.model.specs.Letters.{value-letter, one-if}
 use Rattle.model.specs.Bads.{Counted, state-of, letter-of}

@@ -2,7 +2,7 @@
 use Prim.Native.Nat.{ℕ}
 use mathlib.Core.Path.{_≡_}
 use mathlib.Core.List.{List, List·Memᴰ}
-use mathlib.Core.Option.{some, none}
+use mathlib.Core.Option.{some}
 use Rattle.model.specs.Limits.{maxDepth}
 use Rattle.model.specs.Rows.{Program}
 use Rattle.model.specs.Heads.{branch-body}

@@ -1,22 +1,21 @@
 -- Steps that change one process and no mailbox: build, function, self, call, giving back, case.
-use Prim.Native.Nat.{ℕ, zero, suc, _+_, _<_}
+use Prim.Native.Nat.{ℕ, _+_, _<_}
 use native.Mathlib.Omega.{arith}
 use mathlib.Core.Path.{_≡_, refl, sym, _∙_, ap, subst}
-use mathlib.Core.Bool.{Bool, true, false}
-use mathlib.Core.List.{List, [], _∷_, _++_, List·Memᴰ}
-use mathlib.Core.Option.{Option, some, none, Option·some-injective, Option·none-ne-some}
+use mathlib.Core.Bool.{true}
+use mathlib.Core.List.{List, [], _∷_, List·Memᴰ}
+use mathlib.Core.Option.{some, Option·some-injective, Option·none-ne-some}
 use lib.ListN.{length, getD, set, take, drop, length-take}
-use Rattle.model.specs.Reader.{first-wrong}
-use Rattle.model.specs.Rows.{Program, size, tag, num, arity, kind, step, whole}
-use Rattle.model.specs.Rows.{Kind, give, build, function, call, send, spawn, self, case, receive, other}
+use Rattle.model.specs.Rows.{Program, tag, num, arity, kind}
+use Rattle.model.specs.Rows.{give, build, function, call, self, case}
 use Rattle.model.specs.Scopes.{rest}
-use Rattle.model.specs.Heads.{nums, branch-rows, branch-body, call-at, head-at, gives, builds, makes, calls, selfs, is-function, takes, parameters, body, innermost}
+use Rattle.model.specs.Heads.{nums, branch-rows, branch-body, call-at, head-at, gives, is-function, takes, parameters, body}
 use Rattle.model.specs.Values.{Value, closure, built, address, Bindings, bind, value-of, values-of, bind-all, Frame, Process, process, Processes}
 use Rattle.model.specs.Matching.{Taken, first-branch}
 use Rattle.model.specs.Run.{_>>=_, moved, Function, function-of, give-back, enter, act}
 use Rattle.model.specs.Tables.{Tables}
-use Rattle.model.specs.Rules.{quiet, Rule, rules}
-use Rattle.model.specs.Wanted.{Member, Closed, Entry, flow, state, build-name, build-rest, function-name, function-rest, self-name, self-rest, call-parameter, call-body, return-name, return-rest}
+use Rattle.model.specs.Rules.{quiet, rules}
+use Rattle.model.specs.Wanted.{Member, Closed, flow, state, build-name, build-rest, function-name, function-rest, self-name, self-rest, call-parameter, call-body, return-name, return-rest}
 use Rattle.model.specs.Wanted.{Returns, MayCall, by-case}
 use Rattle.model.proofs.Heads.{tag-is, head-give, head-build, head-function, head-call, head-self, head-case}
 use lib.Dec.{eqb}
@@ -34,7 +33,7 @@ use Rattle.model.proofs.Parse.Lengths.{Columns-whole, function-within}
 use Rattle.model.proofs.Parse.Innermost.{innermost-rest, innermost-body}
 use Rattle.model.proofs.Counting.Receives.{Chosen, chosen}
 use Rattle.model.proofs.Steps.Branch.{branch-may, branch-good}
-use Rattle.model.proofs.Invariant.{Waits, Frames, Good, frames-moved}
+use Rattle.model.proofs.Invariant.{Frames, Good, frames-moved}
 use Rattle.model.proofs.RuleAt.{moving, rule-build, rule-function, rule-self, rule-call, rule-give, rule-case}
 
 -- process q has become another of the same class and mailbox, by a rule without an effect

@@ -1,16 +1,16 @@
 -- A receive takes a message that mail has, by a branch that may match it.
 use Prim.Native.Nat.{ℕ, _+_, _<_}
-use mathlib.Core.Path.{_≡_, refl, sym, _∙_, ap, subst}
-use mathlib.Core.List.{List, [], _∷_, List·Memᴰ}
-use mathlib.Core.Option.{Option, some, none, Option·some-injective}
-use lib.ListN.{length, set}
+use mathlib.Core.Path.{_≡_, sym, _∙_, ap, subst}
+use mathlib.Core.List.{List, List·Memᴰ}
+use mathlib.Core.Option.{some, Option·some-injective}
+use lib.ListN.{set}
 use Rattle.model.specs.Rows.{Program, size, tag, num, kind}
-use Rattle.model.specs.Rows.{Kind, receive}
+use Rattle.model.specs.Rows.{receive}
 use Rattle.model.specs.Heads.{branch-rows, branch-body}
 use Rattle.model.specs.Letters.{letters, row-letter, value-letter}
 use Rattle.model.specs.Values.{Value, Bindings, Process, process, Processes}
-use Rattle.model.specs.Matching.{Taken, Received, receive-from}
-use Rattle.model.specs.Run.{_>>=_, act}
+use Rattle.model.specs.Matching.{Received, receive-from}
+use Rattle.model.specs.Run.{act}
 use Rattle.model.specs.Tables.{Tables}
 use Rattle.model.specs.Rules.{reads, rules}
 use Rattle.model.specs.Counters.{letter-index}
@@ -18,7 +18,7 @@ use Rattle.model.specs.Wanted.{Member, Closed, by-receive}
 use Rattle.model.proofs.Heads.{head-receive}
 use Rattle.model.proofs.Acts.{act-receive}
 use Rattle.model.proofs.Lookups.{bind-some}
-use Rattle.model.proofs.Covering.{row-for, Covered}
+use Rattle.model.proofs.Covering.{row-for}
 use Rattle.model.proofs.Parse.Reached.{Rows-fit}
 use Rattle.model.proofs.Parse.Branches.{receive-branches}
 use Rattle.model.proofs.Parse.Lengths.{Columns-whole}

@@ -1,15 +1,13 @@
 -- A send puts a message that mail wants into a mailbox of a class that the target may be.
 use Prim.Native.Nat.{ℕ, _+_, _<_}
-use mathlib.Core.Path.{_≡_, refl, sym, _∙_, ap, subst}
-use mathlib.Core.Bool.{true}
+use mathlib.Core.Path.{_≡_, sym, _∙_, ap, subst}
 use mathlib.Core.Logic.{⊎-elim}
 use mathlib.Core.List.{List, [], _∷_, _++_, List·Memᴰ, List·Memᴰ·append-cases, List·Memᴰ·eq-of-singleton}
-use mathlib.Core.Option.{Option, some, none, Option·some-injective, Option·none-ne-some}
-use lib.ListN.{length, getD, getElem?, set}
+use mathlib.Core.Option.{some, Option·some-injective, Option·none-ne-some}
+use lib.ListN.{length, getD, set}
 use Rattle.model.specs.Rows.{Program, size, tag, num, kind}
-use Rattle.model.specs.Rows.{Kind, send}
+use Rattle.model.specs.Rows.{send}
 use Rattle.model.specs.Scopes.{rest}
-use Rattle.model.specs.Heads.{is-class}
 use Rattle.model.specs.Letters.{letters, row-letter, value-letter}
 use Rattle.model.specs.Values.{Value, closure, built, address, Bindings, bind, value-of, Process, process, Processes}
 use Rattle.model.specs.Run.{_>>=_, moved, process-of, deliver, act}

@@ -1,19 +1,18 @@
 -- A spawn adds a process of a class of its own, in a state that is wanted.
 use Prim.Native.Nat.{ℕ, _+_, _<_}
 use native.Mathlib.Omega.{arith}
-use mathlib.Core.Path.{_≡_, refl, sym, _∙_, ap, subst}
-use mathlib.Core.Bool.{true, _||_}
+use mathlib.Core.Path.{_≡_, sym, _∙_, ap, subst}
 use mathlib.Core.List.{List, [], _∷_, _++_, List·Memᴰ, List·Memᴰ·not-nil}
-use mathlib.Core.Option.{Option, some, none, Option·some-injective}
+use mathlib.Core.Option.{some, Option·some-injective}
 use lib.ListN.{length, getD, set, length-append}
 use lib.Seq.{getD-append-seam}
 use lib.Dec.{eqb}
 use borrow.Author.Tests.{eq-eqb}
 use Rattle.model.specs.Rows.{Program, size, tag, num, kind}
-use Rattle.model.specs.Rows.{Kind, spawn}
+use Rattle.model.specs.Rows.{spawn}
 use Rattle.model.specs.Scopes.{rest}
-use Rattle.model.specs.Heads.{takes, body, is-class}
-use Rattle.model.specs.Values.{Value, closure, address, Bindings, bind, value-of, Process, process, Processes}
+use Rattle.model.specs.Heads.{body, is-class}
+use Rattle.model.specs.Values.{Value, address, Bindings, bind, value-of, Process, process, Processes}
 use Rattle.model.specs.Run.{_>>=_, moved, Function, function-of, spawned, act}
 use Rattle.model.specs.Tables.{Tables, state-index}
 use Rattle.model.specs.Tables.{state as at-state}
