@@ -163,7 +163,7 @@ module _ (p : Program) where
 
 -- the program of a message: a row that an item takes is there
 module _ (ws : List ℕ) (s : Sizes) where
-  past-tag : (r : ℕ) → s .rows ≤ r → tag (program ws s) r ≡ 0
+  pub past-tag : (r : ℕ) → s .rows ≤ r → tag (program ws s) r ≡ 0
   unfolding program tag left columns
   past-tag r h = sym (part-past ws (s .rows) 4 r h)
 
@@ -245,13 +245,13 @@ module _ (ws : List ℕ) (s : Sizes) where
   checked y h = let z : s .rows - 0 ≡ s .rows = omega arith in ap (λ x. Option·map (λ r. Row (4 + r)) (complete (s .rows) x)) ((rw z at h))
 
   pub rows-pass : (x : Next) (r : ℕ) → reading x ≡ from (program ws s) (whole (program ws s)) 0 → x ≡ Past r → r ≡ s .rows → Safe ≡ answer (row-check (program ws s))
-  unfolding complete answer Option·map
+  unfolding complete answer
   rows-pass x r h e f = sym (ap answer (checked (past r) (came-past x r h e)) ∙ rw (eq-eqb r (s .rows) f, complete))
 
   pub rows-left : (x : Next) (r : ℕ) → reading x ≡ from (program ws s) (whole (program ws s)) 0 → x ≡ Past r → (r ≡ s .rows → ⊥) → Row (4 + r) ≡ answer (row-check (program ws s))
-  unfolding complete answer Option·map
+  unfolding complete answer
   rows-left x r h e f = sym (ap answer (checked (past r) (came-past x r h e)) ∙ rw (ne-eqb r (s .rows) f, complete))
 
   pub row-wrong : (x : Next) (r : ℕ) → reading x ≡ from (program ws s) (whole (program ws s)) 0 → x ≡ Wrong r → Row (4 + r) ≡ answer (row-check (program ws s))
-  unfolding complete answer Option·map
+  unfolding complete answer
   row-wrong x r h e = sym (ap answer (checked (wrong r) (came-wrong x r h e)))

@@ -1,0 +1,23 @@
+use mathlib.Core.Path.{_∙_}
+use borrow.Author.Needs.{needs}
+use Rattle.evidence.proofs.Elements.{left-at}
+use Rattle.evidence.proofs.arrays.left.Statement.{statement}
+use Rattle.evidence.proofs.arrays.left.Tie as tie
+
+add-wide : tie.Need-add-wide
+add-wide c = search needs
+
+mul-wide : tie.Need-mul-wide
+mul-wide c = search needs
+
+shared-slice-read-wide : tie.Need-shared-slice-read-wide
+shared-slice-read-wide c = search needs
+
+wide-requires : tie.Need-wide-requires
+wide-requires c κs = search needs
+
+returns : tie.Need-returns
+returns c = let a₀ = c .before .before .before .before in let a = a₀ .args in c .wide .ensures ∙ left-at (a .ws .now) (a .a) (a .i) (a₀ .pre .1)
+
+pub left-spec : {M : Type 1} → statement M
+left-spec = tie.close (tie.spec add-wide mul-wide shared-slice-read-wide wide-requires returns)

@@ -1,0 +1,5 @@
+pub mod Whole
+pub mod Arrays
+pub mod Ranges
+pub mod Reading
+pub mod Stacks

@@ -1,0 +1,45 @@
+// What document 01 calls a class, a function, a value and a head, as tests on a number.
+use model::Sizes;
+use program::rows::tag;
+ghost use mathlib.Core.Path.{_≡_};
+ghost use Rattle.model.specs.Rows.{program, tag, is-head};
+ghost use Rattle.model.specs.Heads.{is-function, is-class};
+ghost use Rattle.model.specs.Tables.{is-value};
+ghost use Rattle.program.specs.Rows.{Whole};
+
+// A spawn row, or R for the starting process.
+pub fn is_class(ws: &[u16], s: Sizes, c: usize) -> bool
+    requires { ⌜ Whole (now ws) s ⌝ }
+    ensures { λ b. ⌜ b ≡ is-class (program (now (ws .entry)) s) c ⌝ }
+{
+    tag(ws, s, c) == 6 || c == s.rows
+}
+
+// A row with tag 3 or 11.
+pub fn is_function(ws: &[u16], s: Sizes, f: usize) -> bool
+    requires { ⌜ Whole (now ws) s ⌝ }
+    ensures { λ b. ⌜ b ≡ is-function (program (now (ws .entry)) s) f ⌝ }
+{
+    let t = tag(ws, s, f);
+    t == 3 || t == 11
+}
+
+// A row with tag 2, a function, or a class.
+pub fn is_value(ws: &[u16], s: Sizes, v: usize) -> bool
+    requires { ⌜ Whole (now ws) s ⌝ }
+    ensures { λ b. ⌜ b ≡ is-value (program (now (ws .entry)) s) v ⌝ }
+{
+    match tag(ws, s, v) {
+        2 | 3 | 6 | 11 => true,
+        _ => v == s.rows,
+    }
+}
+
+// A row with a tag from 1 to 9.
+pub fn is_head(ws: &[u16], s: Sizes, r: usize) -> bool
+    requires { ⌜ Whole (now ws) s ⌝ }
+    ensures { λ b. ⌜ b ≡ is-head (tag (program (now (ws .entry)) s) r) ⌝ }
+{
+    let t = tag(ws, s, r);
+    1 <= t && t <= 9
+}

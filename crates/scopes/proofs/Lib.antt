@@ -1,0 +1,4 @@
+pub mod Visits
+pub mod Binding
+pub mod Ends
+pub mod Scoping

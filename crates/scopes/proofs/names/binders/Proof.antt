@@ -1,0 +1,114 @@
+use Prim.Native.Nat.{_≤_, _-_, _+_}
+use native.Mathlib.Omega.{arith}
+use mathlib.Core.Path.{_≡_, refl, sym, _∙_, ap}
+use lib.ListN.{length, length-set, getD-replicate}
+use Rattle.model.specs.Words.{columns}
+use Rattle.model.specs.Rows.{program}
+use Rattle.model.specs.Scopes.{binds, binds-name}
+use Rattle.model.proofs.Index.{first-end}
+use Rattle.scopes.proofs.Binding.{Binders, binders-set, binders-keep, binders-all, binds-no-name, binds-nothing}
+use borrow.Author.Needs.{needs}
+use Rattle.scopes.proofs.names.binders.Statement.{statement}
+use Rattle.scopes.proofs.names.binders.Tie as tie
+
+abbrev Inv-loop : tie.InvT-loop
+Inv-loop ws s table₀ r₀ table r = (r ≤ s .rows) × (length table ≡ 512) × Binders (program ws s) r table
+
+abbrev μ-loop : tie.MeasureT-loop
+μ-loop ws s table₀ r₀ table r = r
+
+cast-table : tie.Need-cast-table Inv-loop μ-loop
+cast-table c = search needs
+
+loop-holds : tie.Need-loop-holds Inv-loop μ-loop
+unfolding program columns
+loop-holds c =
+    let a = c .before .before .args in
+    (search needs, refl, λ n h. getD-replicate 512 n (a .s .rows) 0 (omega arith) ∙ sym (first-end (a .s .rows) (a .s .rows) (binds-name _ n) (omega arith)))
+
+sub-r : tie.Need-sub-r Inv-loop μ-loop
+sub-r c = search needs
+
+num-requires : tie.Need-num-requires Inv-loop μ-loop
+num-requires c κs = search needs
+
+tag-requires : tie.Need-tag-requires Inv-loop μ-loop
+tag-requires c κs = search needs
+
+binds-requires : tie.Need-binds-requires Inv-loop μ-loop
+binds-requires c κs = search needs
+
+cast-table-2 : tie.Need-cast-table-2 Inv-loop μ-loop
+cast-table-2 c = search needs
+
+mul-table : tie.Need-mul-table Inv-loop μ-loop
+mul-table c = search needs
+
+array-write-table : tie.Need-array-write-table Inv-loop μ-loop
+array-write-table c = search needs
+
+loop-less : tie.Need-loop-less Inv-loop μ-loop
+loop-less c = search needs
+
+loop-again : tie.Need-loop-again Inv-loop μ-loop
+unfolding program columns
+loop-again c =
+    let l = c .before .before .before .before .before .before .before .loop in (
+      omega arith,
+      length-set (l .table) _ _ ∙ l .inv .1,
+      binders-set _ (l .r) (l .r - 1) _ (l .table) (omega arith) (omega arith) (c .before .before .before .before .before .num .ensures) (omega arith) (omega arith)
+          (ap binds (sym (c .before .before .tag .ensures)) ∙ (sym (c .before .binds .ensures) ∙ c .if2 .taken)) (l .inv .2),
+    )
+
+loop-less-2 : tie.Need-loop-less-2 Inv-loop μ-loop
+loop-less-2 c = search needs
+
+loop-again-2 : tie.Need-loop-again-2 Inv-loop μ-loop
+unfolding program columns
+loop-again-2 c =
+    let l = c .before .before .before .before .before .before .before .loop in (
+      omega arith,
+      l .inv .1,
+      binders-keep _ (l .r) (l .r - 1) (l .table) (omega arith) (omega arith)
+          (λ m h. binds-nothing _ (l .r - 1) m (ap binds (sym (c .before .before .tag .ensures)) ∙ (sym (c .before .binds .ensures) ∙ c .if2 .left))) (l .inv .2),
+    )
+
+loop-less-3 : tie.Need-loop-less-3 Inv-loop μ-loop
+loop-less-3 c = search needs
+
+loop-again-3 : tie.Need-loop-again-3 Inv-loop μ-loop
+unfolding program columns
+loop-again-3 c =
+    let l = c .before .before .before .before .loop in (
+      omega arith,
+      l .inv .1,
+      binders-keep _ (l .r) (l .r - 1) (l .table) (omega arith) (omega arith)
+          (λ m h. binds-no-name _ (l .r - 1) m _ (c .before .before .num .ensures) (c .if1 .left) h) (l .inv .2),
+    )
+
+returns : tie.Need-returns Inv-loop μ-loop
+unfolding program columns
+returns c = let l = c .before .loop in record { binders = binders-all _ (l .r) (l .table) (omega arith) (l .inv .2) }
+
+pub binders-spec : {M : Type 1} → statement M
+binders-spec =
+    tie.close
+    (tie.spec
+    Inv-loop
+    μ-loop
+    cast-table
+    loop-holds
+    sub-r
+    num-requires
+    tag-requires
+    binds-requires
+    cast-table-2
+    mul-table
+    array-write-table
+    loop-less
+    loop-again
+    loop-less-2
+    loop-again-2
+    loop-less-3
+    loop-again-3
+    returns)

@@ -1,0 +1,46 @@
+-- What the tables of a program hold.
+use Prim.Native.Nat.{ℕ, zero, suc, _+_, _≤_, _<_}
+use mathlib.Core.Path.{_≡_}
+use mathlib.Core.Bool.{Bool}
+use mathlib.Core.List.{List, [], _∷_}
+use lib.Dec.{ltb}
+use lib.ListN.{getD}
+use Rattle.model.specs.Rows.{Program, size, tag, kind, expression, pattern, lead}
+use Rattle.model.specs.Reader.{past}
+use Rattle.program.specs.Rows.{from}
+use Rattle.model.specs.Scopes.{binder, next-head}
+
+-- for each name the row that binds it first; the number of rows where none does
+pub record Binder-table (p : Program) (table : List ℕ) : Type 0 where
+  pub binders : (n : ℕ) → n < p .names → getD table n 0 ≡ binder p n
+
+-- some row binds the name n
+unfoldable pub is-bound : Program → ℕ → Bool
+is-bound p n = ltb (binder p n) (size p)
+
+-- the table of ends, filled for the rows from i on: the row after the expression at a row, and after the pattern at a row, where they are read
+pub record After-from (p : Program) (i : ℕ) (table : List ℕ) : Type 0 where
+  pub expressions : (r q : ℕ) → i ≤ r → from p (expression ∷ []) r ≡ past q → getD table r 0 ≡ q
+  pub patterns : (d r q : ℕ) → i ≤ r → from p (pattern d ∷ []) r ≡ past q → getD table r 0 ≡ q
+
+-- filled for all rows
+abbrev pub After-table : Program → List ℕ → Type 0
+After-table p table = After-from p 0 table
+
+-- x is the row after the expression or pattern at row r, where one is read
+pub record Ends-at (p : Program) (r x : ℕ) : Type 0 where
+  pub expressions : (q : ℕ) → from p (expression ∷ []) r ≡ past q → x ≡ q
+  pub patterns : (d q : ℕ) → from p (pattern d ∷ []) r ≡ past q → x ≡ q
+
+-- x is the rest of the expression at row r, where what stands before it is read
+pub record Rest-at (p : Program) (r x : ℕ) : Type 0 where
+  pub rests : (q : ℕ) → from p (lead (kind (tag p r))) (r + 1) ≡ past q → x ≡ q
+
+-- n steps by a table from row q
+unfoldable pub hop : List ℕ → ℕ → ℕ → ℕ
+hop table zero q = q
+hop table (suc n) q = hop table n (getD table q 0)
+
+-- for each row the next head from there on; the number of rows where there is none
+pub record Head-table (p : Program) (table : List ℕ) : Type 0 where
+  pub heads : (r : ℕ) → r < size p → getD table r 0 ≡ next-head p r

@@ -1,0 +1,113 @@
+// Where names are bound; refusal 4.
+use crate::tables::entry;
+use model::Sizes;
+use model::Verdict;
+use program::rows::num;
+use program::rows::tag;
+ghost use mathlib.Core.Path.{_≡_};
+ghost use mathlib.Core.Option.{none};
+ghost use Prim.Native.Nat.{_<_};
+ghost use Rattle.model.specs.Index.{first, all};
+ghost use Rattle.model.specs.Rows.{program, row-check};
+ghost use Rattle.model.specs.Scopes.{binds, bound-again, name-check};
+ghost use Rattle.model.specs.Verify.{answer};
+ghost use Rattle.program.specs.Rows.{Whole};
+ghost use Rattle.scopes.specs.Tables.{Binder-table, is-bound};
+
+// The tags of the rows that bind a name.
+pub fn binds(t: usize) -> bool
+    ensures { λ b. ⌜ b ≡ binds t ⌝ }
+{
+    match t {
+        2..=7 => true,
+        11 | 23 | 30 => true,
+        _ => false,
+    }
+}
+
+// For each name the row that binds it first; the number of rows where none does.
+pub fn binders(ws: &[u16], s: Sizes) -> [u16; 512]
+    requires { ⌜ Whole (now ws) s ⌝ }
+    ensures { λ t. ⌜ Binder-table (program (now (ws .entry)) s) t ⌝ }
+{
+    let mut table = [s.rows as u16; 512];
+    let mut r = s.rows;
+    while r > 0 {
+        r -= 1;
+        let n = num(ws, s, r);
+        if n < s.names {
+            if binds(tag(ws, s, r)) {
+                table[n] = r as u16;
+            }
+        }
+    }
+    table
+}
+
+// Row r binds a name that an earlier row binds.
+fn is_again(ws: &[u16], s: Sizes, table: &[u16], r: usize) -> bool
+    requires { ⌜ Whole (now ws) s ⌝ }
+    requires { ⌜ row-check (program (now ws) s) ≡ none ⌝ }
+    requires { ⌜ Binder-table (program (now ws) s) (now table) ⌝ }
+    requires { ⌜ r < s .rows ⌝ }
+    ensures { λ b. ⌜ b ≡ bound-again (program (now (ws .entry)) s) r ⌝ }
+{
+    if binds(tag(ws, s, r)) {
+        let n = num(ws, s, r);
+        entry(table, n) != r
+    } else {
+        false
+    }
+}
+
+// The first row that binds a name again; the number of rows where none does.
+fn first_again(ws: &[u16], s: Sizes, table: &[u16]) -> usize
+    requires { ⌜ Whole (now ws) s ⌝ }
+    requires { ⌜ row-check (program (now ws) s) ≡ none ⌝ }
+    requires { ⌜ Binder-table (program (now ws) s) (now table) ⌝ }
+    ensures { λ r. ⌜ r ≡ first 0 (s .rows) (bound-again (program (now (ws .entry)) s)) ⌝ }
+{
+    let mut r = 0;
+    while r < s.rows {
+        if is_again(ws, s, table, r) {
+            return r;
+        }
+        r += 1;
+    }
+    r
+}
+
+// Each name has a row that binds it.
+fn all_bound(ws: &[u16], s: Sizes, table: &[u16]) -> bool
+    requires { ⌜ Whole (now ws) s ⌝ }
+    requires { ⌜ Binder-table (program (now ws) s) (now table) ⌝ }
+    ensures { λ b. ⌜ b ≡ all 0 (s .names) (is-bound (program (now (ws .entry)) s)) ⌝ }
+{
+    let mut n = 0;
+    while n < s.names {
+        if entry(table, n) >= s.rows {
+            return false;
+        }
+        n += 1;
+    }
+    true
+}
+
+// Refusal 4: the first row that binds a name again, or a name that no row binds.
+pub fn name_check(ws: &[u16], s: Sizes) -> Verdict
+    requires { ⌜ Whole (now ws) s ⌝ }
+    requires { ⌜ row-check (program (now ws) s) ≡ none ⌝ }
+    ensures { λ v. ⌜ v ≡ answer (name-check (program (now (ws .entry)) s)) ⌝ }
+{
+    let table = binders(ws, s);
+    let r = first_again(ws, s, &table);
+    if r < s.rows {
+        let place = 4 + r;
+        return Verdict::Name(place);
+    }
+    if all_bound(ws, s, &table) {
+        Verdict::Safe
+    } else {
+        Verdict::Name(1)
+    }
+}

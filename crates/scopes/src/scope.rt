@@ -1,0 +1,155 @@
+// Where names hold; refusal 5. The tables are lent: binders by name, ends and next heads by row.
+use crate::layout::rest_row;
+use crate::names::binders;
+use crate::tables::entry;
+use model::Sizes;
+use model::Verdict;
+use program::rows::num;
+use program::rows::tag;
+ghost use mathlib.Core.Path.{_≡_};
+ghost use mathlib.Core.Bool.{true};
+ghost use mathlib.Core.Option.{none};
+ghost use Prim.Native.Nat.{_<_, _≤_};
+ghost use Rattle.model.specs.Index.{first};
+ghost use Rattle.model.specs.Rows.{program, tag, is-head, row-check};
+ghost use Rattle.model.specs.Scopes.{binds, uses, rest, holds-in, in-scope, out-of-scope, scope-check};
+ghost use Rattle.model.specs.Verify.{answer};
+ghost use Rattle.program.specs.Rows.{Whole};
+ghost use Rattle.scopes.specs.Tables.{Binder-table, After-table, Head-table};
+
+// A head is a row with a tag from 1 to 9.
+pub fn is_head(t: usize) -> bool
+    ensures { λ b. ⌜ b ≡ is-head t ⌝ }
+{
+    1 <= t && t <= 9
+}
+
+// The tags of the rows that read a name.
+pub fn uses(t: usize) -> bool
+    ensures { λ b. ⌜ b ≡ uses t ⌝ }
+{
+    match t {
+        1 | 8 | 21 => true,
+        _ => false,
+    }
+}
+
+// For each row the next head from there on; the number of rows where there is none.
+pub fn next_heads(ws: &[u16], s: Sizes) -> [u16; 1024]
+    requires { ⌜ Whole (now ws) s ⌝ }
+    ensures { λ t. ⌜ Head-table (program (now (ws .entry)) s) t ⌝ }
+{
+    let mut table = [0u16; 1024];
+    let mut head = s.rows;
+    let mut r = s.rows;
+    while r > 0 {
+        r -= 1;
+        if is_head(tag(ws, s, r)) {
+            head = r;
+        }
+        table[r] = head as u16;
+    }
+    table
+}
+
+// The rest of the expression at row r.
+pub fn rest(ws: &[u16], s: Sizes, ends: &[u16], r: usize) -> usize
+    requires { ⌜ Whole (now ws) s ⌝ }
+    requires { ⌜ row-check (program (now ws) s) ≡ none ⌝ }
+    requires { ⌜ After-table (program (now ws) s) (now ends) ⌝ }
+    requires { ⌜ r < s .rows ⌝ }
+    ensures { λ x. ⌜ x ≡ rest (program (now (ws .entry)) s) r ⌝ }
+{
+    rest_row(ws, s, ends, r)
+}
+
+// The head of the expression in which the name that row b binds holds.
+fn holds_in(ws: &[u16], s: Sizes, ends: &[u16], heads: &[u16], b: usize) -> usize
+    requires { ⌜ Whole (now ws) s ⌝ }
+    requires { ⌜ row-check (program (now ws) s) ≡ none ⌝ }
+    requires { ⌜ After-table (program (now ws) s) (now ends) ⌝ }
+    requires { ⌜ Head-table (program (now ws) s) (now heads) ⌝ }
+    requires { ⌜ b < s .rows ⌝ }
+    ensures { λ x. ⌜ x ≡ holds-in (program (now (ws .entry)) s) b ⌝ }
+{
+    if is_head(tag(ws, s, b)) {
+        rest(ws, s, ends, b)
+    } else {
+        entry(heads, b)
+    }
+}
+
+// A name that row b binds holds at row r.
+fn is_in_scope(ws: &[u16], s: Sizes, ends: &[u16], heads: &[u16], b: usize, r: usize) -> bool
+    requires { ⌜ Whole (now ws) s ⌝ }
+    requires { ⌜ row-check (program (now ws) s) ≡ none ⌝ }
+    requires { ⌜ After-table (program (now ws) s) (now ends) ⌝ }
+    requires { ⌜ Head-table (program (now ws) s) (now heads) ⌝ }
+    requires { ⌜ (r < s .rows) × (b < s .rows) × (binds (tag (program (now ws) s) b) ≡ true) ⌝ }
+    ensures { λ x. ⌜ x ≡ in-scope (program (now (ws .entry)) s) b r ⌝ }
+{
+    if tag(ws, s, b) == 11 {
+        return true;
+    }
+    let from = holds_in(ws, s, ends, heads, b);
+    if from > r {
+        return false;
+    }
+    let end = entry(ends, from);
+    r < end
+}
+
+// Row r reads a name outside its scope.
+fn is_out(ws: &[u16], s: Sizes, ends: &[u16], heads: &[u16], names: &[u16], r: usize) -> bool
+    requires { ⌜ Whole (now ws) s ⌝ }
+    requires { ⌜ row-check (program (now ws) s) ≡ none ⌝ }
+    requires { ⌜ After-table (program (now ws) s) (now ends) ⌝ }
+    requires { ⌜ Head-table (program (now ws) s) (now heads) ⌝ }
+    requires { ⌜ Binder-table (program (now ws) s) (now names) × (r < s .rows) ⌝ }
+    ensures { λ x. ⌜ x ≡ out-of-scope (program (now (ws .entry)) s) r ⌝ }
+{
+    if !uses(tag(ws, s, r)) {
+        return false;
+    }
+    let b = entry(names, num(ws, s, r));
+    if b >= s.rows {
+        return true;
+    }
+    !is_in_scope(ws, s, ends, heads, b, r)
+}
+
+// The first row that reads a name outside its scope; the number of rows where none does.
+fn first_out(ws: &[u16], s: Sizes, ends: &[u16], heads: &[u16], names: &[u16]) -> usize
+    requires { ⌜ Whole (now ws) s ⌝ }
+    requires { ⌜ row-check (program (now ws) s) ≡ none ⌝ }
+    requires { ⌜ After-table (program (now ws) s) (now ends) ⌝ }
+    requires { ⌜ Head-table (program (now ws) s) (now heads) ⌝ }
+    requires { ⌜ Binder-table (program (now ws) s) (now names) ⌝ }
+    ensures { λ x. ⌜ x ≡ first 0 (s .rows) (out-of-scope (program (now (ws .entry)) s)) ⌝ }
+{
+    let mut r = 0;
+    while r < s.rows {
+        if is_out(ws, s, ends, heads, names, r) {
+            return r;
+        }
+        r += 1;
+    }
+    r
+}
+
+// Refusal 5: the first row that reads a name outside its scope.
+pub fn scope_check(ws: &[u16], s: Sizes, ends: &[u16]) -> Verdict
+    requires { ⌜ Whole (now ws) s ⌝ }
+    requires { ⌜ row-check (program (now ws) s) ≡ none ⌝ }
+    requires { ⌜ After-table (program (now ws) s) (now ends) ⌝ }
+    ensures { λ v. ⌜ v ≡ answer (scope-check (program (now (ws .entry)) s)) ⌝ }
+{
+    let names = binders(ws, s);
+    let heads = next_heads(ws, s);
+    let r = first_out(ws, s, ends, &heads, &names);
+    if r < s.rows {
+        let place = 4 + r;
+        return Verdict::Scope(place);
+    }
+    Verdict::Safe
+}
