@@ -29,13 +29,17 @@ module _ (c : Columns) (a : ℕ) where
   each-iff f e =
       Iff·trans (all-iff (c .size) _ (λ i. implies-iff (eqb (left c i) a) (f (right c i)) (eqb-iff (left c i) a) (e (right c i)))) members-iff
 
+  -- of some entry that begins with a, and of some member
+  pub member-iff : {A : ℕ → Type 0} → ((i : ℕ) × (i < c .size) × ((left c i ≡ a) × A (right c i))) ↔ ((b : ℕ) × Member c a b × A b)
+  member-iff {A} = (
+    λ h. let (i, b, x) = h in (right c i, member i b (x .0), x .1),
+    λ h. let (b, m, x) = h in (m .at, m .below, (m .first, subst A (sym (m .second)) x)),
+  )
+
   pub some-of-iff : (f : ℕ → Bool) {A : ℕ → Type 0} → ((b : ℕ) → (f b ≡ true) ↔ A b) → (some-of c a f ≡ true) ↔ ((b : ℕ) × Member c a b × A b)
   unfolding some-of
-  some-of-iff f {A} e =
-      Iff·trans (any-iff (c .size) _ (λ i. and-iff (eqb (left c i) a) (f (right c i)) (eqb-iff (left c i) a) (e (right c i)))) (
-        λ h. let (i, b, x) = h in (right c i, member i b (x .0), x .1),
-        λ h. let (b, m, x) = h in (m .at, m .below, (m .first, subst A (sym (m .second)) x)),
-      )
+  some-of-iff f e =
+      Iff·trans (any-iff (c .size) _ (λ i. and-iff (eqb (left c i) a) (f (right c i)) (eqb-iff (left c i) a) (e (right c i)))) member-iff
 
   -- an entry with both numbers
   entry-iff : (b : ℕ) → ((i : ℕ) × (i < c .size) × ((left c i ≡ a) × (right c i ≡ b))) ↔ Member c a b
