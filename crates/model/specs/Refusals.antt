@@ -26,7 +26,7 @@ use Rattle.model.specs.Bounds.{Bounds, bound-entries, bound-step, bounds
 use Rattle.model.specs.Verify.{Message, message, verdict}
 use Rattle.model.specs.Wanted.{Present, Wanted-first, Wanted-by, Closed}
 use Rattle.model.specs.Wanted.{Entry as Table-entry}
-use Rattle.model.specs.Demands.{Bytes, Between, Within-limits, Well-formed, Pair-below, Listed, Under, Under-one, Inductive}
+use Rattle.model.specs.Demands.{Bytes, Between, Within-limits, Pair-below, Listed, Under, Under-one}
 use Rattle.model.specs.Demands.{Met as Meets}
 
 -- the first of n that is so
@@ -152,7 +152,7 @@ module _ (bytes : List ℕ) where
     parts-passed : length bytes ≡ 2 * end-at s → Within-limits s → Passed 3
     rows-passed : Passed 3 → first-wrong (step p) (p .rows) (whole p) ≡ none → Passed 4
     names-passed : Passed 4 → No-name-again → ((n : ℕ) → n < p .names → Bound p n) → Passed 5
-    program-passed : Passed 5 → Well-formed p → Passed 6
+    scopes-passed : Passed 5 → ((r : ℕ) → r < size p → Reads-outside p r → ⊥) → Passed 6
     bads-passed : Passed 6 → first-wrong (bad-step p) (m .bads) (replicate (s .bads) bad) ≡ none → Passed 7
     entries-passed : Passed 7 → Flow-listed → Mail-listed → Listed (is-class p) (λ r. is-head (tag p r)) (t .states) → Passed 8
     closed-passed : Passed 8 → Closed p t → Passed 9
@@ -160,7 +160,7 @@ module _ (bytes : List ℕ) where
     bounds-passed : Passed 10 → first-wrong (bound-step (bs .counters)) (bound-entries ws s) (bounds-of (s .bounds)) ≡ none → Passed 11
     start-passed : Passed 11 → Under-one bs (initial p t) → Passed 12
     bad-passed : Passed 12 → ((j : ℕ) → j < s .bads → Allowed m j → ⊥) → Passed 13
-    kept-passed : Passed 13 → Inductive m → Passed 14
+    kept-passed : Passed 13 → ((k : ℕ) → k < bs .size → Leaks bs (rules p t) k → ⊥) → Passed 14
 
   pub data Refused (lent : ℕ) : Verdict → Type 0 where
     -- 1 length: "a part is not whole: its first word; bytes remain: the word past the ceilings"
