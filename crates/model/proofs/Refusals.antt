@@ -10,7 +10,7 @@ use mathlib.Core.Option.{some, none, Option·map, map-eq-some-iff}
 use lib.ListN.{length, replicate}
 use Rattle.model.specs.declared.Sizes.{Sizes}
 use Rattle.model.specs.declared.Verdict.{Verdict}
-use Rattle.model.specs.declared.Verdict.the-variants.{Safe, Length, Row, Name, Scope, Bad, Entry, Open, Counters, Ceiling, Start, Space}
+use Rattle.model.specs.declared.Verdict.the-variants.{Safe, Row, Name, Scope, Bad, Entry, Open, Ceiling}
 use Rattle.model.specs.Limits.{maxCounters}
 use Rattle.model.specs.Words.{Columns}
 use Rattle.model.specs.Verdict.{Check, _>>_}
@@ -140,7 +140,7 @@ module _ (bytes : List ℕ) (short : Bytes bytes) (lent : ℕ) (v : Verdict) whe
             (λ e. let (r, f, q) = first-some (size p) (bound-again p) (λ r b. again-iff p r) (λ r. Name (4 + r)) v e in told _ (name-again r (x .0) f) q)
             (λ y. let (f, q) = unless-some _ (Name 1) v (y .1) in
             let (n, b, u) = all-refuted (p .names) _ (binder-iff p) f in
-            told _ (name-unbound n (x .0) (again-none p (λ r. Name (4 + r)) .0 (y .0)) b u) q)
+            told _ (name-unbound n (x .0) (again-none p _ .0 (y .0)) b u) q)
             (then-some _ _ v h);
         passes = λ x h. let (once, bound) = name-none p .0 h in (names-passed (x .0) (once-iff p .1 once) bound, (x .1, (once, bound)));
       }
@@ -151,7 +151,7 @@ module _ (bytes : List ℕ) (short : Bytes bytes) (lent : ℕ) (v : Verdict) whe
   scope-stage =
       record {
         refuses = λ x h. let (r, f, q) = first-some (size p) (out-of-scope p) (outside x) (λ r. Scope (4 + r)) v h in told _ (scope-left r (x .0) f) q;
-        passes = λ x h. (scopes-passed (x .0) (first-none (size p) (out-of-scope p) (λ r b. fails-iff _ (outside x r b)) (λ r. Scope (4 + r)) .0 h), x .1 .0);
+        passes = λ x h. (scopes-passed (x .0) (first-none (size p) (out-of-scope p) _ (λ r b. fails-iff _ (outside x r b)) .0 h), x .1 .0);
       }
     where
       outside : Passed bytes 5 × Named → (r : ℕ) → r < size p → (out-of-scope p r ≡ true) ↔ Reads-outside p r

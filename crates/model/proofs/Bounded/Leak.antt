@@ -1,6 +1,6 @@
 -- Refusals 11 and 13 are exact: from counts under a bound a rule leads out of all bounds exactly where one does from the bound's highest counts.
-use Prim.Native.Nat.{ℕ, _+_, _≤_, _<_}
-use mathlib.Core.Path.{_≡_, refl, sym}
+use Prim.Native.Nat.{ℕ, _+_, _≤_}
+use mathlib.Core.Path.{_≡_, refl}
 use mathlib.Core.Bool.{Bool, true, false, not, _&&_}
 use mathlib.Core.Logic.{⊎-elim, _↔_, Iff·trans, Iff·rfl}
 use mathlib.Core.List.{List, [], _∷_, List·Memᴰ, List·Memᴰ·head, List·Memᴰ·tail, List·Memᴰ·not-nil, List·Memᴰ·cases-cons}
@@ -18,7 +18,7 @@ use Rattle.model.specs.Markings.{Marking, usable, fire, initial}
 use Rattle.model.specs.Bounds.{Bounds, bound-entries, bound-entry, under-some, highest, start-check, leads-out, leak-check}
 use Rattle.model.specs.Demands.{Under, Under-one}
 use Rattle.model.specs.Refusals.{First-such, Leaks}
-use Rattle.model.proofs.Logic.{true-false, test, not-failing, and-left, and-right, and-false-right, or-cases, or-false-left, or-false-right}
+use Rattle.model.proofs.Logic.{true-false, and-left, and-right, and-false-right, or-cases, or-false-left, or-false-right}
 use Rattle.model.proofs.Bounded.Under.{under-some-exact, highest-under}
 use Rattle.model.proofs.Exact.Tests.{fails-iff, passes-iff}
 use Rattle.model.proofs.Exact.Checks.{unless-iff, first-none, first-some}
@@ -87,7 +87,7 @@ module _ (bs : Bounds) (ρs : List Rule) (short : (k x : ℕ) → bs .limit k x 
     pub leak-check-exact : (leak-check ws s bs ρs ≡ none) ↔ ((m : Marking) (ρ : Rule) → Under-one bs m → List·Memᴰ ρ ρs → usable ρ m ≡ true → Under-one bs (fire ρ m))
     unfolding leak-check
     leak-check-exact =
-        Iff·trans (first-none (bs .size) leaks (λ k below. leads-out-exact k) refusal)
+        Iff·trans (first-none (bs .size) leaks _ (λ k below. leads-out-exact k))
         (λ h m ρ u. let (k, below, lies) = u in h k below m ρ lies, λ h k below m ρ lies. h m ρ (k, below, lies))
 
     pub leak-check-refuses : (v : Verdict) → leak-check ws s bs ρs ≡ some v → (k : ℕ) × First-such (bs .size) (Leaks bs ρs) k × (refusal k ≡ v)

@@ -1,9 +1,9 @@
 -- Refusal 12 is exact: a bound allows counts that meet a bad exactly where its highest counts do.
 use Prim.Native.Nat.{ℕ, zero, suc, _+_, _-_, _≤_, _<_}
 use native.Mathlib.Omega.{arith}
-use mathlib.Core.Path.{_≡_, refl, sym}
-use mathlib.Core.Bool.{Bool, true, false}
-use mathlib.Core.Logic.{_⊎_, inl, inr, ⊎-elim, _↔_, Iff·trans}
+use mathlib.Core.Path.{_≡_, refl}
+use mathlib.Core.Bool.{Bool, true}
+use mathlib.Core.Logic.{_⊎_, inl, inr, ⊎-elim, _↔_}
 use mathlib.Core.Option.{Option, some, none}
 use lib.Dec.{leb, eqb}
 use borrow.Author.Tests.{leb-true, le-leb}
@@ -21,7 +21,7 @@ use Rattle.model.specs.Markings.{Marking, standing, count-in}
 use Rattle.model.specs.Bounds.{Bounds, highest, bad-allowed, met-check}
 use Rattle.model.specs.Demands.{Under, Under-one}
 use Rattle.model.specs.Refusals.{First-such}
-use Rattle.model.proofs.Logic.{true-false, test, not-failing, and-left, and-right, and-intro}
+use Rattle.model.proofs.Logic.{test, and-left, and-right, and-intro}
 use Rattle.model.proofs.Index.{any-intro, any-elim}
 use Rattle.model.proofs.Bounded.Under.{below-highest, highest-under-one}
 use Rattle.model.proofs.Numbering.Letters.{Keys}
@@ -91,7 +91,7 @@ module _ (p : Program) (t : Tables) (bs : Bounds) (rows : Columns) where
     module _ (s : Sizes) where
       pub met-check-exact : (met-check s p t bs rows ≡ none) ↔ ((j : ℕ) → j < s .bads → Met-below (bad-row p rows j) → ⊥)
       unfolding met-check
-      met-check-exact = first-none (s .bads) allows (λ j below. fails-iff (allows j) (bad-allowed-iff (bad-row p rows j))) (refusal s)
+      met-check-exact = first-none (s .bads) allows _ (λ j below. fails-iff (allows j) (bad-allowed-iff (bad-row p rows j)))
 
       pub met-check-refuses : (v : Verdict) → met-check s p t bs rows ≡ some v → (j : ℕ) × First-such (s .bads) (λ i. Met-below (bad-row p rows i)) j × (refusal s j ≡ v)
       unfolding met-check

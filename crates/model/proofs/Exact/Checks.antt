@@ -46,16 +46,14 @@ unless-some false v w h = (refl, Option·some-injective v w h)
 pub unless-refutes : (b : Bool) (v w : Verdict) {A : Type 0} → (b ≡ true) ↔ A → unless b v ≡ some w → (A → ⊥) × (v ≡ w)
 unless-refutes b v w e h = let (f, q) = unless-some b v w h in (λ a. true-false (e .1 a) f, q)
 
--- A check of n elements that refuses the first one with a fault
-module _ (n : ℕ) (fault : ℕ → Bool) {Good : ℕ → Type 0} (good : (i : ℕ) → i < n → (fault i ≡ false) ↔ Good i) (v : ℕ → Verdict) where
-  -- nothing where each is good
-  pub first-none : (unless (eqb (first 0 n fault) n) (v (first 0 n fault)) ≡ none) ↔ ((i : ℕ) → i < n → Good i)
-  first-none = (
-    λ h i b. let e = eqb-true _ n (unless-none _ _ .0 h) in good i b .0 (first-is 0 n fault (omega arith) .before i (omega arith) (omega arith)),
-    λ h. unless-none _ _ .1
-        (eq-eqb _ n (first-unique 0 n n fault (omega arith)
-        (record { from = omega arith; upto = omega arith; passes = λ b. absurd (omega arith); before = λ j a b. good j b .1 (h j b) }))),
-  )
+-- A check of n elements that refuses the first one with a fault: nothing is refused where each is good,
+pub first-none : (n : ℕ) (fault : ℕ → Bool) (v : Verdict) {Good : ℕ → Type 0} → ((i : ℕ) → i < n → (fault i ≡ false) ↔ Good i) → (unless (eqb (first 0 n fault) n) v ≡ none) ↔ ((i : ℕ) → i < n → Good i)
+first-none n fault v good = (
+  λ h i b. let e = eqb-true _ n (unless-none _ _ .0 h) in good i b .0 (first-is 0 n fault (omega arith) .before i (omega arith) (omega arith)),
+  λ h. unless-none _ _ .1
+      (eq-eqb _ n (first-unique 0 n n fault (omega arith)
+      (record { from = omega arith; upto = omega arith; passes = λ b. absurd (omega arith); before = λ j a b. good j b .1 (h j b) }))),
+)
 
 -- or the first that has one
 pub first-some : (n : ℕ) (fault : ℕ → Bool) {Such : ℕ → Type 0} → ((i : ℕ) → i < n → (fault i ≡ true) ↔ Such i) → (v : ℕ → Verdict) (w : Verdict) → unless (eqb (first 0 n fault) n) (v (first 0 n fault)) ≡ some w → (i : ℕ) × First-such n Such i × (v i ≡ w)

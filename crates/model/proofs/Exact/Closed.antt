@@ -1,6 +1,6 @@
 -- Refusal 8: nothing is refused exactly where the tables are closed, with a way to want an entry for each sentence of the paper; and what is
 -- refused lacks a wanted entry.
-use Prim.Native.Nat.{ℕ, _+_, _<_}
+use Prim.Native.Nat.{ℕ, _<_}
 use native.Mathlib.Omega.{arith}
 use mathlib.Core.Path.{_≡_, refl, sym, subst}
 use mathlib.Core.Bool.{true, false, not}
@@ -10,15 +10,13 @@ use mathlib.Core.Option.{Option, some, none}
 use lib.Dec.{eqb}
 use borrow.Author.Tests.{not-true}
 use Rattle.model.specs.declared.Sizes.{Sizes}
-use Rattle.model.specs.declared.Verdict.the-variants.{Open}
 use Rattle.model.specs.Words.{left, right}
-use Rattle.model.specs.Message.{tables-at}
 use Rattle.model.specs.Rows.{Program, program, size, tag, num}
 use Rattle.model.specs.Heads.{call-at, Head, head-at, body, gives, builds, makes, calls, sends, spawns, selfs, cases, receives, no-head, innermost, start}
-use Rattle.model.specs.Tables.{Tables, has, state-at, has-state}
+use Rattle.model.specs.Tables.{Tables, has, state-at}
 use Rattle.model.specs.Tables.{state as at-state}
 use Rattle.model.specs.Closed.{state-closed, opening-closed, open-check}
-use Rattle.model.specs.Wanted.{Member, MayTake, Returns, Sends, Spawns, Entry, flow, mail, state, Present, by-case, by-receive, Wanted-first, global-name, first-state, Wanted-by, build-name, build-rest, function-name, function-rest, self-name, self-rest, call-parameter, call-body, return-name, return-rest, send-mail, send-name, send-rest, spawn-name, spawn-rest, spawn-body, branch-name, branch-state, Wanted, by-opening, by-state, Closed}
+use Rattle.model.specs.Wanted.{Member, MayTake, Returns, Sends, Spawns, Entry, flow, mail, state, Present, by-case, by-receive, Wanted-first, global-name, first-state, Wanted-by, build-name, build-rest, function-name, function-rest, self-name, self-rest, call-parameter, call-body, return-name, return-rest, send-mail, send-name, send-rest, spawn-name, spawn-rest, spawn-body, branch-name, branch-state, by-opening, by-state, Closed}
 use Rattle.model.specs.Refusals.{Lacks}
 use Rattle.model.proofs.Logic.{not-passes}
 use Rattle.model.proofs.Rows.{tag-inside}
@@ -151,8 +149,8 @@ module _ (p : Program) (t : Tables) where
     unfolding open-check
     open-none-of s =
         Iff·trans
-        (then-iff _ _ (unless-iff _ (Open (tables-at s)) (found-iff t finds-first))
-        (Iff·trans (first-none (t .states .size) _ (λ i b. kept-iff i) (λ i. Open (tables-at s + 3 + s .flows + s .mails + i))) (entries-iff (t .states))))
+        (then-iff _ _ (unless-iff _ _ (found-iff t finds-first))
+        (Iff·trans (first-none (t .states .size) _ _ (λ i b. kept-iff i)) (entries-iff (t .states))))
         (λ h. all-closed (h .0) (h .1), λ w. (λ e x. w e (by-opening x), λ c at m e x. w e (by-state m x)))
 
 pub function-below : (ws : List ℕ) (s : Sizes) (r : ℕ) → tag (program ws s) r ≡ 11 → r < size (program ws s)

@@ -10,7 +10,7 @@ use mathlib.Core.Option.{none, map-eq-none-iff}
 use lib.ListN.{replicate}
 use lib.Dec.{ltb, eqb}
 use Rattle.model.specs.declared.Sizes.{Sizes}
-use Rattle.model.specs.declared.Verdict.the-variants.{Bad, Entry, Ceiling}
+use Rattle.model.specs.declared.Verdict.the-variants.{Bad, Ceiling}
 use Rattle.model.specs.Words.{Columns, left, right}
 use Rattle.model.specs.Message.{bads-at, bounds-at}
 use Rattle.model.specs.Reader.{first-wrong}
@@ -65,7 +65,7 @@ module _ (c : Columns) where
     pub list-none : (at : ℕ) → (list-check at legal-left legal-right c ≡ none) ↔ Listed legal-left legal-right c
     unfolding list-check first-misplaced
     list-none at =
-        Iff·trans (first-none (c .size) _ (λ i b. placed-iff i) (λ i. Entry (at + i))) (
+        Iff·trans (first-none (c .size) _ _ (λ i b. placed-iff i)) (
           λ h. record {
             left-legal = λ i b. h i b .0 .0;
             right-legal = λ i b. h i b .0 .1;

@@ -1,5 +1,5 @@
 -- Refusals 4 and 5, and with 3 the whole program: nothing is refused exactly where it is well formed.
-use Prim.Native.Nat.{ℕ, _+_, _<_}
+use Prim.Native.Nat.{ℕ, _<_}
 use native.Mathlib.Decide.{decLt}
 use native.Mathlib.Omega.{arith}
 use mathlib.Core.Path.{_≡_, sym, _∙_, subst}
@@ -9,7 +9,7 @@ use mathlib.Core.Option.{none}
 use lib.Dec.{ltb, eqb}
 use borrow.Author.Tests.{eqb-true, eq-eqb, not-false}
 use Rattle.model.specs.declared.Verdict.{Verdict}
-use Rattle.model.specs.declared.Verdict.the-variants.{Name, Scope}
+use Rattle.model.specs.declared.Verdict.the-variants.{Scope}
 use Rattle.model.specs.Index.{first}
 use Rattle.model.specs.Verdict.{_>>_, unless}
 use Rattle.model.specs.Rows.{Program, size, tag, num, row-check}
@@ -75,8 +75,8 @@ module _ (p : Program) where
         omega arith,
   )
 
-  pub again-none : (v : ℕ → Verdict) → (unless (eqb (first 0 (size p) (bound-again p)) (size p)) (v (first 0 (size p) (bound-again p))) ≡ none) ↔ None-again
-  again-none v = first-none (size p) (bound-again p) (λ r b. fails-iff (bound-again p r) (again-iff r)) v
+  pub again-none : (v : Verdict) → (unless (eqb (first 0 (size p) (bound-again p)) (size p)) v ≡ none) ↔ None-again
+  again-none v = first-none (size p) (bound-again p) v (λ r b. fails-iff (bound-again p r) (again-iff r))
 
   -- the binder of a name is a row exactly where some row binds the name
   pub binder-iff : (n : ℕ) → (ltb (binder p n) (size p) ≡ true) ↔ ((b : ℕ) × (b < size p) × Binds n b)
@@ -86,8 +86,8 @@ module _ (p : Program) where
   pub name-none : (name-check p ≡ none) ↔ (Bound-once × Bound)
   unfolding name-check
   name-none =
-      then-iff _ _ (Iff·trans (again-none (λ r. Name (4 + r))) once-iff)
-      (unless-iff _ (Name 1) (all-iff (p .names) _ binder-iff))
+      then-iff _ _ (Iff·trans (again-none _) once-iff)
+      (unless-iff _ _ (all-iff (p .names) _ binder-iff))
 
   -- where a name is bound once, its binder is the row that binds it
   binder-is : Bound-once → (n b : ℕ) → b < size p → Binds n b → binder p n ≡ b
@@ -127,7 +127,7 @@ module _ (p : Program) where
 
     pub scope-none : (scope-check p ≡ none) ↔ Scoped
     unfolding scope-check
-    scope-none = first-none (size p) (out-of-scope p) scoped-iff (λ r. Scope (4 + r))
+    scope-none = first-none (size p) (out-of-scope p) _ scoped-iff
 
   -- Refusals 3 to 5 of a program
   pub program-none : (program-check p ≡ none) ↔ Well-formed p

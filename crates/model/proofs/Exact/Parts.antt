@@ -62,8 +62,8 @@ part-none : (ws : List ℕ) (x : Message-part) → (check-of ws x ≡ none) ↔ 
 unfolding part-check
 part-none ws x =
     Iff·trans
-    (then-iff _ _ (unless-iff _ (Length (x .first)) (leb-iff _ (length ws)))
-    (then-iff _ _ (sizes-none (x .first) (x .sizes)) (unless-iff _ (Length (x .first)) (leb-iff _ (length ws)))))
+    (then-iff _ _ (unless-iff _ _ (leb-iff _ (length ws)))
+    (then-iff _ _ (sizes-none (x .first) (x .sizes)) (unless-iff _ _ (leb-iff _ (length ws)))))
     (λ h. h .1, λ h. (omega arith, h))
 
 -- the checks of some parts in order, and then another
@@ -101,7 +101,7 @@ module _ (bytes : List ℕ) where
   parts-none =
       Iff·trans
       (Iff·trans (checks-none ws (parts s) (nothing-left bytes s))
-      (Iff·and Iff·rfl (unless-iff _ (Length (end-at s)) (leb-iff (length bytes) (2 * end-at s)))))
+      (Iff·and Iff·rfl (unless-iff _ _ (leb-iff (length bytes) (2 * end-at s)))))
       (λ h. omega (arith, words-length bytes), λ h. omega (arith, words-length bytes))
 
   pub parts-some : (v : Verdict) → parts-check bytes ≡ some v → ((k : ℕ) × (x : Message-part) × Behind (Whole ws) (parts s) k x × (check-of ws x ≡ some v)) ⊎ (Within-limits s × (2 * end-at s < length bytes) × (Length (end-at s) ≡ v))
