@@ -8,8 +8,8 @@ pub mod Rows
 pub mod Names
 pub mod Entries
 pub mod Members
+pub mod Finds
 pub mod MayMatch
 pub mod States
 pub mod Closed
-pub mod Refusals
 pub mod Sound

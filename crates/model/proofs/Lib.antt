@@ -24,4 +24,5 @@ pub mod Steps
 pub mod Stepped
 pub mod Runs
 pub mod Demands
+pub mod Refusals
 pub mod Controls

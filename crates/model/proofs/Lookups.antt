@@ -12,7 +12,7 @@ use Rattle.model.specs.Rows.{Program, size, tag, num}
 use Rattle.model.specs.Heads.{is-function}
 use Rattle.model.specs.Values.{Value, closure, Bindings, empty, bind, lookup, global-row, value-of, values-of, bind-all}
 use Rattle.model.specs.Tables.{Tables}
-use Rattle.model.specs.Wanted.{Member, Closed, global-name, flow}
+use Rattle.model.specs.Wanted.{Member, Closed, global-name, flow, by-opening}
 use Rattle.model.specs.Run.{_>>=_}
 use Rattle.model.proofs.Logic.{test, and-left, and-right, or-right}
 use Rattle.model.proofs.Index.{first-is}
@@ -55,7 +55,7 @@ module _ (p : Program) (t : Tables) (closed : Closed p t) (classes : List ℕ) w
       let is-eleven = and-left (eqb (tag p (global-row p n)) 11) (eqb (num p (global-row p n)) n) b in
       let is-n = eqb-true (num p (global-row p n)) n (and-right (eqb (tag p (global-row p n)) 11) (eqb (num p (global-row p n)) n) b) in (
         subst (λ k. Member (t .flow) k (global-row p n)) is-n
-            (closed (flow (num p (global-row p n)) (global-row p n)) (global-name (global-row p n) (eqb-true (tag p (global-row p n)) 11 is-eleven))),
+            (closed (flow (num p (global-row p n)) (global-row p n)) (by-opening (global-name (global-row p n) (eqb-true (tag p (global-row p n)) 11 is-eleven)))),
         (or-right (eqb (tag p (global-row p n)) 3) (eqb (tag p (global-row p n)) 11) is-eleven, tt),
       )
 

@@ -17,7 +17,7 @@ use Rattle.model.specs.Tables.{Tables}
 use Rattle.model.specs.Rules.{Rule, rules}
 use Rattle.model.specs.Markings.{Marking, usable, fire, initial, fire-all}
 use Rattle.model.specs.Verify.{Message}
-use Rattle.model.specs.Wanted.{Closed, state, first-state}
+use Rattle.model.specs.Wanted.{Closed, state, first-state, by-opening}
 use Rattle.model.specs.Demands.{Under-one, Inductive, Matches, made, not-made, used, Equal-counts, All-runs-followed}
 use Rattle.model.proofs.Logic.{test, or-right}
 use Rattle.model.proofs.Reader.{by-option}
@@ -144,7 +144,7 @@ module _ (m : Message) (fit : Rows-fit (m .program)) (w : Columns-whole (m .prog
     record {
       location = start-location fit;
       class = or-right (eqb (tag p (size p)) 6) (eqb (size p) (size p)) (eq-eqb (size p) (size p) refl);
-      present = closed (state (size p) (start p)) first-state;
+      present = closed (state (size p) (start p)) (by-opening first-state);
       held = tt;
       frames = tt;
       mailbox = λ v there. absurd (List·Memᴰ·not-nil there);
@@ -153,7 +153,7 @@ module _ (m : Message) (fit : Rows-fit (m .program)) (w : Columns-whole (m .prog
   )
 
   start-agrees : Agrees m (starting p) (initial p t)
-  start-agrees = record { equal = equal-start m (closed (state (size p) (start p)) first-state); bounded = inductive .contain-start }
+  start-agrees = record { equal = equal-start m (closed (state (size p) (start p)) (by-opening first-state)); bounded = inductive .contain-start }
 
   pub all-runs-followed : All-runs-followed m (rules p t)
   unfolding run

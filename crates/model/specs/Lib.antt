@@ -23,3 +23,4 @@ pub mod Verify
 pub mod Cases
 pub mod Wanted
 pub mod Demands
+pub mod Refusals

@@ -78,24 +78,31 @@ part-check ws at ls elements =
     unless (leb (at + length ls) (length ws)) (Length at) >>
     (sizes-check at ls >> unless (leb (at + length ls + 2 * elements) (length ws)) (Length at))
 
+-- the sizes of each part, with their limits
+abbrev pub program-sizes : Sizes → List Limited
+program-sizes s =
+    limited (s .rows) 1 maxRows ∷ limited (s .names) 1 maxNames ∷ limited (s .constructors) 0 maxConstructors ∷ limited (s .functions) 0 maxFunctions ∷ []
+
+abbrev pub bads-sizes : Sizes → List Limited
+bads-sizes s = limited (s .bads) 1 maxBads ∷ limited (s .conditions) minBadRows maxBadRows ∷ []
+
+abbrev pub tables-sizes : Sizes → List Limited
+tables-sizes s = limited (s .flows) 0 maxFlows ∷ limited (s .mails) 0 maxMails ∷ limited (s .states) 0 maxStates ∷ []
+
+abbrev pub bounds-sizes : Sizes → List Limited
+bounds-sizes s = limited (s .bounds) 0 maxBounds ∷ limited (s .limits) 0 maxBoundEntries ∷ []
+
 unfoldable pub program-part : List ℕ → Sizes → Check
-program-part ws s =
-    part-check ws 0
-    (limited (s .rows) 1 maxRows ∷ limited (s .names) 1 maxNames ∷ limited (s .constructors) 0 maxConstructors ∷ limited (s .functions) 0 maxFunctions ∷ [])
-    (s .rows)
+program-part ws s = part-check ws 0 (program-sizes s) (s .rows)
 
 unfoldable pub bads-part : List ℕ → Sizes → Check
-bads-part ws s = part-check ws (bads-at s) (limited (s .bads) 1 maxBads ∷ limited (s .conditions) minBadRows maxBadRows ∷ []) (s .conditions)
+bads-part ws s = part-check ws (bads-at s) (bads-sizes s) (s .conditions)
 
 unfoldable pub tables-part : List ℕ → Sizes → Check
-tables-part ws s =
-    part-check ws (tables-at s)
-    (limited (s .flows) 0 maxFlows ∷ limited (s .mails) 0 maxMails ∷ limited (s .states) 0 maxStates ∷ [])
-    (s .flows + s .mails + s .states)
+tables-part ws s = part-check ws (tables-at s) (tables-sizes s) (s .flows + s .mails + s .states)
 
 unfoldable pub bounds-part : List ℕ → Sizes → Check
-bounds-part ws s =
-    part-check ws (bounds-at s) (limited (s .bounds) 0 maxBounds ∷ limited (s .limits) 0 maxBoundEntries ∷ []) (s .limits)
+bounds-part ws s = part-check ws (bounds-at s) (bounds-sizes s) (s .limits)
 
 -- 1: "bytes remain: the word past the ceilings"
 unfoldable pub nothing-left : List ℕ → Sizes → Check

@@ -92,34 +92,41 @@ pub record Spawns (p : Program) (t : Tables) (at n r f : ℕ) : Type 0 where
   pub may-be : Member (t .flow) function f
   pub no-parameters : takes p f 0 ≡ true
 
-pub data Wanted (p : Program) (t : Tables) : Entry → Type 0 where
-  -- "Wanted first: each tag 11 name holds its own row, and state (R, start)"
-  global-name : (r : ℕ) → tag p r ≡ 11 → Wanted p t (flow (num p r) r)
-  first-state : Wanted p t (state (size p) (start p))
+-- "Wanted first: each tag 11 name holds its own row, and state (R, start)"
+pub data Wanted-first (p : Program) : Entry → Type 0 where
+  global-name : (r : ℕ) → tag p r ≡ 11 → Wanted-first p (flow (num p r) r)
+  first-state : Wanted-first p (state (size p) (start p))
+
+-- "Then, for each state (c, r)": what the state (c, at) wants
+pub data Wanted-by (p : Program) (t : Tables) (c at : ℕ) : Entry → Type 0 where
   -- "build, function: the name holds r; self: the name holds c. State (c, rest)."
-  build-name : (c at n k r : ℕ) (ns : List ℕ) → Member (t .states) c at → head-at p at ≡ builds n k ns r → Wanted p t (flow n at)
-  build-rest : (c at n k r : ℕ) (ns : List ℕ) → Member (t .states) c at → head-at p at ≡ builds n k ns r → Wanted p t (state c r)
-  function-name : (c at n r : ℕ) → Member (t .states) c at → head-at p at ≡ makes n r → Wanted p t (flow n at)
-  function-rest : (c at n r : ℕ) → Member (t .states) c at → head-at p at ≡ makes n r → Wanted p t (state c r)
-  self-name : (c at n r : ℕ) → Member (t .states) c at → head-at p at ≡ selfs n r → Wanted p t (flow n c)
-  self-rest : (c at n r : ℕ) → Member (t .states) c at → head-at p at ≡ selfs n r → Wanted p t (state c r)
+  build-name : (n k r : ℕ) (ns : List ℕ) → head-at p at ≡ builds n k ns r → Wanted-by p t c at (flow n at)
+  build-rest : (n k r : ℕ) (ns : List ℕ) → head-at p at ≡ builds n k ns r → Wanted-by p t c at (state c r)
+  function-name : (n r : ℕ) → head-at p at ≡ makes n r → Wanted-by p t c at (flow n at)
+  function-rest : (n r : ℕ) → head-at p at ≡ makes n r → Wanted-by p t c at (state c r)
+  self-name : (n r : ℕ) → head-at p at ≡ selfs n r → Wanted-by p t c at (flow n c)
+  self-rest : (n r : ℕ) → head-at p at ≡ selfs n r → Wanted-by p t c at (state c r)
   -- "call: for each function the callee may be, with equal count: parameters hold the arguments' values; state (c, its body)"
-  call-parameter : (c at f i v : ℕ) (call : Call) → Member (t .states) c at → head-at p at ≡ calls call → MayCall p t call f → i < call .count → Member (t .flow) (getD (call .arguments) i 0) v → Wanted p t (flow (getD (parameters p f) i 0) v)
-  call-body : (c at f : ℕ) (call : Call) → Member (t .states) c at → head-at p at ≡ calls call → MayCall p t call f → Wanted p t (state c (body p f))
+  call-parameter : (f i v : ℕ) (call : Call) → head-at p at ≡ calls call → MayCall p t call f → i < call .count → Member (t .flow) (getD (call .arguments) i 0) v → Wanted-by p t c at (flow (getD (parameters p f) i 0) v)
+  call-body : (f : ℕ) (call : Call) → head-at p at ≡ calls call → MayCall p t call f → Wanted-by p t c at (state c (body p f))
   -- "the call's name holds the values; state (c, call's rest). In the start expression: nothing."
-  return-name : (c at n f call v : ℕ) → Member (t .states) c at → Returns p t c at n f call → Member (t .flow) n v → Wanted p t (flow (call-at p call .name) v)
-  return-rest : (c at n f call : ℕ) → Member (t .states) c at → Returns p t c at n f call → Wanted p t (state c (call-at p call .rest))
+  return-name : (n f call v : ℕ) → Returns p t c at n f call → Member (t .flow) n v → Wanted-by p t c at (flow (call-at p call .name) v)
+  return-rest : (n f call : ℕ) → Returns p t c at n f call → Wanted-by p t c at (state c (call-at p call .rest))
   -- "mail (d, v), the name holds v, state (c, rest)"
-  send-mail : (c at n r d v : ℕ) → Member (t .states) c at → Sends p t at n r d v → Wanted p t (mail d v)
-  send-name : (c at n r d v : ℕ) → Member (t .states) c at → Sends p t at n r d v → Wanted p t (flow n v)
-  send-rest : (c at n r d v : ℕ) → Member (t .states) c at → Sends p t at n r d v → Wanted p t (state c r)
+  send-mail : (n r d v : ℕ) → Sends p t at n r d v → Wanted-by p t c at (mail d v)
+  send-name : (n r d v : ℕ) → Sends p t at n r d v → Wanted-by p t c at (flow n v)
+  send-rest : (n r d v : ℕ) → Sends p t at n r d v → Wanted-by p t c at (state c r)
   -- "the name holds r, states (c, rest) and (r, body)"
-  spawn-name : (c at n r f : ℕ) → Member (t .states) c at → Spawns p t at n r f → Wanted p t (flow n at)
-  spawn-rest : (c at n r f : ℕ) → Member (t .states) c at → Spawns p t at n r f → Wanted p t (state c r)
-  spawn-body : (c at n r f : ℕ) → Member (t .states) c at → Spawns p t at n r f → Wanted p t (state at (body p f))
+  spawn-name : (n r f : ℕ) → Spawns p t at n r f → Wanted-by p t c at (flow n at)
+  spawn-rest : (n r f : ℕ) → Spawns p t at n r f → Wanted-by p t c at (state c r)
+  spawn-body : (n r f : ℕ) → Spawns p t at n r f → Wanted-by p t c at (state at (body p f))
   -- "its names' values, state (c, branch)"
-  branch-name : (c at q v n w : ℕ) → Member (t .states) c at → MayTake p t c at q v → AtSpot p t maxDepth q v n w → Wanted p t (flow n w)
-  branch-state : (c at q v : ℕ) → Member (t .states) c at → MayTake p t c at q v → Wanted p t (state c (branch-body p q))
+  branch-name : (q v n w : ℕ) → MayTake p t c at q v → AtSpot p t maxDepth q v n w → Wanted-by p t c at (flow n w)
+  branch-state : (q v : ℕ) → MayTake p t c at q v → Wanted-by p t c at (state c (branch-body p q))
+
+pub data Wanted (p : Program) (t : Tables) : Entry → Type 0 where
+  by-opening : {e : Entry} → Wanted-first p e → Wanted p t e
+  by-state : {c at : ℕ} {e : Entry} → Member (t .states) c at → Wanted-by p t c at e → Wanted p t e
 
 -- "Extra entries are allowed."
 abbrev pub Closed : Program → Tables → Type 0

@@ -8,19 +8,22 @@ use mathlib.Core.Logic.{_↔_, Iff·trans}
 use mathlib.Core.List.{List, List·Memᴰ}
 use mathlib.Core.Option.{some, none}
 use Rattle.model.specs.declared.Verdict.{Verdict}
+use Rattle.model.specs.declared.Verdict.the-variants.{Met, Leak}
 use Rattle.model.specs.Limits.{omega-limit}
 use Rattle.model.specs.Words.{words, right}
-use Rattle.model.specs.Message.{sizes}
+use Rattle.model.specs.Message.{sizes, bads-at, bounds-at}
 use Rattle.model.specs.Reader.{first-wrong}
 use Rattle.model.specs.Rows.{tag, num}
 use Rattle.model.specs.Heads.{is-class}
+use Rattle.model.specs.Bads.{bad-row}
 use Rattle.model.specs.Tables.{is-value}
 use Rattle.model.specs.Counters.{counter-count}
 use Rattle.model.specs.Rules.{Rule, rules}
 use Rattle.model.specs.Markings.{Marking, usable, fire}
-use Rattle.model.specs.Bounds.{bound-entries, bound-step, bounds-of, bounds, bound-check, met-check, leak-check}
+use Rattle.model.specs.Bounds.{bound-entries, bound-step, bounds-of, bound-entry, bounds, bound-check, met-check, leak-check}
 use Rattle.model.specs.Verify.{Message, message, bounds-check}
-use Rattle.model.specs.Demands.{Bytes, Listed, Under-one, Met, Inductive}
+use Rattle.model.specs.Demands.{Bytes, Listed, Under-one, Inductive}
+use Rattle.model.specs.Refusals.{First-such, Allowed, Leaks}
 use Rattle.model.proofs.Bounded.Words.{short-words, short-minimum, short-limit}
 use Rattle.model.proofs.Exact.Checks.{then-iff}
 use Rattle.model.proofs.Exact.Entries.{bound-none}
@@ -30,10 +33,10 @@ use Rattle.model.proofs.Parse.Reached.{Rows-fit}
 use Rattle.model.proofs.Parse.Lengths.{built-below}
 use Rattle.model.proofs.Numbering.Letters.{Keys}
 use Rattle.model.proofs.Numbering.Counters.{listed-keys}
-use Rattle.model.proofs.Bounded.Met.{Bad-met, met-check-exact, met-check-refuses}
+use Rattle.model.proofs.Bounded.Met.{met-check-exact, met-check-refuses}
 use Rattle.model.proofs.Bounded.Fire.{Shaped}
 use Rattle.model.proofs.Bounded.Shaped.{rules-shaped}
-use Rattle.model.proofs.Bounded.Leak.{Leaks, start-check-exact, leak-check-exact, leak-check-refuses}
+use Rattle.model.proofs.Bounded.Leak.{start-check-exact, leak-check-exact, leak-check-refuses}
 
 -- the constructor that a row of a message builds, where its rows fit
 pub message-built : (bytes : List ℕ) → Rows-fit (message bytes .program) → (v : ℕ) → tag (message bytes .program) v ≡ 2 → num (message bytes .program) (v + 1) < message bytes .program .constructors
@@ -75,24 +78,25 @@ module _ (bytes : List ℕ) (short : Bytes bytes) where
     shaped : (ρ : Rule) → List·Memᴰ ρ (rules (m .program) (m .tables)) → Shaped (m .bounds .counters) ρ
     shaped = rw counters (rules-shaped (m .program) (m .tables) keys)
 
-    pub met-exact : (met-check (m .sizes) (m .program) (m .tables) (m .bounds) (m .bads) ≡ none) ↔ ((counts : Marking) (j : ℕ) → Under-one (m .bounds) counts → j < m .sizes .bads → Met m counts j → ⊥)
+    pub met-exact : (met-check (m .sizes) (m .program) (m .tables) (m .bounds) (m .bads) ≡ none) ↔ ((j : ℕ) → j < m .sizes .bads → Allowed m j → ⊥)
     met-exact = met-check-exact (m .program) (m .tables) (m .bounds) (m .bads) keys counters minimums (m .sizes)
 
-    pub met-refuses : (v : Verdict) → met-check (m .sizes) (m .program) (m .tables) (m .bounds) (m .bads) ≡ some v → Bad-met (m .program) (m .tables) (m .bounds) (m .bads) (m .sizes) v
+    pub met-refuses : (v : Verdict) → met-check (m .sizes) (m .program) (m .tables) (m .bounds) (m .bads) ≡ some v → (j : ℕ) × First-such (m .sizes .bads) (Allowed m) j × (Met (bads-at (m .sizes) + 2 + bad-row (m .program) (m .bads) j) ≡ v)
     met-refuses = met-check-refuses (m .program) (m .tables) (m .bounds) (m .bads) keys counters minimums (m .sizes)
 
     pub leak-exact : (leak-check (m .words) (m .sizes) (m .bounds) (rules (m .program) (m .tables)) ≡ none) ↔ ((counts : Marking) (ρ : Rule) → Under-one (m .bounds) counts → List·Memᴰ ρ (rules (m .program) (m .tables)) → usable ρ counts ≡ true → Under-one (m .bounds) (fire ρ counts))
     leak-exact = leak-check-exact (m .bounds) (rules (m .program) (m .tables)) limits shaped (m .words) (m .sizes)
 
-    pub leak-refuses : (v : Verdict) → leak-check (m .words) (m .sizes) (m .bounds) (rules (m .program) (m .tables)) ≡ some v → Leaks (m .words) (m .sizes) (m .bounds) (rules (m .program) (m .tables)) v
+    pub leak-refuses : (v : Verdict) → leak-check (m .words) (m .sizes) (m .bounds) (rules (m .program) (m .tables)) ≡ some v → (k : ℕ) × First-such (m .bounds .size) (Leaks (m .bounds) (rules (m .program) (m .tables))) k × (Leak (bounds-at (m .sizes) + 2 + bound-entry (m .bounds .counters) (bound-entries (m .words) (m .sizes)) k) ≡ v)
     leak-refuses = leak-check-refuses (m .bounds) (rules (m .program) (m .tables)) limits shaped (m .words) (m .sizes)
 
     -- refusals 11 to 13
     pub tests-exact : (tests-of-bounds m ≡ none) ↔ Inductive m
     tests-exact =
         Iff·trans (then-iff _ _ (start-check-exact (m .sizes) (m .program) (m .tables) (m .bounds)) (then-iff _ _ met-exact leak-exact)) (
-          λ h. let (start, (meets, keeps)) = h in record { contain-start = start; kept = keeps; meet-no-bad = meets },
-          λ i. (i .contain-start, (i .meet-no-bad, i .kept)),
+          λ h. let (start, (meets, keeps)) = h in
+              record { contain-start = start; kept = keeps; meet-no-bad = λ counts j u b x. meets j b (counts, u, x) },
+          λ i. (i .contain-start, (λ j b x. let (counts, u, y) = x in i .meet-no-bad counts j u b y, i .kept)),
         )
 
     pub bounds-check-exact : (bounds-check m ≡ none) ↔ (Bounds-in-form × Inductive m)

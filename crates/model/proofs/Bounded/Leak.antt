@@ -1,8 +1,8 @@
 -- Refusals 11 and 13 are exact: from counts under a bound a rule leads out of all bounds exactly where one does from the bound's highest counts.
-use Prim.Native.Nat.{ℕ, _+_, _≤_, _<_}
-use mathlib.Core.Path.{_≡_, refl, sym}
+use Prim.Native.Nat.{ℕ, _+_, _≤_}
+use mathlib.Core.Path.{_≡_, refl}
 use mathlib.Core.Bool.{Bool, true, false, not, _&&_}
-use mathlib.Core.Logic.{⊎-elim, _↔_, Iff·trans}
+use mathlib.Core.Logic.{⊎-elim, _↔_, Iff·trans, Iff·rfl}
 use mathlib.Core.List.{List, [], _∷_, List·Memᴰ, List·Memᴰ·head, List·Memᴰ·tail, List·Memᴰ·not-nil, List·Memᴰ·cases-cons}
 use mathlib.Core.Option.{some, none}
 use borrow.Author.Tests.{not-true, not-false}
@@ -17,8 +17,10 @@ use Rattle.model.specs.Rules.{Rule}
 use Rattle.model.specs.Markings.{Marking, usable, fire, initial}
 use Rattle.model.specs.Bounds.{Bounds, bound-entries, bound-entry, under-some, highest, start-check, leads-out, leak-check}
 use Rattle.model.specs.Demands.{Under, Under-one}
-use Rattle.model.proofs.Logic.{true-false, test, not-failing, and-left, and-right, and-false-right, or-cases, or-false-left, or-false-right}
+use Rattle.model.specs.Refusals.{First-such, Leaks}
+use Rattle.model.proofs.Logic.{true-false, and-left, and-right, and-false-right, or-cases, or-false-left, or-false-right}
 use Rattle.model.proofs.Bounded.Under.{under-some-exact, highest-under}
+use Rattle.model.proofs.Exact.Tests.{fails-iff, passes-iff}
 use Rattle.model.proofs.Exact.Checks.{unless-iff, first-none, first-some}
 use Rattle.model.proofs.Bounded.Fire.{Shaped, usable-at-highest, fire-allowed}
 
@@ -28,25 +30,14 @@ unfolding start-check
 start-check-exact s p t bs = unless-iff (under-some bs (initial p t)) (Start (bounds-at s)) (under-some-exact bs (initial p t))
 
 -- a rule that can be used at the counts and leads out of all bounds
-pub record Leads-out (bs : Bounds) (ρs : List Rule) (m : Marking) : Type 0 where
-  pub rule : Rule
-  pub listed : List·Memᴰ rule ρs
-  pub used : usable rule m ≡ true
-  pub out : Under-one bs (fire rule m) → ⊥
-
-leads-out-elim : (bs : Bounds) (ρs : List Rule) (m : Marking) → leads-out bs ρs m ≡ true → Leads-out bs ρs m
+leads-out-elim : (bs : Bounds) (ρs : List Rule) (m : Marking) → leads-out bs ρs m ≡ true → (ρ : Rule) × List·Memᴰ ρ ρs × (usable ρ m ≡ true) × (Under-one bs (fire ρ m) → ⊥)
 unfolding leads-out
 leads-out-elim bs [] m h = true-false h refl
 leads-out-elim bs (ρ ∷ ρs) m h =
     ⊎-elim
     (λ e. let fails = not-true (under-some bs (fire ρ m)) (and-right (usable ρ m) _ e) in
-    record {
-      rule = ρ;
-      listed = List·Memᴰ·head refl;
-      used = and-left (usable ρ m) _ e;
-      out = λ u. true-false (under-some-exact bs (fire ρ m) .1 u) fails;
-    })
-    (λ e. let r = leads-out-elim bs ρs m e in record { rule = r .rule; listed = List·Memᴰ·tail (r .listed); used = r .used; out = r .out })
+    (ρ, List·Memᴰ·head refl, and-left (usable ρ m) _ e, fails-iff _ (under-some-exact bs (fire ρ m)) .0 fails))
+    (λ e. let (σ, i, used, out) = leads-out-elim bs ρs m e in (σ, List·Memᴰ·tail i, used, out))
     (or-cases (usable ρ m && not (under-some bs (fire ρ m))) _ h)
 
 -- where none leads out, each that can be used leads under one of the bounds
@@ -64,17 +55,6 @@ leads-out-none bs (σ ∷ ρs) m ρ h i u =
 abbrev pub Kept-from : Bounds → List Rule → ℕ → Type 0
 Kept-from bs ρs k = (m : Marking) (ρ : Rule) → Under bs k m → List·Memᴰ ρ ρs → usable ρ m ≡ true → Under-one bs (fire ρ m)
 
--- what refusal 13 tells: a bound and its first entry's word, counts under it that a rule leads out of all bounds, and that none leads out of an
--- earlier one
-pub record Leaks (ws : List ℕ) (s : Sizes) (bs : Bounds) (ρs : List Rule) (v : Verdict) : Type 0 where
-  pub bound : ℕ
-  pub below : bound < bs .size
-  pub refused : v ≡ Leak (bounds-at s + 2 + bound-entry (bs .counters) (bound-entries ws s) bound)
-  pub counts : Marking
-  pub under : Under bs bound counts
-  pub leads-out : Leads-out bs ρs counts
-  pub earlier : (k : ℕ) → k < bound → Kept-from bs ρs k
-
 module _ (bs : Bounds) (ρs : List Rule) (short : (k x : ℕ) → bs .limit k x ≤ omega-limit) (shaped : (ρ : Rule) → List·Memᴰ ρ ρs → Shaped (bs .counters) ρ) where
   -- the highest counts answer for all counts under a bound
   pub leads-out-exact : (k : ℕ) → (leads-out bs ρs (highest (bs .limit k)) ≡ false) ↔ Kept-from bs ρs k
@@ -84,9 +64,16 @@ module _ (bs : Bounds) (ρs : List Rule) (short : (k x : ℕ) → bs .limit k x 
         let (k′, below′, u′) = under-some-exact bs (fire ρ (highest (bs .limit k))) .0
         (leads-out-none bs ρs (highest (bs .limit k)) ρ h i (usable-at-highest (bs .counters) ρ s (bs .limit k) m u used)) in
         (k′, below′, fire-allowed (bs .counters) ρ s (bs .limit k) m u (bs .limit k′) (short k′) u′),
-    λ h. test (leads-out bs ρs (highest (bs .limit k)))
-        (λ e. let r = leads-out-elim bs ρs (highest (bs .limit k)) e in
-        absurd (r .out (h (highest (bs .limit k)) (r .rule) (highest-under bs k) (r .listed) (r .used)))) (λ e. e),
+    λ h. fails-iff (leads-out bs ρs (highest (bs .limit k))) Iff·rfl .1
+        (λ e. let (ρ, i, used, out) = leads-out-elim bs ρs (highest (bs .limit k)) e in out (h (highest (bs .limit k)) ρ (highest-under bs k) i used)),
+  )
+
+  pub leads-out-iff : (k : ℕ) → (leads-out bs ρs (highest (bs .limit k)) ≡ true) ↔ Leaks bs ρs k
+  leads-out-iff k = (
+    λ h. let (ρ, i, used, out) = leads-out-elim bs ρs (highest (bs .limit k)) h in
+        record { counts = highest (bs .limit k); under = highest-under bs k; rule = ρ; listed = i; used = used; out = out },
+    λ x. passes-iff (leads-out bs ρs (highest (bs .limit k))) (leads-out-exact k) .1
+        (λ kept. x .out (kept (x .counts) (x .rule) (x .under) (x .listed) (x .used))),
   )
 
   module _ (ws : List ℕ) (s : Sizes) where
@@ -100,19 +87,9 @@ module _ (bs : Bounds) (ρs : List Rule) (short : (k x : ℕ) → bs .limit k x 
     pub leak-check-exact : (leak-check ws s bs ρs ≡ none) ↔ ((m : Marking) (ρ : Rule) → Under-one bs m → List·Memᴰ ρ ρs → usable ρ m ≡ true → Under-one bs (fire ρ m))
     unfolding leak-check
     leak-check-exact =
-        Iff·trans (first-none (bs .size) leaks (λ k below. leads-out-exact k) refusal)
+        Iff·trans (first-none (bs .size) leaks _ (λ k below. leads-out-exact k))
         (λ h m ρ u. let (k, below, lies) = u in h k below m ρ lies, λ h k below m ρ lies. h m ρ (k, below, lies))
 
-    pub leak-check-refuses : (v : Verdict) → leak-check ws s bs ρs ≡ some v → Leaks ws s bs ρs v
+    pub leak-check-refuses : (v : Verdict) → leak-check ws s bs ρs ≡ some v → (k : ℕ) × First-such (bs .size) (Leaks bs ρs) k × (refusal k ≡ v)
     unfolding leak-check
-    leak-check-refuses v h =
-        let (k, f, same) = first-some (bs .size) leaks (λ j b. leads-out-exact j) refusal v h in
-        record {
-          bound = k;
-          below = f .below;
-          refused = sym same;
-          counts = highest (bs .limit k);
-          under = highest-under bs k;
-          leads-out = leads-out-elim bs ρs _ (not-failing (leaks k) (λ e. f .not-good (leads-out-exact k .0 e)));
-          earlier = f .before;
-        }
+    leak-check-refuses = first-some (bs .size) leaks (λ k below. leads-out-iff k) refusal

@@ -1,9 +1,9 @@
 -- Refusal 12 is exact: a bound allows counts that meet a bad exactly where its highest counts do.
 use Prim.Native.Nat.{ℕ, zero, suc, _+_, _-_, _≤_, _<_}
 use native.Mathlib.Omega.{arith}
-use mathlib.Core.Path.{_≡_, refl, sym}
-use mathlib.Core.Bool.{Bool, true, false}
-use mathlib.Core.Logic.{_⊎_, inl, inr, ⊎-elim, _↔_, Iff·trans}
+use mathlib.Core.Path.{_≡_, refl}
+use mathlib.Core.Bool.{Bool, true}
+use mathlib.Core.Logic.{_⊎_, inl, inr, ⊎-elim, _↔_}
 use mathlib.Core.Option.{Option, some, none}
 use lib.Dec.{leb, eqb}
 use borrow.Author.Tests.{leb-true, le-leb}
@@ -20,11 +20,13 @@ use Rattle.model.specs.Counters.{counter-count, counter-of}
 use Rattle.model.specs.Markings.{Marking, standing, count-in}
 use Rattle.model.specs.Bounds.{Bounds, highest, bad-allowed, met-check}
 use Rattle.model.specs.Demands.{Under, Under-one}
-use Rattle.model.proofs.Logic.{true-false, test, not-failing, and-left, and-right, and-intro}
-use Rattle.model.proofs.Index.{any-none, any-elim}
+use Rattle.model.specs.Refusals.{First-such}
+use Rattle.model.proofs.Logic.{test, and-left, and-right, and-intro}
+use Rattle.model.proofs.Index.{any-intro, any-elim}
 use Rattle.model.proofs.Bounded.Under.{below-highest, highest-under-one}
 use Rattle.model.proofs.Numbering.Letters.{Keys}
 use Rattle.model.proofs.Numbering.Counters.{counter-below-of}
+use Rattle.model.proofs.Exact.Tests.{fails-iff}
 use Rattle.model.proofs.Exact.Checks.{first-none, first-some}
 
 -- counts that are as high, or past every minimum, meet what the lower ones meet
@@ -58,15 +60,9 @@ module _ (p : Program) (t : Tables) (bs : Bounds) (rows : Columns) where
   abbrev refusal : Sizes → ℕ → Verdict
   refusal s j = Met (bads-at s + 2 + bad-row p rows j)
 
-  -- what refusal 12 tells: a bad, met by counts under a bound, its first tag's word, and that no counts under a bound meet an earlier one
-  pub record Bad-met (s : Sizes) (v : Verdict) : Type 0 where
-    pub bad : ℕ
-    pub below : bad < s .bads
-    pub refused : v ≡ refusal s bad
-    pub counts : Marking
-    pub under : Under-one bs counts
-    pub meets : Meets counts (bad-row p rows bad)
-    pub earlier : (j : ℕ) (m : Marking) → j < bad → Under-one bs m → Meets m (bad-row p rows j) → ⊥
+  -- counts under a bound meet it
+  abbrev pub Met-below : ℕ → Type 0
+  Met-below r = (m : Marking) × Under-one bs m × Meets m r
 
   -- some bound allows a bad: its highest counts meet it
   pub bad-allowed-elim : (r : ℕ) → bad-allowed p t bs rows r ≡ true → (k : ℕ) × (k < bs .size) × Meets (highest (bs .limit k)) r
@@ -84,34 +80,19 @@ module _ (p : Program) (t : Tables) (bs : Bounds) (rows : Columns) where
         (λ y below. ⊎-elim (λ z. inl z) (λ z. inr (omega arith)) (below-highest (bs .limit k) y (m y) (u y below))))
         short h
 
-    -- no bound allows a bad exactly where no counts under a bound meet it
-    pub bad-allowed-exact : (r : ℕ) → (bad-allowed p t bs rows r ≡ false) ↔ ((m : Marking) → Under-one bs m → Meets m r → ⊥)
+    -- some bound allows a bad exactly where some counts under a bound meet it
+    pub bad-allowed-iff : (r : ℕ) → (bad-allowed p t bs rows r ≡ true) ↔ Met-below r
     unfolding bad-allowed
-    bad-allowed-exact r = (
-      λ h m u meets. true-false (highest-meet (u .0) m r (u .2) meets) (any-none 0 (bs .size) (u .0) _ h (omega arith) (u .1)),
-      λ h. test (bad-allowed p t bs rows r)
-          (λ e. let (k, below, meets) = bad-allowed-elim r e in absurd (h _ (highest-under-one bs k below) meets)) (λ e. e),
+    bad-allowed-iff r = (
+      λ h. let (k, below, meets) = bad-allowed-elim r h in (highest (bs .limit k), highest-under-one bs k below, meets),
+      λ h. let (m, u, meets) = h in any-intro 0 (bs .size) (u .0) _ (omega arith) (u .1) (highest-meet (u .0) m r (u .2) meets),
     )
 
     module _ (s : Sizes) where
-      pub met-check-exact : (met-check s p t bs rows ≡ none) ↔ ((m : Marking) (j : ℕ) → Under-one bs m → j < s .bads → Meets m (bad-row p rows j) → ⊥)
+      pub met-check-exact : (met-check s p t bs rows ≡ none) ↔ ((j : ℕ) → j < s .bads → Met-below (bad-row p rows j) → ⊥)
       unfolding met-check
-      met-check-exact =
-          Iff·trans (first-none (s .bads) allows (λ j below. bad-allowed-exact (bad-row p rows j)) (refusal s))
-          (λ h m j u below. h j below m u, λ h j below m u. h m j u below)
+      met-check-exact = first-none (s .bads) allows _ (λ j below. fails-iff (allows j) (bad-allowed-iff (bad-row p rows j)))
 
-      pub met-check-refuses : (v : Verdict) → met-check s p t bs rows ≡ some v → Bad-met s v
+      pub met-check-refuses : (v : Verdict) → met-check s p t bs rows ≡ some v → (j : ℕ) × First-such (s .bads) (λ i. Met-below (bad-row p rows i)) j × (refusal s j ≡ v)
       unfolding met-check
-      met-check-refuses v h =
-          let (j, f, same) = first-some (s .bads) allows (λ i b. bad-allowed-exact (bad-row p rows i)) (refusal s) v h in
-          let allowed = not-failing (allows j) (λ e. f .not-good (bad-allowed-exact (bad-row p rows j) .0 e)) in
-          let (k, below, meets) = bad-allowed-elim (bad-row p rows j) allowed in
-          record {
-            bad = j;
-            below = f .below;
-            refused = sym same;
-            counts = highest (bs .limit k);
-            under = highest-under-one bs k below;
-            meets = meets;
-            earlier = λ i m before. f .before i before m;
-          }
+      met-check-refuses = first-some (s .bads) allows (λ j below. bad-allowed-iff (bad-row p rows j)) (refusal s)

@@ -10,6 +10,7 @@ use borrow.Author.Tests.{eqb-true, eq-eqb}
 use Rattle.model.specs.declared.Verdict.{Verdict}
 use Rattle.model.specs.Index.{first}
 use Rattle.model.specs.Verdict.{Check, _>>_, unless}
+use Rattle.model.specs.Refusals.{First-such}
 use Rattle.model.proofs.Logic.{true-false}
 use Rattle.model.proofs.Index.{first-is, first-unique}
 
@@ -45,35 +46,27 @@ unless-some false v w h = (refl, Option·some-injective v w h)
 pub unless-refutes : (b : Bool) (v w : Verdict) {A : Type 0} → (b ≡ true) ↔ A → unless b v ≡ some w → (A → ⊥) × (v ≡ w)
 unless-refutes b v w e h = let (f, q) = unless-some b v w h in (λ a. true-false (e .1 a) f, q)
 
--- the first of n elements that is not good
-pub record First-not (n : ℕ) (Good : ℕ → Type 0) (i : ℕ) : Type 0 where
-  pub below : i < n
-  pub not-good : Good i → ⊥
-  pub before : (j : ℕ) → j < i → Good j
+-- A check of n elements that refuses the first one with a fault: nothing is refused where each is good,
+pub first-none : (n : ℕ) (fault : ℕ → Bool) (v : Verdict) {Good : ℕ → Type 0} → ((i : ℕ) → i < n → (fault i ≡ false) ↔ Good i) → (unless (eqb (first 0 n fault) n) v ≡ none) ↔ ((i : ℕ) → i < n → Good i)
+first-none n fault v good = (
+  λ h i b. let e = eqb-true _ n (unless-none _ _ .0 h) in good i b .0 (first-is 0 n fault (omega arith) .before i (omega arith) (omega arith)),
+  λ h. unless-none _ _ .1
+      (eq-eqb _ n (first-unique 0 n n fault (omega arith)
+      (record { from = omega arith; upto = omega arith; passes = λ b. absurd (omega arith); before = λ j a b. good j b .1 (h j b) }))),
+)
 
--- A check of n elements that refuses the first one with a fault
-module _ (n : ℕ) (fault : ℕ → Bool) {Good : ℕ → Type 0} (good : (i : ℕ) → i < n → (fault i ≡ false) ↔ Good i) (v : ℕ → Verdict) where
-  -- nothing where each is good
-  pub first-none : (unless (eqb (first 0 n fault) n) (v (first 0 n fault)) ≡ none) ↔ ((i : ℕ) → i < n → Good i)
-  first-none = (
-    λ h i b. let e = eqb-true _ n (unless-none _ _ .0 h) in good i b .0 (first-is 0 n fault (omega arith) .before i (omega arith) (omega arith)),
-    λ h. unless-none _ _ .1
-        (eq-eqb _ n (first-unique 0 n n fault (omega arith)
-        (record { from = omega arith; upto = omega arith; passes = λ b. absurd (omega arith); before = λ j a b. good j b .1 (h j b) }))),
-  )
-
-  -- or the first that is not
-  pub first-some : (w : Verdict) → unless (eqb (first 0 n fault) n) (v (first 0 n fault)) ≡ some w → (i : ℕ) × First-not n Good i × (v i ≡ w)
-  first-some w h =
-      let k = first 0 n fault in
-      let r = first-is 0 n fault (omega arith) in
-      let (ne, q) = unless-refutes (eqb k n) (v k) w (eqb-true k n, eq-eqb k n) h in
-      let b : k < n = omega (arith, r .upto) in (
-        k,
-        record {
-          below = b;
-          not-good = λ g. true-false (r .passes b) (good k b .1 g);
-          before = λ j a. good j (omega arith) .0 (r .before j (omega arith) a);
-        },
-        q,
-      )
+-- or the first that has one
+pub first-some : (n : ℕ) (fault : ℕ → Bool) {Such : ℕ → Type 0} → ((i : ℕ) → i < n → (fault i ≡ true) ↔ Such i) → (v : ℕ → Verdict) (w : Verdict) → unless (eqb (first 0 n fault) n) (v (first 0 n fault)) ≡ some w → (i : ℕ) × First-such n Such i × (v i ≡ w)
+first-some n fault such v w h =
+    let k = first 0 n fault in
+    let r = first-is 0 n fault (omega arith) in
+    let (ne, q) = unless-refutes (eqb k n) (v k) w (eqb-true k n, eq-eqb k n) h in
+    let b : k < n = omega (arith, r .upto) in (
+      k,
+      record {
+        below = b;
+        such = such k b .0 (r .passes b);
+        before = λ j a x. true-false (such j (omega arith) .1 x) (r .before j (omega arith) a);
+      },
+      q,
+    )

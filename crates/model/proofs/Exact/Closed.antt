@@ -1,138 +1,157 @@
--- Refusal 8: nothing is refused exactly where the tables are closed, with a way to want an entry for each sentence of the paper.
-use Prim.Native.Nat.{ℕ, _+_, _<_}
+-- Refusal 8: nothing is refused exactly where the tables are closed, with a way to want an entry for each sentence of the paper; and what is
+-- refused lacks a wanted entry.
+use Prim.Native.Nat.{ℕ, _<_}
 use native.Mathlib.Omega.{arith}
-use mathlib.Core.Path.{_≡_, refl, subst}
+use mathlib.Core.Path.{_≡_, refl, sym, subst}
 use mathlib.Core.Bool.{true, false, not}
-use mathlib.Core.Logic.{_↔_, Iff·trans}
+use mathlib.Core.Logic.{_↔_, Iff·trans, _⊎_, inl, inr, ⊎-elim}
 use mathlib.Core.List.{List}
 use mathlib.Core.Option.{Option, some, none}
-use lib.ListN.{getD}
 use lib.Dec.{eqb}
+use borrow.Author.Tests.{not-true}
 use Rattle.model.specs.declared.Sizes.{Sizes}
-use Rattle.model.specs.declared.Verdict.the-variants.{Open}
 use Rattle.model.specs.Words.{left, right}
-use Rattle.model.specs.Message.{tables-at}
 use Rattle.model.specs.Rows.{Program, program, size, tag, num}
-use Rattle.model.specs.Heads.{call-at, Head, head-at, branch-body, parameters, body, gives, builds, makes, calls, sends, spawns, selfs, cases, receives, no-head, innermost, start}
-use Rattle.model.specs.Tables.{Tables, has, state-at, has-state}
+use Rattle.model.specs.Heads.{call-at, Head, head-at, body, gives, builds, makes, calls, sends, spawns, selfs, cases, receives, no-head, innermost, start}
+use Rattle.model.specs.Tables.{Tables, has, state-at}
 use Rattle.model.specs.Tables.{state as at-state}
 use Rattle.model.specs.Closed.{state-closed, opening-closed, open-check}
-use Rattle.model.specs.Wanted.{Member, MayTake, Returns, Sends, Spawns, flow, mail, state, by-case, by-receive, global-name, first-state, build-name, build-rest, function-name, function-rest, self-name, self-rest, call-parameter, call-body, return-name, return-rest, send-mail, send-name, send-rest, spawn-name, spawn-rest, spawn-body, branch-name, branch-state, Closed}
+use Rattle.model.specs.Wanted.{Member, MayTake, Returns, Sends, Spawns, Entry, flow, mail, state, Present, by-case, by-receive, Wanted-first, global-name, first-state, Wanted-by, build-name, build-rest, function-name, function-rest, self-name, self-rest, call-parameter, call-body, return-name, return-rest, send-mail, send-name, send-rest, spawn-name, spawn-rest, spawn-body, branch-name, branch-state, by-opening, by-state, Closed}
+use Rattle.model.specs.Refusals.{Lacks}
+use Rattle.model.proofs.Logic.{not-passes}
 use Rattle.model.proofs.Rows.{tag-inside}
-use Rattle.model.proofs.Exact.Tests.{eqb-iff, not-iff, and-iff, implies-iff, all-iff}
+use Rattle.model.proofs.Exact.Tests.{eqb-iff, not-iff}
 use Rattle.model.proofs.Exact.Checks.{then-iff, unless-iff, first-none}
-use Rattle.model.proofs.Exact.Members.{entries-iff, has-iff, has-state-iff}
-use Rattle.model.proofs.Exact.States.{Branch-kept, Return-kept, Give-kept, Kept, state-iff}
+use Rattle.model.proofs.Exact.Members.{entries-iff}
+use Rattle.model.proofs.Exact.Finds.{Finds, finds-map, finds-flow, finds-state, finds-and, finds-where, finds-all, found-iff, missing-iff}
+use Rattle.model.proofs.Exact.States.{Branch-asks, Give-asks, Asks, finds-asked}
 
 module _ (p : Program) (t : Tables) where
-  -- "Wanted first"
-  abbrev pub Opened : Type 0
-  Opened = ((r : ℕ) → r < size p → tag p r ≡ 11 → Member (t .flow) (num p r) r) × Member (t .states) (size p) (start p)
+  module _ (c at : ℕ) where
+    -- what a state wants, its head asks for
+    at-head : (e : Entry) (h : Head) → head-at p at ≡ h → Asks p t c at h e → Asks p t c at (head-at p at) e
+    at-head e h k x = subst (λ z. Asks p t c at z e) (sym k) x
 
-  pub opening-iff : (opening-closed p t ≡ true) ↔ Opened
-  unfolding opening-closed
-  opening-iff =
-      and-iff _ (has-state t (at-state (size p) (start p)))
-      (all-iff (size p) _ (λ r. implies-iff (eqb (tag p r) 11) (has (t .flow) (num p r) r) (eqb-iff (tag p r) 11) (has-iff (t .flow) (num p r) r)))
-      (has-state-iff t (size p) (start p))
+    returned : (e : Entry) (n f call : ℕ) → Returns p t c at n f call → ((v : ℕ) × Member (t .flow) n v × (e ≡ flow (call-at p call .name) v)) ⊎ (e ≡ state c (call-at p call .rest)) → Asks p t c at (head-at p at) e
+    returned e n f call r x =
+        at-head e (gives n) (r .gives-back) (subst (λ i. Give-asks p t c n i e) (sym (r .inside)) (call, r .waits, ((r .is-call, r .may-call), x)))
 
-  -- "Then, for each state": all that the state (c, at) wants is there
-  abbrev pub State-kept : ℕ → ℕ → Type 0
-  State-kept c at = Kept p t c at (head-at p at)
+    taken : (e : Entry) (q v : ℕ) → MayTake p t c at q v → Branch-asks p t c v q e → Asks p t c at (head-at p at) e
+    taken e q′ v′ (by-case n qs q v h i m y) x = at-head e (cases n qs) h (v, m, (q, i, (y, x)))
+    taken e q′ v′ (by-receive qs q v h i m y) x = at-head e (receives qs) h (v, m, (q, i, (y, x)))
 
-  pub state-kept-iff : (i : ℕ) → (not (state-closed p t (state-at t i)) ≡ false) ↔ State-kept (left (t .states) i) (right (t .states) i)
+    sent : (e : Entry) (n r d v : ℕ) → Sends p t at n r d v → (e ≡ mail d v) ⊎ ((e ≡ flow n v) ⊎ (e ≡ state c r)) → Asks p t c at (head-at p at) e
+    sent e n r d v s x = at-head e (sends n (s .target) (s .message) r) (s .sends-at) (d, s .to-class, (s .class, (v, s .value, x)))
+
+    spawned : (e : Entry) (n r f : ℕ) → Spawns p t at n r f → (e ≡ flow n at) ⊎ ((e ≡ state c r) ⊎ (e ≡ state at (body p f))) → Asks p t c at (head-at p at) e
+    spawned e n r f s x = at-head e (spawns n (s .function) r) (s .spawns-at) (f, s .may-be, (s .no-parameters, x))
+
+    asked : (e : Entry) → Wanted-by p t c at e → Asks p t c at (head-at p at) e
+    asked e (build-name n k r ns h) = at-head e (builds n k ns r) h (inl refl)
+    asked e (build-rest n k r ns h) = at-head e (builds n k ns r) h (inr refl)
+    asked e (function-name n r h) = at-head e (makes n r) h (inl refl)
+    asked e (function-rest n r h) = at-head e (makes n r) h (inr refl)
+    asked e (self-name n r h) = at-head e (selfs n r) h (inl refl)
+    asked e (self-rest n r h) = at-head e (selfs n r) h (inr refl)
+    asked e (call-parameter f i v call h x b y) = at-head e (calls call) h (f, x .0, (x .1, inl (i, b, (v, y, refl))))
+    asked e (call-body f call h x) = at-head e (calls call) h (f, x .0, (x .1, inr refl))
+    asked e (return-name n f call v x y) = returned e n f call x (inl (v, y, refl))
+    asked e (return-rest n f call x) = returned e n f call x (inr refl)
+    asked e (send-mail n r d v x) = sent e n r d v x (inl refl)
+    asked e (send-name n r d v x) = sent e n r d v x (inr (inl refl))
+    asked e (send-rest n r d v x) = sent e n r d v x (inr (inr refl))
+    asked e (spawn-name n r f x) = spawned e n r f x (inl refl)
+    asked e (spawn-rest n r f x) = spawned e n r f x (inr (inl refl))
+    asked e (spawn-body n r f x) = spawned e n r f x (inr (inr refl))
+    asked e (branch-name q v n w x y) = taken e q v x (inl (n, w, y, refl))
+    asked e (branch-state q v x) = taken e q v x (inr refl)
+
+    -- and what its head asks for, it wants
+    module _ (e : Entry) where
+      abbrev Wants : Type 0
+      Wants = Wanted-by p t c at e
+
+      same : (x : Entry) → Wanted-by p t c at x → e ≡ x → Wants
+      same x w k = subst (Wanted-by p t c at) (sym k) w
+
+      wanted-give : (n : ℕ) (inside : Option ℕ) → head-at p at ≡ gives n → innermost p at ≡ inside → Give-asks p t c n inside e → Wants
+      wanted-give n none h i x = absurd x
+      wanted-give n (some f) h i x =
+          let (call, waits, y) = x in
+          let r : Returns p t c at n f call = record { gives-back = h; inside = i; waits = waits; is-call = y .0 .0; may-call = y .0 .1 } in
+          ⊎-elim (λ z. let (v, m, k) = z in same _ (return-name n f call v r m) k) (same _ (return-rest n f call r)) (y .1)
+
+      wanted-branch : (q v : ℕ) → MayTake p t c at q v → Branch-asks p t c v q e → Wants
+      wanted-branch q v x = ⊎-elim (λ y. let (n, w, s, k) = y in same _ (branch-name q v n w x s) k) (same _ (branch-state q v x))
+
+      wanted : (h : Head) → head-at p at ≡ h → Asks p t c at h e → Wants
+      wanted (gives n) h x = wanted-give n (innermost p at) h refl x
+      wanted (builds n k ns r) h x = ⊎-elim (same _ (build-name n k r ns h)) (same _ (build-rest n k r ns h)) x
+      wanted (makes n r) h x = ⊎-elim (same _ (function-name n r h)) (same _ (function-rest n r h)) x
+      wanted (calls call) h x =
+          let (f, m, y) = x in
+          ⊎-elim (λ z. let (i, b, u) = z in let (v, held, k) = u in same _ (call-parameter f i v call h (m, y .0) b held) k)
+          (same _ (call-body f call h (m, y .0))) (y .1)
+      wanted (sends n target message r) h x =
+          let (d, m, y) = x in
+          let (v, held, z) = y .1 in
+          let s : Sends p t at n r d v = record { target = target; message = message; sends-at = h; to-class = m; class = y .0; value = held } in
+          ⊎-elim (same _ (send-mail n r d v s)) (⊎-elim (same _ (send-name n r d v s)) (same _ (send-rest n r d v s))) z
+      wanted (spawns n function r) h x =
+          let (f, m, y) = x in
+          let s : Spawns p t at n r f = record { function = function; spawns-at = h; may-be = m; no-parameters = y .0 } in
+          ⊎-elim (same _ (spawn-name n r f s)) (⊎-elim (same _ (spawn-rest n r f s)) (same _ (spawn-body n r f s))) (y .1)
+      wanted (selfs n r) h x = ⊎-elim (same _ (self-name n r h)) (same _ (self-rest n r h)) x
+      wanted (cases n qs) h x = let (v, m, y) = x in let (q, i, z) = y in wanted-branch q v (by-case n qs q v h i m (z .0)) (z .1)
+      wanted (receives qs) h x = let (v, m, y) = x in let (q, i, z) = y in wanted-branch q v (by-receive qs q v h i m (z .0)) (z .1)
+      wanted no-head h x = absurd x
+
+    -- "Then, for each state": the test finds what the state (c, at) wants
+    pub finds-wanted : Finds t (state-closed p t (at-state c at)) (Wanted-by p t c at)
+    finds-wanted = finds-map t (λ e. wanted e (head-at p at) refl) asked (finds-asked p t c at)
+
+  -- state number i has all that it wants, or lacks something
+  abbrev pub Kept : ℕ → ℕ → Type 0
+  Kept c at = (e : Entry) → Wanted-by p t c at e → Present t e
+
+  kept-iff : (i : ℕ) → (not (state-closed p t (state-at t i)) ≡ false) ↔ Kept (left (t .states) i) (right (t .states) i)
   unfolding state-at
-  state-kept-iff i = Iff·trans (not-iff (state-closed p t (state-at t i))) (state-iff p t (left (t .states) i) (right (t .states) i))
+  kept-iff i = Iff·trans (not-iff _) (found-iff t (finds-wanted (left (t .states) i) (right (t .states) i)))
 
-  abbrev All-kept : Type 0
-  All-kept = (c at : ℕ) → Member (t .states) c at → State-kept c at
+  pub lacks-iff : (i : ℕ) → (not (state-closed p t (state-at t i)) ≡ true) ↔ Lacks p t (left (t .states) i) (right (t .states) i)
+  unfolding state-at
+  lacks-iff i = Iff·trans (not-true _, not-passes _) (missing-iff t (finds-wanted (left (t .states) i) (right (t .states) i)))
 
-  -- what is kept by its head
-  at-head : All-kept → (c at : ℕ) (h : Head) → Member (t .states) c at → head-at p at ≡ h → Kept p t c at h
-  at-head k c at h m e = subst (Kept p t c at) e (k c at m)
+  all-closed : ((e : Entry) → Wanted-first p e → Present t e) → ((c at : ℕ) → Member (t .states) c at → Kept c at) → Closed p t
+  all-closed o k e (by-opening x) = o e x
+  all-closed o k e (by-state {c = c} {at = at} m x) = k c at m e x
 
-  returned : All-kept → (c at n f call : ℕ) → Member (t .states) c at → Returns p t c at n f call → Return-kept p t c n (call-at p call)
-  returned k c at n f call m x =
-      (subst (Give-kept p t c n) (x .inside) (at-head k c at (gives n) m (x .gives-back))) call (x .waits) (x .is-call, x .may-call)
-
-  sent : All-kept → (c at n r d v : ℕ) → Member (t .states) c at → Sends p t at n r d v → Member (t .mail) d v × (Member (t .flow) n v × Member (t .states) c r)
-  sent k c at n r d v m x = at-head k c at (sends n (x .target) (x .message) r) m (x .sends-at) d (x .to-class) (x .class) v (x .value)
-
-  spawned : All-kept → (c at n r f : ℕ) → Member (t .states) c at → Spawns p t at n r f → Member (t .flow) n at × (Member (t .states) c r × Member (t .states) at (body p f))
-  spawned k c at n r f m x = at-head k c at (spawns n (x .function) r) m (x .spawns-at) f (x .may-be) (x .no-parameters)
-
-  taken : All-kept → (c at q v : ℕ) → Member (t .states) c at → MayTake p t c at q v → Branch-kept p t c v q
-  taken k c at q′ v′ m (by-case n qs q v h i x y) = at-head k c at (cases n qs) m h v x q i y
-  taken k c at q′ v′ m (by-receive qs q v h i x y) = at-head k c at (receives qs) m h v x q i y
-
+  -- "Wanted first"
   module _ (below : (r : ℕ) → tag p r ≡ 11 → r < size p) where
-    kept-closed : Opened → All-kept → Closed p t
-    kept-closed o k e (global-name r x) = o .0 r (below r x) x
-    kept-closed o k e first-state = o .1
-    kept-closed o k e (build-name c at n j r ns m h) = at-head k c at (builds n j ns r) m h .0
-    kept-closed o k e (build-rest c at n j r ns m h) = at-head k c at (builds n j ns r) m h .1
-    kept-closed o k e (function-name c at n r m h) = at-head k c at (makes n r) m h .0
-    kept-closed o k e (function-rest c at n r m h) = at-head k c at (makes n r) m h .1
-    kept-closed o k e (self-name c at n r m h) = at-head k c at (selfs n r) m h .0
-    kept-closed o k e (self-rest c at n r m h) = at-head k c at (selfs n r) m h .1
-    kept-closed o k e (call-parameter c at f i v call m h x b y) = at-head k c at (calls call) m h f (x .0) (x .1) .0 i b v y
-    kept-closed o k e (call-body c at f call m h x) = at-head k c at (calls call) m h f (x .0) (x .1) .1
-    kept-closed o k e (return-name c at n f call v m x y) = returned k c at n f call m x .0 v y
-    kept-closed o k e (return-rest c at n f call m x) = returned k c at n f call m x .1
-    kept-closed o k e (send-mail c at n r d v m x) = sent k c at n r d v m x .0
-    kept-closed o k e (send-name c at n r d v m x) = sent k c at n r d v m x .1 .0
-    kept-closed o k e (send-rest c at n r d v m x) = sent k c at n r d v m x .1 .1
-    kept-closed o k e (spawn-name c at n r f m x) = spawned k c at n r f m x .0
-    kept-closed o k e (spawn-rest c at n r f m x) = spawned k c at n r f m x .1 .0
-    kept-closed o k e (spawn-body c at n r f m x) = spawned k c at n r f m x .1 .1
-    kept-closed o k e (branch-name c at q v n w m x y) = taken k c at q v m x .0 n w y
-    kept-closed o k e (branch-state c at q v m x) = taken k c at q v m x .1
+    wanted-first : (e : Entry) → ((r : ℕ) × (r < size p) × ((tag p r ≡ 11) × (e ≡ flow (num p r) r))) ⊎ (e ≡ state (size p) (start p)) → Wanted-first p e
+    wanted-first e =
+        ⊎-elim (λ x. let (r, b, y) = x in subst (Wanted-first p) (sym (y .1)) (global-name r (y .0))) (λ k. subst (Wanted-first p) (sym k) first-state)
 
-  closed-opened : Closed p t → Opened
-  closed-opened w = (λ r b x. w (flow (num p r) r) (global-name r x), w (state (size p) (start p)) first-state)
+    first-wanted : (e : Entry) → Wanted-first p e → ((r : ℕ) × (r < size p) × ((tag p r ≡ 11) × (e ≡ flow (num p r) r))) ⊎ (e ≡ state (size p) (start p))
+    first-wanted e (global-name r x) = inl (r, below r x, (x, refl))
+    first-wanted e first-state = inr refl
 
-  -- giving back, inside the innermost function or in the start expression
-  closed-give : Closed p t → (c at n : ℕ) (inside : Option ℕ) → Member (t .states) c at → head-at p at ≡ gives n → innermost p at ≡ inside → Give-kept p t c n inside
-  closed-give w c at n none m e i = tt
-  closed-give w c at n (some f) m e i =
-      λ call waits x.
-      let r : Returns p t c at n f call = record { gives-back = e; inside = i; waits = waits; is-call = x .0; may-call = x .1 } in
-      (λ v y. w (flow (call-at p call .name) v) (return-name c at n f call v m r y), w (state c (call-at p call .rest)) (return-rest c at n f call m r))
+    pub finds-first : Finds t (opening-closed p t) (Wanted-first p)
+    unfolding opening-closed
+    finds-first =
+        finds-map t wanted-first first-wanted
+        (finds-and t _ _
+        (finds-all t (size p) _ (λ r. finds-where t (eqb (tag p r) 11) (has (t .flow) (num p r) r) (eqb-iff (tag p r) 11) (finds-flow t (num p r) r)))
+        (finds-state t (size p) (start p)))
 
-  -- a branch that may take v
-  closed-branch : Closed p t → (c at q v : ℕ) → Member (t .states) c at → MayTake p t c at q v → Branch-kept p t c v q
-  closed-branch w c at q v m x = (λ n u y. w (flow n u) (branch-name c at q v n u m x y), w (state c (branch-body p q)) (branch-state c at q v m x))
-
-  closed-at : Closed p t → (c at : ℕ) (h : Head) → Member (t .states) c at → head-at p at ≡ h → Kept p t c at h
-  closed-at w c at (gives n) m e = closed-give w c at n (innermost p at) m e refl
-  closed-at w c at (builds n j ns r) m e = (w (flow n at) (build-name c at n j r ns m e), w (state c r) (build-rest c at n j r ns m e))
-  closed-at w c at (makes n r) m e = (w (flow n at) (function-name c at n r m e), w (state c r) (function-rest c at n r m e))
-  closed-at w c at (calls call) m e =
-      λ f x y. (
-        λ i b v z. w (flow (getD (parameters p f) i 0) v) (call-parameter c at f i v call m e (x, y) b z),
-        w (state c (body p f)) (call-body c at f call m e (x, y)),
-      )
-  closed-at w c at (sends n target message r) m e =
-      λ d x y v z.
-      let s : Sends p t at n r d v = record { target = target; message = message; sends-at = e; to-class = x; class = y; value = z } in
-      (w (mail d v) (send-mail c at n r d v m s), (w (flow n v) (send-name c at n r d v m s), w (state c r) (send-rest c at n r d v m s)))
-  closed-at w c at (spawns n function r) m e =
-      λ f x y.
-      let s : Spawns p t at n r f = record { function = function; spawns-at = e; may-be = x; no-parameters = y } in
-      (w (flow n at) (spawn-name c at n r f m s), (w (state c r) (spawn-rest c at n r f m s), w (state at (body p f)) (spawn-body c at n r f m s)))
-  closed-at w c at (selfs n r) m e = (w (flow n c) (self-name c at n r m e), w (state c r) (self-rest c at n r m e))
-  closed-at w c at (cases n qs) m e = λ v x q i y. closed-branch w c at q v m (by-case n qs q v e i x y)
-  closed-at w c at (receives qs) m e = λ v x q i y. closed-branch w c at q v m (by-receive qs q v e i x y)
-  closed-at w c at no-head m e = tt
-
-  -- Refusal 8, where no row past the end has the tag of a function
-  pub open-none-of : ((r : ℕ) → tag p r ≡ 11 → r < size p) → (s : Sizes) → (open-check s p t ≡ none) ↔ Closed p t
-  unfolding open-check
-  open-none-of below s =
-      Iff·trans
-      (then-iff _ _ (unless-iff _ (Open (tables-at s)) opening-iff)
-      (Iff·trans (first-none (t .states .size) _ (λ i b. state-kept-iff i) (λ i. Open (tables-at s + 3 + s .flows + s .mails + i))) (entries-iff (t .states))))
-      (λ h. kept-closed below (h .0) (h .1), λ w. (closed-opened w, λ c at m. closed-at w c at (head-at p at) m refl))
+    -- Refusal 8, where no row past the end has the tag of a function
+    pub open-none-of : (s : Sizes) → (open-check s p t ≡ none) ↔ Closed p t
+    unfolding open-check
+    open-none-of s =
+        Iff·trans
+        (then-iff _ _ (unless-iff _ _ (found-iff t finds-first))
+        (Iff·trans (first-none (t .states .size) _ _ (λ i b. kept-iff i)) (entries-iff (t .states))))
+        (λ h. all-closed (h .0) (h .1), λ w. (λ e x. w e (by-opening x), λ c at m e x. w e (by-state m x)))
 
 pub function-below : (ws : List ℕ) (s : Sizes) (r : ℕ) → tag (program ws s) r ≡ 11 → r < size (program ws s)
 function-below ws s r h = tag-inside ws s r (omega arith)

@@ -10,7 +10,7 @@ use mathlib.Core.Option.{none, map-eq-none-iff}
 use lib.ListN.{replicate}
 use lib.Dec.{ltb, eqb}
 use Rattle.model.specs.declared.Sizes.{Sizes}
-use Rattle.model.specs.declared.Verdict.the-variants.{Bad, Entry, Ceiling}
+use Rattle.model.specs.declared.Verdict.the-variants.{Bad, Ceiling}
 use Rattle.model.specs.Words.{Columns, left, right}
 use Rattle.model.specs.Message.{bads-at, bounds-at}
 use Rattle.model.specs.Reader.{first-wrong}
@@ -20,6 +20,7 @@ use Rattle.model.specs.Bads.{bad, bad-step, bad-rows, bad-check}
 use Rattle.model.specs.Tables.{Tables, is-value, ascends, first-misplaced, list-check, entry-check}
 use Rattle.model.specs.Bounds.{bound-entries, bound-step, bounds-of, bound-check}
 use Rattle.model.specs.Demands.{Pair-below, Listed}
+use Rattle.model.specs.Refusals.{Placed}
 use Rattle.model.proofs.Exact.Tests.{ltb-iff, eqb-iff, not-iff, and-iff, or-iff}
 use Rattle.model.proofs.Exact.Checks.{then-iff, first-none}
 
@@ -55,11 +56,7 @@ module _ (c : Columns) where
       (h (suc j) b)
 
   module _ (legal-left legal-right : ℕ → Bool) where
-    -- entry i is in its range, and above the one before
-    abbrev pub Placed : ℕ → Type 0
-    Placed i = ((legal-left (left c i) ≡ true) × (legal-right (right c i) ≡ true)) × ((i ≡ 0) ⊎ Below (i - 1) i)
-
-    pub placed-iff : (i : ℕ) → (not (legal-left (left c i) && legal-right (right c i) && ascends c i) ≡ false) ↔ Placed i
+    pub placed-iff : (i : ℕ) → (not (legal-left (left c i) && legal-right (right c i) && ascends c i) ≡ false) ↔ Placed legal-left legal-right c i
     placed-iff i =
         Iff·trans (not-iff (legal-left (left c i) && legal-right (right c i) && ascends c i))
         (and-iff (legal-left (left c i) && legal-right (right c i)) (ascends c i)
@@ -68,7 +65,7 @@ module _ (c : Columns) where
     pub list-none : (at : ℕ) → (list-check at legal-left legal-right c ≡ none) ↔ Listed legal-left legal-right c
     unfolding list-check first-misplaced
     list-none at =
-        Iff·trans (first-none (c .size) _ (λ i b. placed-iff i) (λ i. Entry (at + i))) (
+        Iff·trans (first-none (c .size) _ _ (λ i b. placed-iff i)) (
           λ h. record {
             left-legal = λ i b. h i b .0 .0;
             right-legal = λ i b. h i b .0 .1;

@@ -5,9 +5,9 @@ use mathlib.Core.Bool.{Bool, true}
 use mathlib.Core.Logic.{_↔_, Iff·trans}
 use lib.Dec.{eqb}
 use Rattle.model.specs.Words.{Columns, left, right}
-use Rattle.model.specs.Tables.{Tables, has, each, some-of, state, same-state, state-at, state-index, has-state}
+use Rattle.model.specs.Tables.{Tables, has, some-of, state, same-state, state-at, state-index, has-state}
 use Rattle.model.specs.Wanted.{Member}
-use Rattle.model.proofs.Exact.Tests.{eqb-iff, and-iff, implies-iff, all-iff, any-iff, first-iff}
+use Rattle.model.proofs.Exact.Tests.{eqb-iff, and-iff, any-iff, first-iff}
 
 -- of each entry, and of each member with both its numbers
 pub entries-iff : (c : Columns) {A : ℕ → ℕ → Type 0} → ((i : ℕ) → i < c .size → A (left c i) (right c i)) ↔ ((a b : ℕ) → Member c a b → A a b)
@@ -20,22 +20,17 @@ module _ (c : Columns) (a : ℕ) where
   member : (i : ℕ) → i < c .size → left c i ≡ a → Member c a (right c i)
   member i b e = record { at = i; below = b; first = e; second = refl }
 
-  -- of each entry that begins with a, and of each member
-  pub members-iff : {A : ℕ → Type 0} → ((i : ℕ) → i < c .size → left c i ≡ a → A (right c i)) ↔ ((b : ℕ) → Member c a b → A b)
-  members-iff {A} = (λ h b m. subst A (m .second) (h (m .at) (m .below) (m .first)), λ h i b e. h (right c i) (member i b e))
-
-  pub each-iff : (f : ℕ → Bool) {A : ℕ → Type 0} → ((b : ℕ) → (f b ≡ true) ↔ A b) → (each c a f ≡ true) ↔ ((b : ℕ) → Member c a b → A b)
-  unfolding each
-  each-iff f e =
-      Iff·trans (all-iff (c .size) _ (λ i. implies-iff (eqb (left c i) a) (f (right c i)) (eqb-iff (left c i) a) (e (right c i)))) members-iff
+  -- of some entry that begins with a, and of some member
+  pub member-iff : {A : ℕ → Type 0} → ((i : ℕ) × (i < c .size) × ((left c i ≡ a) × A (right c i))) ↔ ((b : ℕ) × Member c a b × A b)
+  member-iff {A} = (
+    λ h. let (i, b, x) = h in (right c i, member i b (x .0), x .1),
+    λ h. let (b, m, x) = h in (m .at, m .below, (m .first, subst A (sym (m .second)) x)),
+  )
 
   pub some-of-iff : (f : ℕ → Bool) {A : ℕ → Type 0} → ((b : ℕ) → (f b ≡ true) ↔ A b) → (some-of c a f ≡ true) ↔ ((b : ℕ) × Member c a b × A b)
   unfolding some-of
-  some-of-iff f {A} e =
-      Iff·trans (any-iff (c .size) _ (λ i. and-iff (eqb (left c i) a) (f (right c i)) (eqb-iff (left c i) a) (e (right c i)))) (
-        λ h. let (i, b, x) = h in (right c i, member i b (x .0), x .1),
-        λ h. let (b, m, x) = h in (m .at, m .below, (m .first, subst A (sym (m .second)) x)),
-      )
+  some-of-iff f e =
+      Iff·trans (any-iff (c .size) _ (λ i. and-iff (eqb (left c i) a) (f (right c i)) (eqb-iff (left c i) a) (e (right c i)))) member-iff
 
   -- an entry with both numbers
   entry-iff : (b : ℕ) → ((i : ℕ) × (i < c .size) × ((left c i ≡ a) × (right c i ≡ b))) ↔ Member c a b

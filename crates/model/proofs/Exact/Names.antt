@@ -1,5 +1,5 @@
 -- Refusals 4 and 5, and with 3 the whole program: nothing is refused exactly where it is well formed.
-use Prim.Native.Nat.{ℕ, _+_, _<_}
+use Prim.Native.Nat.{ℕ, _<_}
 use native.Mathlib.Decide.{decLt}
 use native.Mathlib.Omega.{arith}
 use mathlib.Core.Path.{_≡_, sym, _∙_, subst}
@@ -8,16 +8,18 @@ use mathlib.Core.Logic.{_↔_, Iff·trans, Iff·rfl}
 use mathlib.Core.Option.{none}
 use lib.Dec.{ltb, eqb}
 use borrow.Author.Tests.{eqb-true, eq-eqb, not-false}
-use Rattle.model.specs.declared.Verdict.the-variants.{Name, Scope}
-use Rattle.model.specs.Index.{any}
-use Rattle.model.specs.Verdict.{_>>_}
+use Rattle.model.specs.declared.Verdict.{Verdict}
+use Rattle.model.specs.declared.Verdict.the-variants.{Scope}
+use Rattle.model.specs.Index.{first}
+use Rattle.model.specs.Verdict.{_>>_, unless}
 use Rattle.model.specs.Rows.{Program, size, tag, num, row-check}
 use Rattle.model.specs.Scopes.{binds, uses, binds-name, binder, bound-again, name-check, in-scope, out-of-scope, scope-check}
 use Rattle.model.specs.Verify.{program-check}
 use Rattle.model.specs.Demands.{Well-formed}
-use Rattle.model.proofs.Logic.{true-false, test, and-left, and-right, and-intro, and-false-right, not-fails}
-use Rattle.model.proofs.Index.{any-intro, any-elim, first-is, first-below}
-use Rattle.model.proofs.Exact.Tests.{all-iff, first-iff}
+use Rattle.model.specs.Refusals.{Bound-again, Reads-outside}
+use Rattle.model.proofs.Logic.{true-false, test, not-failing, and-left, and-right, and-intro, and-false-right, not-fails}
+use Rattle.model.proofs.Index.{first-is, first-below}
+use Rattle.model.proofs.Exact.Tests.{fails-iff, passes-iff, and-iff, all-iff, any-iff, first-iff}
 use Rattle.model.proofs.Exact.Checks.{then-none, then-iff, unless-iff, first-none}
 use Rattle.model.proofs.Exact.Rows.{row-none, reads-name}
 
@@ -47,30 +49,34 @@ module _ (p : Program) where
   unfolding binds-name
   row-binds n b h e = and-intro (binds (tag p b)) (eqb (num p b) n) h (eq-eqb (num p b) n e)
 
-  -- row r binds no name that an earlier row binds
-  abbrev pub Fresh : ℕ → Type 0
-  Fresh r = binds (tag p r) ≡ true → (q : ℕ) → q < r → binds (tag p q) ≡ true → num p q ≡ num p r → ⊥
-
-  pub fresh-iff : (r : ℕ) → (bound-again p r ≡ false) ↔ Fresh r
+  pub again-iff : (r : ℕ) → (bound-again p r ≡ true) ↔ Bound-again p r
   unfolding bound-again
-  fresh-iff r = (
-    λ h y q l x e. true-false (any-intro 0 r q (binds-name p (num p r)) (omega arith) l (row-binds (num p r) q x e))
-        (and-false-right (binds (tag p r)) _ h y),
-    λ h. test (binds (tag p r) && any 0 r (binds-name p (num p r)))
-        (λ t. let (k, w, x) = any-elim 0 r (binds-name p (num p r)) (and-right (binds (tag p r)) _ t) in
-        let (y, e) = binds-row (num p r) k x in
-        absurd (h (and-left (binds (tag p r)) _ t) k (w .1) y e))
-        (λ t. t),
-  )
+  again-iff r =
+      Iff·trans (and-iff (binds (tag p r)) _ Iff·rfl (any-iff r (binds-name p (num p r)) (λ q. Iff·rfl))) (
+        λ h. let (q, b, x) = h .1 in record { binds-here = h .0; earlier = q; before = b; binds-there = x },
+        λ x. (x .binds-here, (x .earlier, x .before, x .binds-there)),
+      )
 
-  pub once-iff : ((r : ℕ) → r < size p → Fresh r) ↔ Bound-once
+  abbrev pub None-again : Type 0
+  None-again = (r : ℕ) → r < size p → Bound-again p r → ⊥
+
+  pub once-iff : None-again ↔ Bound-once
   once-iff = (
     λ h q r a b x y e. elim (decLt q r) [
-      | yes l ↦ absurd (h r b y q l x e)
-      | no l ↦ elim (decLt r q) [ yes m ↦ absurd (h q a x r m y (sym e)) | no m ↦ omega arith ]
+      | yes l ↦ absurd (h r b (record { binds-here = y; earlier = q; before = l; binds-there = row-binds (num p r) q x e }))
+      | no l ↦ elim (decLt r q) [
+        | yes k ↦ absurd (h q a (record { binds-here = x; earlier = r; before = k; binds-there = row-binds (num p q) r y (sym e) }))
+        | no k ↦ omega arith
+      ]
     ],
-    λ h r b y q l x e. let z = h q r (omega arith) b x y e in omega arith,
+    λ h r b x. let (y, e) = binds-row (num p r) (x .earlier) (x .binds-there) in
+        let l = x .before in
+        let z = h (x .earlier) r (omega arith) b y (x .binds-here) e in
+        omega arith,
   )
+
+  pub again-none : (v : Verdict) → (unless (eqb (first 0 (size p) (bound-again p)) (size p)) v ≡ none) ↔ None-again
+  again-none v = first-none (size p) (bound-again p) v (λ r b. fails-iff (bound-again p r) (again-iff r))
 
   -- the binder of a name is a row exactly where some row binds the name
   pub binder-iff : (n : ℕ) → (ltb (binder p n) (size p) ≡ true) ↔ ((b : ℕ) × (b < size p) × Binds n b)
@@ -80,8 +86,8 @@ module _ (p : Program) where
   pub name-none : (name-check p ≡ none) ↔ (Bound-once × Bound)
   unfolding name-check
   name-none =
-      then-iff _ _ (Iff·trans (first-none (size p) (bound-again p) (λ r b. fresh-iff r) (λ r. Name (4 + r))) once-iff)
-      (unless-iff _ (Name 1) (all-iff (p .names) _ binder-iff))
+      then-iff _ _ (Iff·trans (again-none _) once-iff)
+      (unless-iff _ _ (all-iff (p .names) _ binder-iff))
 
   -- where a name is bound once, its binder is the row that binds it
   binder-is : Bound-once → (n b : ℕ) → b < size p → Binds n b → binder p n ≡ b
@@ -111,9 +117,17 @@ module _ (p : Program) where
           (λ t. t),
     )
 
+    pub outside-iff : (r : ℕ) → r < size p → (out-of-scope p r ≡ true) ↔ Reads-outside p r
+    unfolding out-of-scope
+    outside-iff r b =
+        Iff·trans (passes-iff (out-of-scope p r) (scoped-iff r b)) (
+          λ h. record { reads = not-failing (uses (tag p r)) (λ f. h (λ u. true-false u f)); outside = λ k l x y. h (λ u. (k, l, x, y)) },
+          λ o h. let (k, l, x, y) = h (o .reads) in o .outside k l x y,
+        )
+
     pub scope-none : (scope-check p ≡ none) ↔ Scoped
     unfolding scope-check
-    scope-none = first-none (size p) (out-of-scope p) scoped-iff (λ r. Scope (4 + r))
+    scope-none = first-none (size p) (out-of-scope p) _ scoped-iff
 
   -- Refusals 3 to 5 of a program
   pub program-none : (program-check p ≡ none) ↔ Well-formed p

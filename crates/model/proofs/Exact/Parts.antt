@@ -1,23 +1,24 @@
 -- Refusals 1 and 2: nothing is refused exactly where the message has the length that its sizes say, and these are within their limits.
-use Prim.Native.Nat.{ℕ, _+_, _*_, _≤_}
+use Prim.Native.Nat.{ℕ, _+_, _*_, _≤_, _<_}
 use native.Mathlib.Omega.{arith}
-use mathlib.Core.Path.{_≡_, refl}
+use mathlib.Core.Path.{_≡_, refl, _∙_, ap}
 use mathlib.Core.Bool.{Bool, true, false, _&&_}
-use mathlib.Core.Logic.{_↔_, Iff·trans, Iff·and}
+use mathlib.Core.Logic.{_↔_, Iff·trans, Iff·and, Iff·rfl, _⊎_, inl, inr, ⊎-elim}
 use mathlib.Core.List.{List, [], _∷_}
-use mathlib.Core.Option.{some, none, Option·some-ne-none}
+use mathlib.Core.Option.{some, none, Option·some-ne-none, Option·none-ne-some, Option·some-injective}
 use lib.ListN.{length}
 use lib.Dec.{leb}
 use Rattle.model.specs.declared.Sizes.{Sizes}
 use Rattle.model.specs.declared.Verdict.{Verdict}
 use Rattle.model.specs.declared.Verdict.the-variants.{Length, Size}
 use Rattle.model.specs.Words.{words}
-use Rattle.model.specs.Verdict.{Check}
+use Rattle.model.specs.Verdict.{Check, _>>_}
 use Rattle.model.specs.Message.{Limited, sizes, bads-at, tables-at, bounds-at, end-at, sizes-check, part-check, program-part, bads-part, tables-part, bounds-part, nothing-left, parts-check}
-use Rattle.model.specs.Demands.{Between, Within-limits}
-use Rattle.model.proofs.Logic.{true-false}
-use Rattle.model.proofs.Exact.Tests.{leb-iff, and-iff}
-use Rattle.model.proofs.Exact.Checks.{then-iff, unless-iff}
+use Rattle.model.specs.Demands.{Within-limits}
+use Rattle.model.specs.Refusals.{Behind, here, there, Message-part, parts, Within, Each-within, Whole}
+use Rattle.model.proofs.Logic.{true-false, test}
+use Rattle.model.proofs.Exact.Tests.{fails-iff, leb-iff, and-iff}
+use Rattle.model.proofs.Exact.Checks.{then-iff, then-some, unless-iff, unless-refutes}
 
 -- the bytes are twice the words, or one more
 pub words-length : (bytes : List ℕ) → (2 * length (words bytes) ≤ length bytes) × (length bytes ≤ 2 * length (words bytes) + 1)
@@ -26,43 +27,88 @@ words-length [] = (omega arith, omega arith)
 words-length (low ∷ []) = (omega arith, omega arith)
 words-length (low ∷ high ∷ bytes) = let (a, b) = words-length bytes in (omega arith, omega arith)
 
--- each size is within its limits
-abbrev Each-within : List Limited → Type 0
-Each-within [] = Unit {0}
-Each-within (l ∷ ls) = Between (l .least) (l .most) (l .size) × Each-within ls
-
 -- where the test passes, what the check that follows says
 choice-none : (b : Bool) (c : Check) (v : Verdict) → (_≡_ {A = Check} (elim b [ true ↦ c | false ↦ some v ]) none) ↔ ((b ≡ true) × (c ≡ none))
 choice-none true c v = (λ h. (refl, h), λ h. h .1)
 choice-none false c v = (λ h. absurd (Option·some-ne-none v h), λ h. true-false (h .0) refl)
 
-sizes-none : (at : ℕ) (ls : List Limited) → (sizes-check at ls ≡ none) ↔ Each-within ls
+within-iff : (l : Limited) → (leb (l .least) (l .size) && leb (l .size) (l .most) ≡ true) ↔ Within l
+within-iff l = and-iff (leb (l .least) (l .size)) (leb (l .size) (l .most)) (leb-iff (l .least) (l .size)) (leb-iff (l .size) (l .most))
+
+pub sizes-none : (at : ℕ) (ls : List Limited) → (sizes-check at ls ≡ none) ↔ Each-within ls
 unfolding sizes-check
 sizes-none at [] = (λ h. tt, λ h. refl)
 sizes-none at (l ∷ ls) =
     Iff·trans (choice-none (leb (l .least) (l .size) && leb (l .size) (l .most)) (sizes-check (at + 1) ls) (Size at))
-    (Iff·and (and-iff (leb (l .least) (l .size)) (leb (l .size) (l .most)) (leb-iff (l .least) (l .size)) (leb-iff (l .size) (l .most))) (sizes-none (at + 1) ls))
+    (Iff·and (within-iff l) (sizes-none (at + 1) ls))
+
+-- the first size outside its limits
+pub sizes-some : (at : ℕ) (ls : List Limited) (v : Verdict) → sizes-check at ls ≡ some v → (i : ℕ) × (l : Limited) × Behind Within ls i l × (Within l → ⊥) × (Size (at + i) ≡ v)
+unfolding sizes-check
+sizes-some at [] v h = absurd (Option·none-ne-some v h)
+sizes-some at (l ∷ ls) v h =
+    test (leb (l .least) (l .size) && leb (l .size) (l .most))
+    (λ e. let (i, x, b, n, q) = sizes-some (at + 1) ls v (rw (e, sizes-check) at h) in
+    let z : at + (1 + i) ≡ at + 1 + i = omega arith in
+    (1 + i, x, there l x ls i (within-iff l .0 e) b, n, ap Size z ∙ q))
+    (λ e. let z : at + 0 ≡ at = omega arith in
+    (0, l, here l ls, fails-iff _ (within-iff l) .0 e, ap Size z ∙ Option·some-injective (Size at) v (rw (e, sizes-check) at h)))
+
+abbrev pub check-of : List ℕ → Message-part → Check
+check-of ws x = part-check ws (x .first) (x .sizes) (x .elements)
 
 -- a part is whole and its sizes within their limits
-part-none : (ws : List ℕ) (at : ℕ) (ls : List Limited) (n : ℕ) → (part-check ws at ls n ≡ none) ↔ (Each-within ls × (at + length ls + 2 * n ≤ length ws))
+part-none : (ws : List ℕ) (x : Message-part) → (check-of ws x ≡ none) ↔ Whole ws x
 unfolding part-check
-part-none ws at ls n =
+part-none ws x =
     Iff·trans
-    (then-iff _ _ (unless-iff _ (Length at) (leb-iff (at + length ls) (length ws)))
-    (then-iff _ _ (sizes-none at ls) (unless-iff _ (Length at) (leb-iff (at + length ls + 2 * n) (length ws)))))
+    (then-iff _ _ (unless-iff _ _ (leb-iff _ (length ws)))
+    (then-iff _ _ (sizes-none (x .first) (x .sizes)) (unless-iff _ _ (leb-iff _ (length ws)))))
     (λ h. h .1, λ h. (omega arith, h))
 
--- Refusals 1 and 2 of a message
-pub parts-none : (bytes : List ℕ) → (parts-check bytes ≡ none) ↔ ((length bytes ≡ 2 * end-at (sizes (words bytes))) × Within-limits (sizes (words bytes)))
-unfolding parts-check program-part bads-part tables-part bounds-part nothing-left end-at bounds-at tables-at bads-at
-parts-none bytes =
-    Iff·trans
-    (then-iff _ _ (part-none ws 0 _ _) (then-iff _ _ (part-none ws (bads-at s) _ _) (then-iff _ _ (part-none ws (tables-at s) _ _)
-    (then-iff _ _ (part-none ws (bounds-at s) _ _) (unless-iff _ (Length (end-at s)) (leb-iff (length bytes) (2 * end-at s)))))))
-    (λ h. omega (arith, words-length bytes), λ h. omega (arith, words-length bytes))
-  where
-    ws : List ℕ
-    ws = words bytes
+-- the checks of some parts in order, and then another
+abbrev checks-of : List ℕ → List Message-part → Check → Check
+checks-of ws [] last = last
+checks-of ws (x ∷ xs) last = check-of ws x >> checks-of ws xs last
 
-    s : Sizes
-    s = sizes ws
+abbrev All-whole : List ℕ → List Message-part → Type 0
+All-whole ws [] = Unit {0}
+All-whole ws (x ∷ xs) = Whole ws x × All-whole ws xs
+
+checks-none : (ws : List ℕ) (xs : List Message-part) (last : Check) → (checks-of ws xs last ≡ none) ↔ (All-whole ws xs × (last ≡ none))
+checks-none ws [] last = (λ h. (tt, h), λ h. h .1)
+checks-none ws (x ∷ xs) last =
+    Iff·trans (then-iff _ _ (part-none ws x) (checks-none ws xs last)) (λ h. ((h .0, h .1 .0), h .1 .1), λ h. (h .0 .0, (h .0 .1, h .1)))
+
+checks-some : (ws : List ℕ) (xs : List Message-part) (last : Check) (v : Verdict) → checks-of ws xs last ≡ some v → ((k : ℕ) × (x : Message-part) × Behind (Whole ws) xs k x × (check-of ws x ≡ some v)) ⊎ (All-whole ws xs × (last ≡ some v))
+checks-some ws [] last v h = inr (tt, h)
+checks-some ws (x ∷ xs) last v h =
+    ⊎-elim (λ e. inl (0, x, here x xs, e))
+    (λ y. let w = part-none ws x .0 (y .0) in
+    ⊎-elim (λ z. let (k, u, b, e) = z in inl (1 + k, u, there x u xs k w b, e)) (λ z. inr ((w, z .0), z .1)) (checks-some ws xs last v (y .1)))
+    (then-some _ _ v h)
+
+-- Refusals 1 and 2 of a message
+module _ (bytes : List ℕ) where
+  abbrev ws : List ℕ
+  ws = words bytes
+
+  abbrev s : Sizes
+  s = sizes ws
+
+  pub parts-none : (parts-check bytes ≡ none) ↔ ((length bytes ≡ 2 * end-at s) × Within-limits s)
+  unfolding parts-check program-part bads-part tables-part bounds-part nothing-left end-at bounds-at tables-at bads-at
+  parts-none =
+      Iff·trans
+      (Iff·trans (checks-none ws (parts s) (nothing-left bytes s))
+      (Iff·and Iff·rfl (unless-iff _ _ (leb-iff (length bytes) (2 * end-at s)))))
+      (λ h. omega (arith, words-length bytes), λ h. omega (arith, words-length bytes))
+
+  pub parts-some : (v : Verdict) → parts-check bytes ≡ some v → ((k : ℕ) × (x : Message-part) × Behind (Whole ws) (parts s) k x × (check-of ws x ≡ some v)) ⊎ (Within-limits s × (2 * end-at s < length bytes) × (Length (end-at s) ≡ v))
+  unfolding parts-check program-part bads-part tables-part bounds-part nothing-left
+  parts-some v h =
+      ⊎-elim inl
+      (λ x. let w = x .0 in
+      let (n, q) = unless-refutes _ (Length (end-at s)) v (leb-iff (length bytes) (2 * end-at s)) (x .1) in
+      inr (omega arith, omega arith, q))
+      (checks-some ws (parts s) (nothing-left bytes s) v h)

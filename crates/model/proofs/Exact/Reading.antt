@@ -1,4 +1,4 @@
--- Reading by a grammar, said as a relation: which items are still to come after so many rows, and which row is the first wrong one.
+-- Reading by a grammar gives the relations of specs/Refusals.antt: which items are still to come, and which row is the first wrong one.
 use Prim.Native.Nat.{ℕ, zero, suc, _+_, _-_, _≤_, _<_}
 use native.Mathlib.Decide.{ℕ-discrete}
 use native.Mathlib.Omega.{arith}
@@ -10,19 +10,9 @@ use lib.Dec.{eqb}
 use borrow.Author.Tests.{eqb-false}
 use Rattle.model.specs.Words.{Columns, left, right}
 use Rattle.model.specs.Reader.{Read, past, wrong, Grammar, read, complete, first-wrong}
+use Rattle.model.specs.Refusals.{Ahead, at-first, after-row, Wrong, unfit, behind, early}
 use Rattle.model.proofs.Logic.{test}
 use Rattle.model.proofs.Reader.{past-wrong, past-row, wrong-row, by-option, read-none, read-end, read-stop, read-go, read-range, first-wrong-none, none-first-wrong}
-
--- the items still to come before row r, where each row was taken by the item on top
-pub data Ahead {Item : Type 0} (step : Grammar Item) (rows : Columns) (whole : List Item) : ℕ → List Item → Type 0 where
-  at-first : Ahead step rows whole 0 whole
-  after-row : (r : ℕ) (item : Item) (items more : List Item) → Ahead step rows whole r (item ∷ items) → step item (left rows r) (right rows r) ≡ some more → Ahead step rows whole (r + 1) (more ++ items)
-
--- the first wrong row: one that the item on top refuses, one behind the last item, or the end of rows that end early
-pub data Wrong {Item : Type 0} (step : Grammar Item) (rows : Columns) (whole : List Item) : ℕ → Type 0 where
-  unfit : (r : ℕ) (item : Item) (items : List Item) → Ahead step rows whole r (item ∷ items) → r < rows .size → step item (left rows r) (right rows r) ≡ none → Wrong step rows whole r
-  behind : (r : ℕ) → Ahead step rows whole r [] → r < rows .size → Wrong step rows whole r
-  early : (item : Item) (items : List Item) → Ahead step rows whole (rows .size) (item ∷ items) → Wrong step rows whole (rows .size)
 
 -- row k is taken by an item
 pub record Taken {Item : Type 0} (step : Grammar Item) (rows : Columns) (k : ℕ) : Type 0 where

@@ -6,7 +6,7 @@ use mathlib.Core.List.{List}
 use mathlib.Core.Option.{none}
 use lib.ListN.{length}
 use Rattle.model.specs.declared.Sizes.{Sizes}
-use Rattle.model.specs.declared.Verdict.the-variants.{Counters, Space}
+use Rattle.model.specs.declared.Verdict.the-variants.{Counters}
 use Rattle.model.specs.Limits.{maxCounters}
 use Rattle.model.specs.Words.{words}
 use Rattle.model.specs.Verdict.{Check, _>>_}
@@ -57,9 +57,9 @@ check-none bytes lent =
     (then-iff _ _
     (then-iff _ _ (bad-none ws s p)
     (then-iff _ _ (entry-none s p t)
-    (then-iff _ _ (open-none ws s t) (unless-iff _ (Counters _) (leb-iff (counter-count p t) maxCounters)))))
+    (then-iff _ _ (open-none ws s t) (unless-iff _ _ (leb-iff (counter-count p t) maxCounters)))))
     (then-iff _ _ (then-iff _ _ (bound-none ws s (counter-count p t)) Iff·rfl)
-    (unless-iff _ (Space _) (leb-iff (length (system-words p t)) lent)))))) (
+    (unless-iff _ _ (leb-iff (length (system-words p t)) lent)))))) (
       λ h. let ((whole, limits), (well, ((bads, ((flow, (mail, states)), (closed, counters))), ((bound, tests), space)))) = h in (
         record {
           whole = whole;

@@ -7,7 +7,8 @@ use mathlib.Core.Option.{some, none, Option·some-injective}
 use Rattle.model.specs.Reader.{first-wrong}
 use Rattle.model.specs.Rows.{Program, size, tag, num, Item, step, whole, past-items}
 use Rattle.model.proofs.Reader.{first-wrong-none}
-use Rattle.model.proofs.Exact.Reading.{Ahead, at-first, after-row, ahead-unique}
+use Rattle.model.specs.Refusals.{Ahead, at-first, after-row}
+use Rattle.model.proofs.Exact.Reading.{ahead-unique}
 use Rattle.model.proofs.Parse.Spans.{Spans, spans-past, spans-unique, spans-none, spans-range, spans-takes, spans-split, spans-first}
 
 -- the program's rows fit: refusal 3 does not apply

@@ -9,7 +9,7 @@ use Rattle.model.specs.Heads.{branch-body}
 use Rattle.model.specs.Values.{Value, Bindings, Process, process}
 use Rattle.model.specs.Matching.{match}
 use Rattle.model.specs.Tables.{Tables}
-use Rattle.model.specs.Wanted.{Closed, flow, state, MayMatch, MayTake, branch-name, branch-state}
+use Rattle.model.specs.Wanted.{Closed, flow, state, MayMatch, MayTake, branch-name, branch-state, by-state}
 use Rattle.model.proofs.Covering.{row-for, Covered}
 use Rattle.model.proofs.Parse.Reached.{Rows-fit}
 use Rattle.model.proofs.Parse.Branches.{Branches, branch-in, branch-location}
@@ -29,9 +29,9 @@ module _ (p : Program) (t : Tables) (fit : Rows-fit p) (w : Columns-whole p) (cl
       record {
         location = branch-location (branch-in at listed);
         class = g .class;
-        present = closed (state c (branch-body p b)) (branch-state c r b (row-for classes v) (g .present) take);
+        present = closed (state c (branch-body p b)) (by-state (g .present) (branch-state b (row-for classes v) take));
         held = match-held fit w t classes v (q .held) held (branch-in at listed .pattern-stands .spans) covered m (g .held)
-            (λ n u spot. closed (flow n u) (branch-name c r b (row-for classes v) n u (g .present) take spot));
+            (λ n u spot. closed (flow n u) (by-state (g .present) (branch-name b (row-for classes v) n u take spot)));
         frames = frames-moved p t classes c r (branch-body p b) (q .frames) (innermost-branch p fit (g .location) at listed) (g .frames);
         mailbox = mailed;
       }

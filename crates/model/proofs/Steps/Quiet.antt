@@ -15,7 +15,7 @@ use Rattle.model.specs.Matching.{Taken, first-branch}
 use Rattle.model.specs.Run.{_>>=_, moved, Function, function-of, give-back, enter, act}
 use Rattle.model.specs.Tables.{Tables}
 use Rattle.model.specs.Rules.{quiet, rules}
-use Rattle.model.specs.Wanted.{Member, Closed, flow, state, build-name, build-rest, function-name, function-rest, self-name, self-rest, call-parameter, call-body, return-name, return-rest}
+use Rattle.model.specs.Wanted.{Member, Closed, flow, state, build-name, build-rest, function-name, function-rest, self-name, self-rest, call-parameter, call-body, return-name, return-rest, by-state}
 use Rattle.model.specs.Wanted.{Returns, MayCall, by-case}
 use Rattle.model.proofs.Heads.{tag-is, head-give, head-build, head-function, head-call, head-self, head-case}
 use lib.Dec.{eqb}
@@ -98,8 +98,8 @@ module _ (p : Program) (t : Tables) (fit : Rows-fit p) (w : Columns-whole p) (cl
           held = bind n (built r made (b .value)) (q .held);
           frames = q .frames;
           result = sym (Option·some-injective _ qs′ (b .then));
-          good = at-rest q (bind n (built r made (b .value)) (q .held)) g (ap rest-of wanted) (closed _ (build-rest c r n made (rest p r) ns (g .present) wanted))
-              (closed _ (build-name c r n made (rest p r) ns (g .present) wanted), (tag-is (tag p r) build k, refl, v .0, v .1), g .held);
+          good = at-rest q (bind n (built r made (b .value)) (q .held)) g (ap rest-of wanted) (closed _ (by-state (g .present) (build-rest n made (rest p r) ns wanted)))
+              (closed _ (by-state (g .present) (build-name n made (rest p r) ns wanted)), (tag-is (tag p r) build k, refl, v .0, v .1), g .held);
           follows = rule-build p t c r (g .present) k;
         }
 
@@ -116,8 +116,8 @@ module _ (p : Program) (t : Tables) (fit : Rows-fit p) (w : Columns-whole p) (cl
           held = bind n (closure r (q .held)) (q .held);
           frames = q .frames;
           result = sym (Option·some-injective _ qs′ (sym (act-function p qs i q k) ∙ h));
-          good = at-rest q (bind n (closure r (q .held)) (q .held)) g (ap rest-of wanted) (closed _ (function-rest c r n (rest p r) (g .present) wanted))
-              (closed _ (function-name c r n (rest p r) (g .present) wanted), (or-left (eqb (tag p r) 3) (eqb (tag p r) 11) three, g .held), g .held);
+          good = at-rest q (bind n (closure r (q .held)) (q .held)) g (ap rest-of wanted) (closed _ (by-state (g .present) (function-rest n (rest p r) wanted)))
+              (closed _ (by-state (g .present) (function-name n (rest p r) wanted)), (or-left (eqb (tag p r) 3) (eqb (tag p r) 11) three, g .held), g .held);
           follows = rule-function p t c r (g .present) k;
         }
 
@@ -134,8 +134,8 @@ module _ (p : Program) (t : Tables) (fit : Rows-fit p) (w : Columns-whole p) (cl
           held = bind n (address i) (q .held);
           frames = q .frames;
           result = sym (Option·some-injective _ qs′ (sym (act-self p qs i q k) ∙ h));
-          good = at-rest q (bind n (address i) (q .held)) g (ap rest-of wanted) (closed _ (self-rest c r n (rest p r) (g .present) wanted))
-              (subst (Member (t .flow) n) (sym own) (closed _ (self-name c r n (rest p r) (g .present) wanted)), there, g .held);
+          good = at-rest q (bind n (address i) (q .held)) g (ap rest-of wanted) (closed _ (by-state (g .present) (self-rest n (rest p r) wanted)))
+              (subst (Member (t .flow) n) (sym own) (closed _ (by-state (g .present) (self-name n (rest p r) wanted))), there, g .held);
           follows = rule-self p t c r (g .present) k;
         }
 
@@ -156,8 +156,8 @@ module _ (p : Program) (t : Tables) (fit : Rows-fit p) (w : Columns-whole p) (cl
           let (names, held) = values-held p t closed classes (q .held) (call-at p (q .location) .arguments) vs (g .held) given in
           bind-all-held p t closed classes (parameters p (f .row)) vs (f .held) (known .1 .1) held
           (λ j w b m. closed (flow (getD (parameters p (f .row)) j 0) w)
-          (call-parameter (q .class) (q .location) (f .row) j w (call-at p (q .location)) (g .present) (head-call p (q .location) k) may
-          (few p (q .location) (names-of vs) names j b) (subst (λ (l : List ℕ). Member (t .flow) (getD l j 0) w) names m)))
+          (by-state (g .present) (call-parameter (f .row) j w (call-at p (q .location)) (head-call p (q .location) k) may
+          (few p (q .location) (names-of vs) names j b) (subst (λ (l : List ℕ). Member (t .flow) (getD l j 0) w) names m))))
 
       entered : qs′ ≡ set qs i (enter p q f vs) → Quietly p t classes qs i q qs′
       unfolding enter
@@ -170,7 +170,7 @@ module _ (p : Program) (t : Tables) (fit : Rows-fit p) (w : Columns-whole p) (cl
             good = record {
               location = body-location fit (f .row) (function-within w (f .row) (known .1 .0)) (known .1 .0);
               class = g .class;
-              present = closed (state (q .class) (body p (f .row))) (call-body (q .class) (q .location) (f .row) (call-at p (q .location)) (g .present) (head-call p (q .location) k) may);
+              present = closed (state (q .class) (body p (f .row))) (by-state (g .present) (call-body (f .row) (call-at p (q .location)) (head-call p (q .location) k) may));
               held = passed;
               frames = (
                 record {
@@ -213,8 +213,8 @@ module _ (p : Program) (t : Tables) (fit : Rows-fit p) (w : Columns-whole p) (cl
           good = record {
             location = rest-location (x .location) goes-on;
             class = g .class;
-            present = closed (state c (rest p (f .call))) (return-rest c (q .location) n (x .inner) (f .call) (g .present) returns);
-            held = (closed (flow (num p (f .call)) (row-for classes v)) (return-name c (q .location) n (x .inner) (f .call) (row-for classes v) (g .present) returns (known .0)), known .1, x .held);
+            present = closed (state c (rest p (f .call))) (by-state (g .present) (return-rest n (x .inner) (f .call) returns));
+            held = (closed (flow (num p (f .call)) (row-for classes v)) (by-state (g .present) (return-name n (x .inner) (f .call) (row-for classes v) returns (known .0))), known .1, x .held);
             frames = frames-moved p t classes c (f .call) (rest p (f .call)) fs (innermost-rest p fit (x .location) goes-on) xs;
             mailbox = g .mailbox;
           };

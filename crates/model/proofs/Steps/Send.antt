@@ -14,7 +14,7 @@ use Rattle.model.specs.Run.{_>>=_, moved, process-of, deliver, act}
 use Rattle.model.specs.Tables.{Tables}
 use Rattle.model.specs.Rules.{puts, rules}
 use Rattle.model.specs.Counters.{letter-index}
-use Rattle.model.specs.Wanted.{Member, Closed, flow, mail, state, Sends, send-mail, send-name, send-rest}
+use Rattle.model.specs.Wanted.{Member, Closed, flow, mail, state, Sends, send-mail, send-name, send-rest, by-state}
 use Rattle.model.proofs.Heads.{head-send}
 use Rattle.model.proofs.Acts.{act-send}
 use Rattle.model.proofs.Lookups.{bind-some, value-held}
@@ -64,11 +64,11 @@ module _ (p : Program) (t : Tables) (fit : Rows-fit p) (w : Columns-whole p) (pa
         target = j;
         message = v;
         result = e;
-        good = at-rest p t fit w closed classes q (bind n v (q .held)) g (ap rest-of (head-send p r k)) (closed (state c (rest p r)) (send-rest c r n (rest p r) d (row-for classes v) (g .present) sends))
-            (closed (flow n (row-for classes v)) (send-name c r n (rest p r) d (row-for classes v) (g .present) sends), covered, g .held);
+        good = at-rest p t fit w closed classes q (bind n v (q .held)) g (ap rest-of (head-send p r k)) (closed (state c (rest p r)) (by-state (g .present) (send-rest n (rest p r) d (row-for classes v) sends)))
+            (closed (flow n (row-for classes v)) (by-state (g .present) (send-name n (rest p r) d (row-for classes v) sends)), covered, g .held);
         there = there;
         covered = covered;
-        mailed = closed (mail d (row-for classes v)) (send-mail c r n (rest p r) d (row-for classes v) (g .present) sends);
+        mailed = closed (mail d (row-for classes v)) (by-state (g .present) (send-mail n (rest p r) d (row-for classes v) sends));
         same = same;
         follows = subst (λ (l : ℕ). List·Memᴰ (moving p t c r (rest p r) (puts (letter-index p t d l))) (rules p t)) same
             (rule-send p t c r (g .present) d (row-for classes v) k addressee (classed j there) value (low (row-for classes v)));

@@ -17,7 +17,7 @@ use Rattle.model.specs.Run.{_>>=_, moved, Function, function-of, spawned
 use Rattle.model.specs.Tables.{Tables, state-index}
 use Rattle.model.specs.Tables.{state as at-state}
 use Rattle.model.specs.Rules.{starts, rules}
-use Rattle.model.specs.Wanted.{Member, Closed, flow, state, Spawns, spawn-name, spawn-rest, spawn-body}
+use Rattle.model.specs.Wanted.{Member, Closed, flow, state, Spawns, spawn-name, spawn-rest, spawn-body, by-state}
 use Rattle.model.proofs.Logic.{or-left}
 use Rattle.model.proofs.Heads.{tag-is, head-spawn}
 use Rattle.model.proofs.Acts.{act-spawn}
@@ -58,12 +58,12 @@ module _ (p : Program) (t : Tables) (fit : Rows-fit p) (w : Columns-whole p) (cl
         held = bind n (address (length qs)) (q .held);
         function = f;
         result = e;
-        good = at-rest p t fit w closed (classes ++ (r ∷ [])) q (bind n (address (length qs)) (q .held)) grown (ap rest-of (head-spawn p r k)) (closed (state c (rest p r)) (spawn-rest c r n (rest p r) (f .row) (g .present) spawns))
-            (subst (Member (t .flow) n) (sym own) (closed (flow n r) (spawn-name c r n (rest p r) (f .row) (g .present) spawns)), inside, grown .held);
+        good = at-rest p t fit w closed (classes ++ (r ∷ [])) q (bind n (address (length qs)) (q .held)) grown (ap rest-of (head-spawn p r k)) (closed (state c (rest p r)) (by-state (g .present) (spawn-rest n (rest p r) (f .row) spawns)))
+            (subst (Member (t .flow) n) (sym own) (closed (flow n r) (by-state (g .present) (spawn-name n (rest p r) (f .row) spawns))), inside, grown .held);
         new-good = record {
           location = body-location fit (f .row) (function-within w (f .row) (covered .0)) (covered .0);
           class = or-left (eqb (tag p r) 6) (eqb r (size p)) (eq-eqb (tag p r) 6 (tag-is (tag p r) spawn k));
-          present = closed (state r (body p (f .row))) (spawn-body c r n (rest p r) (f .row) (g .present) spawns);
+          present = closed (state r (body p (f .row))) (by-state (g .present) (spawn-body n (rest p r) (f .row) spawns));
           held = held-grown p t classes (r ∷ []) (f .held) (covered .1);
           frames = tt;
           mailbox = λ u there. absurd (List·Memᴰ·not-nil there);
