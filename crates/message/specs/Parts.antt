@@ -7,7 +7,7 @@ use lib.Dec.{leb}
 use Rattle.model.specs.declared.Sizes.{Sizes}
 use Rattle.model.specs.Words.{words}
 use Rattle.model.specs.Verdict.{Check}
-use Rattle.model.specs.Message.{bounds-from, sizes, Limited, limited, parts-check}
+use Rattle.model.specs.Message.{bounds-from, sizes, Limited, parts-check}
 use Rattle.model.specs.Limits.{maxRows, maxNames, maxConstructors, maxFunctions, maxBads, minBadRows, maxBadRows, maxFlows, maxMails, maxStates, maxBounds, maxBoundEntries}
 use Rattle.message.specs.declared.Parts.{Parts}
 use Rattle.message.specs.declared.Parts.the-variants.{Whole, Refused}
@@ -43,17 +43,3 @@ inside l = leb (l .least) (l .size) && leb (l .size) (l .most)
 unfoldable pub first-outside : List Limited → ℕ
 first-outside [] = 0
 first-outside (l ∷ ls) = elim (inside l) [ true ↦ suc (first-outside ls) | false ↦ 0 ]
-
--- the sizes of each part with their limits, as the model lists them
-abbrev pub program-sizes : Sizes → List Limited
-program-sizes s =
-    limited (s .rows) 1 maxRows ∷ limited (s .names) 1 maxNames ∷ limited (s .constructors) 0 maxConstructors ∷ limited (s .functions) 0 maxFunctions ∷ []
-
-abbrev pub bads-sizes : Sizes → List Limited
-bads-sizes s = limited (s .bads) 1 maxBads ∷ limited (s .conditions) minBadRows maxBadRows ∷ []
-
-abbrev pub tables-sizes : Sizes → List Limited
-tables-sizes s = limited (s .flows) 0 maxFlows ∷ limited (s .mails) 0 maxMails ∷ limited (s .states) 0 maxStates ∷ []
-
-abbrev pub bounds-sizes : Sizes → List Limited
-bounds-sizes s = limited (s .bounds) 0 maxBounds ∷ limited (s .limits) 0 maxBoundEntries ∷ []

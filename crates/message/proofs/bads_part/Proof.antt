@@ -2,7 +2,7 @@
 use mathlib.Core.Path.{refl, sym}
 use borrow.Author.Needs.{needs}
 use Rattle.model.specs.Message.{bads-at, bads-part}
-use Rattle.message.specs.Parts.{bads-sizes}
+use Rattle.model.specs.Message.{bads-sizes}
 use Rattle.message.proofs.bads_part.Statement.{statement}
 use Rattle.message.proofs.bads_part.Tie as tie
 

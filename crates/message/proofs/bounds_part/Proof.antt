@@ -2,7 +2,7 @@
 use mathlib.Core.Path.{refl, sym}
 use borrow.Author.Needs.{needs}
 use Rattle.model.specs.Message.{bounds-at, bounds-part}
-use Rattle.message.specs.Parts.{bounds-sizes}
+use Rattle.model.specs.Message.{bounds-sizes}
 use Rattle.message.proofs.bounds_part.Statement.{statement}
 use Rattle.message.proofs.bounds_part.Tie as tie
 

@@ -2,7 +2,7 @@
 use mathlib.Core.Path.{refl, sym}
 use borrow.Author.Needs.{needs}
 use Rattle.model.specs.Message.{program-part}
-use Rattle.message.specs.Parts.{program-sizes}
+use Rattle.model.specs.Message.{program-sizes}
 use Rattle.message.proofs.program_part.Statement.{statement}
 use Rattle.message.proofs.program_part.Tie as tie
 

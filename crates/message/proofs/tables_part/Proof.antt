@@ -2,7 +2,7 @@
 use mathlib.Core.Path.{refl, sym}
 use borrow.Author.Needs.{needs}
 use Rattle.model.specs.Message.{tables-at, tables-part}
-use Rattle.message.specs.Parts.{tables-sizes}
+use Rattle.model.specs.Message.{tables-sizes}
 use Rattle.message.proofs.tables_part.Statement.{statement}
 use Rattle.message.proofs.tables_part.Tie as tie
 
