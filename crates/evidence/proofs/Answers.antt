@@ -1,5 +1,5 @@
 -- The answer to checks one after the other: the first refusal, or what the rest gives.
-use mathlib.Core.Path.{_≡_, _∙_}
+use mathlib.Core.Path.{_≡_}
 use mathlib.Core.Option.{some, none}
 use Rattle.model.specs.declared.Verdict.{Verdict}
 use Rattle.model.specs.Verdict.{Check, _>>_}

@@ -1,20 +1,18 @@
 -- The loop over the rows of bads: each way out gives refusal 6, or none, as the model has it.
-use Prim.Native.Nat.{ℕ, suc, _+_, _*_, _-_, _≤_, _<_}
+use Prim.Native.Nat.{ℕ, _+_, _*_, _-_, _<_}
 use native.Mathlib.Omega.{arith}
 use mathlib.Core.Path.{_≡_, refl, sym, _∙_, ap}
 use mathlib.Core.Bool.{Bool, true, false, true≢false}
 use mathlib.Core.List.{List, [], _∷_}
 use mathlib.Core.Option.{Option, some, none, Option·map}
-use lib.ListN.{length, replicate}
-use mir.Syntax.{w64}
-use mir.Val.{Fits}
+use lib.ListN.{replicate}
 use Rattle.model.specs.declared.Sizes.{Sizes}
 use Rattle.model.specs.declared.Verdict.{Verdict}
 use Rattle.model.specs.declared.Verdict.the-variants.{Safe, Bad}
 use Rattle.model.specs.Words.{left, right, columns}
 use Rattle.model.specs.Message.{bads-at, tables-at, bounds-at, end-at}
 use Rattle.model.specs.Reader.{first-wrong}
-use Rattle.model.specs.Rows.{Program, program}
+use Rattle.model.specs.Rows.{program}
 use Rattle.model.specs.Bads.{Part, bad, bad-rows, bad-step, bad-check}
 use Rattle.model.specs.Verify.{answer}
 use Rattle.evidence.specs.declared.arrays.Arrays.{Arrays}
@@ -55,13 +53,9 @@ module _ (ws : List ℕ) (s : Sizes) where
   answer-safe h = sym (ap (λ x. answer (Option·map (λ r. Bad (bads-at s + 2 + r)) x)) h)
 
   module _ (a : Arrays) (rows-are : a ≡ bad-arrays s) where
-    pub row-held : (r : ℕ) → Parts-whole ws s → r < s .conditions → Held ws a × (r < a .size)
+    pub rows-held : Parts-whole ws s → Held ws a × (a .size ≡ s .conditions)
     unfolding bad-arrays bads-at tables-at bounds-at end-at
-    row-held r whole h = let w = whole .held in rw rows-are (record { lefts = omega arith; rights = omega arith }, h)
-
-    pub place-fits : (r : ℕ) → Parts-whole ws s → r ≤ s .conditions → Fits w64 (a .lefts + r)
-    unfolding bad-arrays bads-at
-    place-fits r whole h = let w = whole .limits in rw rows-are (omega arith)
+    rows-held whole = let w = whole .held in rw rows-are (record { lefts = omega arith; rights = omega arith }, refl)
 
     pub answer-bad : (r : ℕ) → first-bad ≡ some r → Bad (a .lefts + r) ≡ answered
     unfolding bad-check answer bad-arrays

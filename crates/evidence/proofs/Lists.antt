@@ -1,23 +1,22 @@
 -- The tests of src/entries.rt: each way out of the code gives what the model's definition gives.
 use Prim.Native.Nat.{ℕ, _+_, _*_, _-_, _≤_, _<_}
 use native.Mathlib.Omega.{arith}
-use mathlib.Core.Path.{_≡_, refl, sym, _∙_, ap}
-use mathlib.Core.Bool.{Bool, true, false, not, _&&_, _||_}
-use lib.Dec.{ltb, eqb}
+use mathlib.Core.Path.{_≡_, sym, _∙_}
+use mathlib.Core.Bool.{Bool, true, false, not}
+use lib.Dec.{ltb}
 use borrow.Author.Tests.{eq-eqb, ne-eqb, le-ltb}
 use Rattle.model.specs.declared.Sizes.{Sizes}
-use Rattle.model.specs.Index.{first}
 use Rattle.model.specs.Words.{Columns, left, right}
 use Rattle.model.specs.Message.{tables-at}
 use Rattle.model.specs.Rows.{Program}
 use Rattle.model.specs.Tables.{ascends}
-use Rattle.model.proofs.Logic.{test, not-passes, not-fails}
+use Rattle.model.proofs.Logic.{not-passes, not-fails}
 use Rattle.model.proofs.Index.{first-hit, first-miss, first-end}
 use Rattle.evidence.specs.declared.arrays.Arrays.{Arrays}
 use Rattle.evidence.specs.declared.entries.Table.{Table}
 use Rattle.evidence.specs.Arrays.{list-arrays}
 use Rattle.evidence.specs.Ranges.{legal-left, legal-right, legal, in-place, misplaced}
-use Rattle.evidence.proofs.Tags.{and-first, and-second}
+use Rattle.evidence.proofs.Tags.{or-nothing, and-first, and-second}
 
 -- t is the list that the match has told; x is what the code gives
 module _ (p : Program) (t u : Table) (told : t ≡ u) (a b : ℕ) (x : Bool) where
@@ -37,10 +36,6 @@ module _ (c : Columns) (i x y : ℕ) (before : x ≡ left c (i - 1)) (here : y �
   pub ascends-other : (x ≡ y → ⊥) → ltb x y ≡ ascends c i
   unfolding ascends
   ascends-other ne = rw (← before, ← here, ne-eqb i 0 later, ne-eqb x y ne) (or-nothing (ltb x y))
-    where
-      or-nothing : (b : Bool) → b ≡ (b || false)
-      or-nothing true = refl
-      or-nothing false = refl
 
 pub ascends-first : (c : Columns) (i : ℕ) → i ≡ 0 → true ≡ ascends c i
 unfolding ascends

@@ -1,14 +1,13 @@
 -- The reader of bads (src/bads.rt): each way out of the code gives what the model's grammar gives. e is what is expected; the match has told which.
-use Prim.Native.Nat.{ℕ, zero, suc, _+_, _*_, _-_, _≤_, _<_}
+use Prim.Native.Nat.{ℕ, zero, suc, _+_, _-_, _≤_, _<_}
 use native.Mathlib.Omega.{arith}
 use mathlib.Core.Path.{_≡_, refl, sym, _∙_, ap}
-use mathlib.Core.Bool.{Bool, true, false, _&&_, _||_}
-use mathlib.Core.List.{List, [], _∷_, _++_}
-use mathlib.Core.Option.{Option, some, none, Option·map}
+use mathlib.Core.Bool.{true, false, _&&_}
+use mathlib.Core.List.{List, _∷_, _++_}
+use mathlib.Core.Option.{Option, Option·map}
 use lib.ListN.{replicate}
-use lib.Dec.{ltb, leb, eqb}
-use borrow.Author.Tests.{eq-eqb, ne-eqb, le-leb, lt-leb}
-use Rattle.model.specs.declared.Sizes.{Sizes}
+use lib.Dec.{ltb, eqb}
+use borrow.Author.Tests.{ne-eqb, le-leb, lt-leb}
 use Rattle.model.specs.Reader.{fits}
 use Rattle.model.specs.Rows.{Program, tag, is-head}
 use Rattle.model.specs.Heads.{is-class}
@@ -19,15 +18,12 @@ use Rattle.evidence.specs.declared.bads.Expected.the-variants.{Bads, Sub
 use Rattle.evidence.specs.declared.bads.Step.the-variants.{Wrong, Next}
 use Rattle.evidence.specs.Reading.{row-step}
 use Rattle.evidence.specs.Stacks.{stack, stacks, is-subject, item-step, no-more}
+use Rattle.evidence.proofs.Tags.{or-nothing}
 
 module _ (p : Program) (t n : ℕ) where
   pub subject-head : t ≡ 41 → is-head (tag p n) ≡ is-subject p t n
   unfolding is-subject
   subject-head e = rw e (or-nothing (is-head (tag p n)))
-    where
-      or-nothing : (b : Bool) → b ≡ (b || false)
-      or-nothing true = refl
-      or-nothing false = refl
 
   pub subject-letter : t ≡ 42 → ltb n (letters p) ≡ is-subject p t n
   unfolding is-subject

@@ -1,14 +1,12 @@
 -- Laws of reading row by row (specs/Reading.antt), for any grammar: what is left gives what the whole gives.
-use Prim.Native.Nat.{ℕ, zero, suc, _+_, _-_, _≤_, _<_}
+use Prim.Native.Nat.{ℕ, zero, suc, _+_, _-_, _<_}
 use native.Mathlib.Omega.{arith}
-use mathlib.Core.Path.{_≡_, refl, sym, _∙_, ap}
-use mathlib.Core.Bool.{true, false}
+use mathlib.Core.Path.{_≡_, refl}
 use mathlib.Core.List.{List, [], _∷_, _++_}
 use mathlib.Core.Option.{Option, some, none, Option·map, Option·some-ne-none, Option·some-injective, Option·none-ne-some}
-use lib.Dec.{eqb}
 use borrow.Author.Tests.{eq-eqb, ne-eqb}
 use Rattle.model.specs.Words.{Columns, left, right}
-use Rattle.model.specs.Reader.{Read, past, wrong, Grammar, read, complete, first-wrong}
+use Rattle.model.specs.Reader.{Grammar, complete, first-wrong}
 use Rattle.model.proofs.Reader.{by-option, read-none, read-end, read-stop, read-go}
 use Rattle.evidence.specs.Reading.{row-step, wrong-from}
 

@@ -1,21 +1,18 @@
 -- Refusal 7 from the first misplaced entry of each list.
-use Prim.Native.Nat.{ℕ, _+_, _*_, _≤_, _<_}
+use Prim.Native.Nat.{ℕ, _+_, _≤_, _<_}
 use native.Mathlib.Omega.{arith}
 use mathlib.Core.Path.{_≡_, refl, sym, _∙_, ap}
 use mathlib.Core.Bool.{not}
 use mathlib.Core.List.{List}
 use mathlib.Core.Option.{some, none}
-use lib.ListN.{length}
-use mir.Syntax.{w64}
-use mir.Val.{Fits}
 use borrow.Author.Tests.{eq-eqb, ne-eqb}
 use Rattle.model.specs.declared.Sizes.{Sizes}
 use Rattle.model.specs.declared.Verdict.{Verdict}
 use Rattle.model.specs.declared.Verdict.the-variants.{Safe, Entry}
-use Rattle.model.specs.Words.{Columns, columns}
+use Rattle.model.specs.Words.{columns}
 use Rattle.model.specs.Verdict.{Check, unless}
 use Rattle.model.specs.Message.{tables-at, bounds-at, end-at}
-use Rattle.model.specs.Rows.{Program, program}
+use Rattle.model.specs.Rows.{program}
 use Rattle.model.specs.Tables.{entries, tables, first-misplaced, list-check, entry-check}
 use Rattle.model.specs.Verify.{answer}
 use Rattle.model.proofs.Index.{first-is}
@@ -28,14 +25,10 @@ use Rattle.evidence.specs.Ranges.{legal-left, legal-right, legal, in-pla
 use Rattle.evidence.proofs.Answers.{answer-stop, answer-go}
 
 module _ (ws : List ℕ) (s : Sizes) where
-  -- a list of the tables lies within the words, and a place in it is a number of the code
-  pub list-held : (n k : ℕ) (a : Arrays) → Parts-whole ws s → a ≡ list-arrays s n k → n + k ≤ s .flows + s .mails + s .states → Held ws a
+  -- a list of the tables lies within the words
+  pub list-held : (n k : ℕ) (a : Arrays) → Parts-whole ws s → a ≡ list-arrays s n k → n + k ≤ s .flows + s .mails + s .states → Held ws a × (a .size ≡ n)
   unfolding list-arrays tables-at bounds-at end-at
-  list-held n k a whole e h = let w = whole .held in rw e (record { lefts = omega arith; rights = omega arith })
-
-  pub place-fits : (n k i : ℕ) (a : Arrays) → Parts-whole ws s → a ≡ list-arrays s n k → n + k ≤ s .flows + s .mails + s .states → i < n → Fits w64 (a .lefts + i)
-  unfolding list-arrays tables-at
-  place-fits n k i a whole e h lt = let w = whole .limits in rw e (omega arith)
+  list-held n k a whole e h = let w = whole .held in rw e (record { lefts = omega arith; rights = omega arith }, refl)
 
   -- the code has looked through the list of n entries behind k others, and stopped at i
   pub record Searched (t : Table) (n k : ℕ) (a : Arrays) (i : ℕ) : Type 0 where

@@ -1,9 +1,7 @@
 // Two parallel arrays of a message, by the words at which they begin.
-use model::Sizes;
 ghost use mathlib.Core.Path.{_≡_};
 ghost use Prim.Native.Nat.{_<_};
 ghost use Rattle.model.specs.Words.{left, right};
-ghost use Rattle.evidence.specs.Whole.{Parts-whole};
 ghost use Rattle.evidence.specs.Arrays.{Held, arrays};
 
 pub struct Arrays {

@@ -2,7 +2,7 @@ use Prim.Native.Nat.{_≤_, _-_}
 use native.Mathlib.Omega.{arith}
 use mathlib.Core.Path.{_≡_}
 use borrow.Author.Needs.{needs}
-use Rattle.evidence.proofs.BadRows.{first-bad, bad-from, begins, row-held, place-fits, turn-wrong, turn-next, ended-safe, ended-early}
+use Rattle.evidence.proofs.BadRows.{first-bad, bad-from, begins, rows-held, turn-wrong, turn-next, ended-safe, ended-early}
 use Rattle.evidence.proofs.bads.bad_check.Statement.{statement}
 use Rattle.evidence.proofs.bads.bad_check.Tie as tie
 
@@ -16,17 +16,15 @@ bad-rows-requires : tie.Need-bad-rows-requires Inv-loop μ-loop
 bad-rows-requires c κs = c .before .pre .limits
 
 loop-holds : tie.Need-loop-holds Inv-loop μ-loop
-loop-holds c = let a = c .before .before .args in (search needs, begins (a .ws .now) (a .s))
+loop-holds c = (search needs, begins _ _)
 
 left-requires : tie.Need-left-requires Inv-loop μ-loop
 left-requires c κs =
-    let o = c .before .before .before .before .before in let a = o .args in
-    row-held (a .ws .now) (a .s) _ (c .before .before .before .bad-rows .ensures) _ (o .pre) (c .if1 .taken)
+    let h = rows-held _ _ _ (c .before .before .before .bad-rows .ensures) (c .before .before .before .before .before .pre) in (h .0, omega arith)
 
 right-requires : tie.Need-right-requires Inv-loop μ-loop
 right-requires c κs =
-    let o = c .before .before .before .before .before .before in let a = o .args in
-    row-held (a .ws .now) (a .s) _ (c .before .before .before .before .bad-rows .ensures) _ (o .pre) (c .before .if1 .taken)
+    let h = rows-held _ _ _ (c .before .before .before .before .bad-rows .ensures) (c .before .before .before .before .before .before .pre) in (h .0, omega arith)
 
 read-row-requires : tie.Need-read-row-requires Inv-loop μ-loop
 read-row-requires c κs = c .before .before .before .before .before .before .before .pre .program
@@ -36,13 +34,11 @@ enum-told c = search needs
 
 add-at : tie.Need-add-at Inv-loop μ-loop
 add-at c =
-    let o = c .before .before .before .before .before .before .before .before .before .before .before in let a = o .args in
-    place-fits (a .ws .now) (a .s) _ (c .before .before .before .before .before .before .before .before .before .bad-rows .ensures) _ (o .pre) (c .before .before .before .before .before .before .before .before .loop .inv .0)
+    omega (arith, rows-held _ _ _ (c .before .before .before .before .before .before .before .before .before .bad-rows .ensures) (c .before .before .before .before .before .before .before .before .before .before .before .pre), c .before .before .before .before .before .before .before .before .before .before .before .good, c .before .before .before .before .before .before .before .before .loop .inv .0)
 
 returns : tie.Need-returns Inv-loop μ-loop
 returns c =
-    let o = c .before .before .before .before .before .before .before .before .before .before .before in let a = o .args in
-    turn-wrong (a .ws .now) (a .s) _ (c .before .before .before .before .before .before .before .before .before .bad-rows .ensures) _ (c .before .before .before .before .before .before .before .before .loop .r) _ _ _ (c .before .before .before .before .before .before .if1 .taken) (c .before .before .before .before .before .left .ensures) (c .before .before .before .before .right .ensures) (c .before .before .before .read-row .ensures) (c .before .before .before .before .before .before .before .before .loop .inv .1) (c .before .enum-told .given .1)
+    turn-wrong _ _ _ (c .before .before .before .before .before .before .before .before .before .bad-rows .ensures) _ _ _ _ _ (c .before .before .before .before .before .before .if1 .taken) (c .before .before .before .before .before .left .ensures) (c .before .before .before .before .right .ensures) (c .before .before .before .read-row .ensures) (c .before .before .before .before .before .before .before .before .loop .inv .1) (c .before .enum-told .given .1)
 
 enum-known-next : tie.Need-enum-known-next Inv-loop μ-loop
 enum-known-next c = search needs
@@ -55,26 +51,24 @@ loop-less c = search needs
 
 loop-again : tie.Need-loop-again Inv-loop μ-loop
 loop-again c =
-    let o = c .before .before .before .before .before .before .before .before .before .before .before in let a = o .args in
-    (search needs, turn-next (a .ws .now) (a .s) _ (c .before .before .before .before .before .before .before .before .before .bad-rows .ensures) _ (c .before .before .before .before .before .before .before .before .loop .r) _ _ _ (c .before .before .before .before .before .before .if1 .taken) (c .before .before .before .before .before .left .ensures) (c .before .before .before .before .right .ensures) (c .before .before .before .read-row .ensures) _ (c .before .before .before .before .before .before .before .before .loop .inv .1) (c .before .next .given .1))
+    (search needs, turn-next _ _ _ (c .before .before .before .before .before .before .before .before .before .bad-rows .ensures) _ _ _ _ _ (c .before .before .before .before .before .before .if1 .taken) (c .before .before .before .before .before .left .ensures) (c .before .before .before .before .right .ensures) (c .before .before .before .read-row .ensures) _ (c .before .before .before .before .before .before .before .before .loop .inv .1) (c .before .next .given .1))
 
 is-done-requires : tie.Need-is-done-requires Inv-loop μ-loop
 is-done-requires c κs = search needs
 
 returns-2 : tie.Need-returns-2 Inv-loop μ-loop
 returns-2 c =
-    let o = c .before .before .before .before .before .before .before in let a = o .args in let l = c .before .before .before .before .loop in let over : l .r ≡ a .s .conditions = omega arith in
-    ended-safe (a .ws .now) (a .s) _ (c .before .before .before .before .before .bad-rows .ensures) _ _ over (l .inv .1) _ (c .before .is-done .ensures) (c .if2 .taken)
+    let l = c .before .before .before .before .loop in let over : l .r ≡ c .before .before .before .before .before .before .before .args .s .conditions = omega arith in
+    ended-safe _ _ _ (c .before .before .before .before .before .bad-rows .ensures) _ _ over (l .inv .1) _ (c .before .is-done .ensures) (c .if2 .taken)
 
 add-at-2 : tie.Need-add-at-2 Inv-loop μ-loop
 add-at-2 c =
-    let o = c .before .before .before .before .before .before .before .before in let a = o .args in
-    place-fits (a .ws .now) (a .s) _ (c .before .before .before .before .before .before .bad-rows .ensures) _ (o .pre) (c .before .before .before .before .before .loop .inv .0)
+    omega (arith, rows-held _ _ _ (c .before .before .before .before .before .before .bad-rows .ensures) (c .before .before .before .before .before .before .before .before .pre), c .before .before .before .before .before .before .before .before .good, c .before .before .before .before .before .loop .inv .0)
 
 returns-3 : tie.Need-returns-3 Inv-loop μ-loop
 returns-3 c =
-    let o = c .before .before .before .before .before .before .before .before in let a = o .args in let l = c .before .before .before .before .before .loop in let over : l .r ≡ a .s .conditions = omega arith in
-    ended-early (a .ws .now) (a .s) _ (c .before .before .before .before .before .before .bad-rows .ensures) _ _ over (l .inv .1) _ (c .before .before .is-done .ensures) (c .before .if2 .left)
+    let l = c .before .before .before .before .before .loop in let over : l .r ≡ c .before .before .before .before .before .before .before .before .args .s .conditions = omega arith in
+    ended-early _ _ _ (c .before .before .before .before .before .before .bad-rows .ensures) _ _ over (l .inv .1) _ (c .before .before .is-done .ensures) (c .before .if2 .left)
 
 pub bad-check-spec : {M : Type 1} → statement M
 bad-check-spec =

@@ -1,4 +1,4 @@
-use mathlib.Core.Path.{sym, _∙_}
+use mathlib.Core.Path.{_∙_}
 use borrow.Author.Needs.{needs}
 use Rattle.model.specs.Rows.{program}
 use Rattle.model.specs.Letters.{letters}
@@ -13,14 +13,14 @@ add-result : tie.Need-add-result
 add-result c = search needs
 
 returns : tie.Need-returns
-returns c = let a = c .before .before .before .args in c .is-head .ensures ∙ subject-head (program (a .ws .now) (a .s)) (a .t) (a .n) (c .before .match .keys1)
+returns c = c .is-head .ensures ∙ subject-head _ _ _ (c .before .match .keys1)
 
 returns-2 : tie.Need-returns-2
 unfolding program letters
-returns-2 c = let a = c .before .before .before .args in subject-letter (program (a .ws .now) (a .s)) (a .t) (a .n) (c .before .match .keys2)
+returns-2 c = subject-letter _ _ _ (c .before .match .keys2)
 
 returns-3 : tie.Need-returns-3
-returns-3 c = let a = c .before .before .args in no-subject (program (a .ws .now) (a .s)) (a .t) (a .n) (c .match .rest .0 .1) (c .match .rest .1)
+returns-3 c = no-subject _ _ _ (c .match .rest .0 .1) (c .match .rest .1)
 
 pub is-subject-spec : {M : Type 1} → statement M
 is-subject-spec = tie.close (tie.spec is-head-requires add-result returns returns-2 returns-3)

@@ -1,6 +1,5 @@
 use mathlib.Core.Path.{sym, _∙_}
 use borrow.Author.Needs.{needs}
-use Rattle.model.specs.Rows.{program}
 use Rattle.evidence.proofs.Parts.{item-class, item-no-class, no-item}
 use Rattle.evidence.proofs.bads.item.Statement.{statement}
 use Rattle.evidence.proofs.bads.item.Tie as tie
@@ -9,13 +8,13 @@ is-class-requires : tie.Need-is-class-requires
 is-class-requires c κs = search needs
 
 returns : tie.Need-returns
-returns c = let a = c .before .before .before .before .args in item-class (program (a .ws .now) (a .s)) (a .t) (a .n) (a .k) (c .before .before .if1 .taken) (sym (c .before .is-class .ensures) ∙ c .if2 .taken)
+returns c = item-class _ _ _ _ (c .before .before .if1 .taken) (sym (c .before .is-class .ensures) ∙ c .if2 .taken)
 
 returns-2 : tie.Need-returns-2
-returns-2 c = let a = c .before .before .before .before .args in item-no-class (program (a .ws .now) (a .s)) (a .t) (a .n) (a .k) (c .before .before .if1 .taken) (sym (c .before .is-class .ensures) ∙ c .if2 .left)
+returns-2 c = item-no-class _ _ _ _ (c .before .before .if1 .taken) (sym (c .before .is-class .ensures) ∙ c .if2 .left)
 
 returns-3 : tie.Need-returns-3
-returns-3 c = let a = c .before .before .args in no-item (program (a .ws .now) (a .s)) (a .t) (a .n) (a .k) (c .if1 .left)
+returns-3 c = no-item _ _ _ _ (c .if1 .left)
 
 pub item-spec : {M : Type 1} → statement M
 item-spec = tie.close (tie.spec is-class-requires returns returns-2 returns-3)

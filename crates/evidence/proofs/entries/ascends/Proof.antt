@@ -1,11 +1,10 @@
 use borrow.Author.Needs.{needs}
-use Rattle.evidence.specs.Arrays.{arrays}
 use Rattle.evidence.proofs.Lists.{ascends-equal, ascends-other, ascends-first}
 use Rattle.evidence.proofs.entries.ascends.Statement.{statement}
 use Rattle.evidence.proofs.entries.ascends.Tie as tie
 
 returns : tie.Need-returns
-returns c = let a = c .before .before .args in ascends-first (arrays (a .ws .now) (a .list)) (a .i) (c .if1 .taken)
+returns c = ascends-first _ _ (c .if1 .taken)
 
 sub-left : tie.Need-sub-left
 sub-left c = search needs
@@ -26,10 +25,10 @@ right-requires-2 : tie.Need-right-requires-2
 right-requires-2 c κs = search needs
 
 returns-2 : tie.Need-returns-2
-returns-2 c = let a = c .before .before .before .before .before .before .before .args in ascends-equal (arrays (a .ws .now) (a .list)) (a .i) _ _ (c .before .before .before .before .left .ensures) (c .before .before .before .left2 .ensures) (c .before .before .before .before .before .if1 .left) _ _ (c .before .right .ensures) (c .right2 .ensures) (c .before .before .if2 .taken)
+returns-2 c = ascends-equal _ _ _ _ (c .before .before .before .before .left .ensures) (c .before .before .before .left2 .ensures) (c .before .before .before .before .before .if1 .left) _ _ (c .before .right .ensures) (c .right2 .ensures) (c .before .before .if2 .taken)
 
 returns-3 : tie.Need-returns-3
-returns-3 c = let a = c .before .before .before .before .before .args in ascends-other (arrays (a .ws .now) (a .list)) (a .i) _ _ (c .before .before .left .ensures) (c .before .left2 .ensures) (c .before .before .before .if1 .left) (c .if2 .left)
+returns-3 c = ascends-other _ _ _ _ (c .before .before .left .ensures) (c .before .left2 .ensures) (c .before .before .before .if1 .left) (c .if2 .left)
 
 pub ascends-spec : {M : Type 1} → statement M
 ascends-spec =

@@ -1,7 +1,8 @@
 use Prim.Native.Nat.{_+_}
+use native.Mathlib.Omega.{arith}
 use borrow.Author.Needs.{needs}
 use Rattle.evidence.specs.declared.entries.Table.the-variants.{Flow, Mail, States}
-use Rattle.evidence.proofs.Tables.{list-held, place-fits, Searched, flow-refused, mail-refused, states-refused, all-passed}
+use Rattle.evidence.proofs.Tables.{list-held, Searched, flow-refused, mail-refused, states-refused, all-passed}
 use Rattle.evidence.proofs.entries.entry_check.Statement.{statement}
 use Rattle.evidence.proofs.entries.entry_check.Tie as tie
 
@@ -20,28 +21,27 @@ list-requires c κs = search needs
 
 first-misplaced-requires : tie.Need-first-misplaced-requires
 first-misplaced-requires c κs =
-    let o = c .before .before in let a = o .args in (o .pre .program, list-held (a .ws .now) (a .s) (a .s .flows) 0 _ (o .pre) (c .list .ensures) (search needs))
+    let o = c .before .before in let a = o .args in (o .pre .program, list-held (a .ws .now) (a .s) (a .s .flows) 0 _ (o .pre) (c .list .ensures) (search needs) .0)
 
 add-at : tie.Need-add-at
-add-at c = let o = c .before .before .before .before .before .before in let a = o .args in place-fits (a .ws .now) (a .s) (a .s .flows) 0 _ _ (o .pre) (c .before .before .before .before .list .ensures) (search needs) (c .before .if1 .taken)
+add-at c = let o = c .before .before .before .before .before .before in let a = o .args in omega (arith, list-held (a .ws .now) (a .s) (a .s .flows) 0 _ (o .pre) (c .before .before .before .before .list .ensures) (search needs), o .good, c .before .if1 .taken)
 
 returns : tie.Need-returns
-returns c = let a = c .before .before .before .before .before .before .args in flow-refused (a .ws .now) (a .s) _ _ (flow (c .before .before .before)) (c .before .if1 .taken)
+returns c = flow-refused _ _ _ _ (flow (c .before .before .before)) (c .before .if1 .taken)
 
 list-requires-2 : tie.Need-list-requires-2
 list-requires-2 c κs = search needs
 
 first-misplaced-requires-2 : tie.Need-first-misplaced-requires-2
 first-misplaced-requires-2 c κs =
-    let o = c .before .before .before .before .before .before in let a = o .args in (o .pre .program, list-held (a .ws .now) (a .s) (a .s .mails) (a .s .flows) _ (o .pre) (c .list2 .ensures) (search needs))
+    let o = c .before .before .before .before .before .before in let a = o .args in (o .pre .program, list-held (a .ws .now) (a .s) (a .s .mails) (a .s .flows) _ (o .pre) (c .list2 .ensures) (search needs) .0)
 
 add-at-2 : tie.Need-add-at-2
-add-at-2 c = let o = c .before .before .before .before .before .before .before .before .before .before in let a = o .args in place-fits (a .ws .now) (a .s) (a .s .mails) (a .s .flows) _ _ (o .pre) (c .before .before .before .before .list2 .ensures) (search needs) (c .before .if2 .taken)
+add-at-2 c = let o = c .before .before .before .before .before .before .before .before .before .before in let a = o .args in omega (arith, list-held (a .ws .now) (a .s) (a .s .mails) (a .s .flows) _ (o .pre) (c .before .before .before .before .list2 .ensures) (search needs), o .good, c .before .if2 .taken)
 
 returns-2 : tie.Need-returns-2
 returns-2 c =
-    let a = c .before .before .before .before .before .before .before .before .before .before .args in
-    mail-refused (a .ws .now) (a .s) _ _ (flow (c .before .before .before .before .before .before .before)) _ _ (c .before .before .before .before .before .if1 .left) (mail (c .before .before .before)) (c .before .if2 .taken)
+    mail-refused _ _ _ _ (flow (c .before .before .before .before .before .before .before)) _ _ (c .before .before .before .before .before .if1 .left) (mail (c .before .before .before)) (c .before .if2 .taken)
 
 add-list : tie.Need-add-list
 add-list c = search needs
@@ -51,20 +51,18 @@ list-requires-3 c κs = search needs
 
 first-misplaced-requires-3 : tie.Need-first-misplaced-requires-3
 first-misplaced-requires-3 c κs =
-    let o = c .before .before .before .before .before .before .before .before .before .before .before in let a = o .args in (o .pre .program, list-held (a .ws .now) (a .s) (a .s .states) (a .s .flows + a .s .mails) _ (o .pre) (c .list3 .ensures) (search needs))
+    let o = c .before .before .before .before .before .before .before .before .before .before .before in let a = o .args in (o .pre .program, list-held (a .ws .now) (a .s) (a .s .states) (a .s .flows + a .s .mails) _ (o .pre) (c .list3 .ensures) (search needs) .0)
 
 add-at-3 : tie.Need-add-at-3
-add-at-3 c = let o = c .before .before .before .before .before .before .before .before .before .before .before .before .before .before .before in let a = o .args in place-fits (a .ws .now) (a .s) (a .s .states) (a .s .flows + a .s .mails) _ _ (o .pre) (c .before .before .before .before .list3 .ensures) (search needs) (c .before .if3 .taken)
+add-at-3 c = let o = c .before .before .before .before .before .before .before .before .before .before .before .before .before .before .before in let a = o .args in omega (arith, list-held (a .ws .now) (a .s) (a .s .states) (a .s .flows + a .s .mails) _ (o .pre) (c .before .before .before .before .list3 .ensures) (search needs), o .good, c .before .if3 .taken)
 
 returns-3 : tie.Need-returns-3
 returns-3 c =
-    let a = c .before .before .before .before .before .before .before .before .before .before .before .before .before .before .before .args in
-    states-refused (a .ws .now) (a .s) _ _ (flow (c .before .before .before .before .before .before .before .before .before .before .before .before)) _ _ (c .before .before .before .before .before .before .before .before .before .before .if1 .left) (mail (c .before .before .before .before .before .before .before .before)) _ _ (c .before .before .before .before .before .before .if2 .left) (states (c .before .before .before)) (c .before .if3 .taken)
+    states-refused _ _ _ _ (flow (c .before .before .before .before .before .before .before .before .before .before .before .before)) _ _ (c .before .before .before .before .before .before .before .before .before .before .if1 .left) (mail (c .before .before .before .before .before .before .before .before)) _ _ (c .before .before .before .before .before .before .if2 .left) (states (c .before .before .before)) (c .before .if3 .taken)
 
 returns-4 : tie.Need-returns-4
 returns-4 c =
-    let a = c .before .before .before .before .before .before .before .before .before .before .before .before .before .before .args in
-    all-passed (a .ws .now) (a .s) _ _ (flow (c .before .before .before .before .before .before .before .before .before .before .before)) _ _ (c .before .before .before .before .before .before .before .before .before .if1 .left) (mail (c .before .before .before .before .before .before .before)) _ _ (c .before .before .before .before .before .if2 .left) (states (c .before .before)) (c .if3 .left)
+    all-passed _ _ _ _ (flow (c .before .before .before .before .before .before .before .before .before .before .before)) _ _ (c .before .before .before .before .before .before .before .before .before .if1 .left) (mail (c .before .before .before .before .before .before .before)) _ _ (c .before .before .before .before .before .if2 .left) (states (c .before .before)) (c .if3 .left)
 
 pub entry-check-spec : {M : Type 1} → statement M
 entry-check-spec =

@@ -1,5 +1,4 @@
 use Prim.Native.Nat.{_≤_, _-_}
-use native.Mathlib.Omega.{arith}
 use mathlib.Core.Path.{_≡_, refl, sym, _∙_}
 use borrow.Author.Needs.{needs}
 use borrow.Author.Tests.{not-true, not-false}
@@ -26,9 +25,8 @@ in-place-requires c κs = search needs
 
 returns : tie.Need-returns Inv-loop μ-loop
 unfolding arrays columns
-returns c = let a = c .before .before .before .before .before .before .args in
-    let l = c .before .before .before .before .loop in
-    sym (l .inv .1 ∙ misplaced-hit (program (a .ws .now) (a .s)) (a .table) (arrays (a .ws .now) (a .list)) (l .i) _ (c .before .in-place .ensures) (c .before .before .if1 .taken) (not-true _ (c .if2 .taken)))
+returns c = let l = c .before .before .before .before .loop in
+    sym (l .inv .1 ∙ misplaced-hit _ _ _ _ _ (c .before .in-place .ensures) (c .before .before .if1 .taken) (not-true _ (c .if2 .taken)))
 
 add-i : tie.Need-add-i Inv-loop μ-loop
 add-i c = search needs
@@ -38,13 +36,12 @@ loop-less c = search needs
 
 loop-again : tie.Need-loop-again Inv-loop μ-loop
 unfolding arrays columns
-loop-again c = let a = c .before .before .before .before .before .before .args in
-    let l = c .before .before .before .before .loop in
-    (search needs, l .inv .1 ∙ misplaced-miss (program (a .ws .now) (a .s)) (a .table) (arrays (a .ws .now) (a .list)) (l .i) _ (c .before .in-place .ensures) (c .before .before .if1 .taken) (not-false _ (c .if2 .left)))
+loop-again c = let l = c .before .before .before .before .loop in
+    (search needs, l .inv .1 ∙ misplaced-miss _ _ _ _ _ (c .before .in-place .ensures) (c .before .before .if1 .taken) (not-false _ (c .if2 .left)))
 
 returns-2 : tie.Need-returns-2 Inv-loop μ-loop
 unfolding arrays columns
-returns-2 c = let a = c .before .before .before .before .args in let l = c .before .before .loop in sym (l .inv .1 ∙ misplaced-end (program (a .ws .now) (a .s)) (a .table) (arrays (a .ws .now) (a .list)) (l .i) (c .if1 .left))
+returns-2 c = let l = c .before .before .loop in sym (l .inv .1 ∙ misplaced-end _ _ _ _ (c .if1 .left))
 
 pub first-misplaced-spec : {M : Type 1} → statement M
 first-misplaced-spec =

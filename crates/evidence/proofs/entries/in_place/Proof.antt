@@ -1,6 +1,4 @@
 use borrow.Author.Needs.{needs}
-use Rattle.model.specs.Rows.{program}
-use Rattle.evidence.specs.Arrays.{arrays}
 use Rattle.evidence.proofs.Lists.{place-pass, place-fail}
 use Rattle.evidence.proofs.entries.in_place.Statement.{statement}
 use Rattle.evidence.proofs.entries.in_place.Tie as tie
@@ -18,10 +16,10 @@ ascends-requires : tie.Need-ascends-requires
 ascends-requires c κs = search needs
 
 returns : tie.Need-returns
-returns c = let a = c .before .before .before .before .before .before .args in place-pass (program (a .ws .now) (a .s)) (a .table) (arrays (a .ws .now) (a .list)) (a .i) _ _ (c .before .before .before .before .left .ensures) (c .before .before .before .right .ensures) _ (c .before .before .in-range .ensures) _ (c .before .if1 .taken) (c .ascends .ensures)
+returns c = place-pass _ _ _ _ _ _ (c .before .before .before .before .left .ensures) (c .before .before .before .right .ensures) _ (c .before .before .in-range .ensures) _ (c .before .if1 .taken) (c .ascends .ensures)
 
 returns-2 : tie.Need-returns-2
-returns-2 c = let a = c .before .before .before .before .before .args in place-fail (program (a .ws .now) (a .s)) (a .table) (arrays (a .ws .now) (a .list)) (a .i) _ _ (c .before .before .before .left .ensures) (c .before .before .right .ensures) _ (c .before .in-range .ensures) (c .if1 .left)
+returns-2 c = place-fail _ _ _ _ _ _ (c .before .before .before .left .ensures) (c .before .before .right .ensures) _ (c .before .in-range .ensures) (c .if1 .left)
 
 pub in-place-spec : {M : Type 1} → statement M
 in-place-spec =

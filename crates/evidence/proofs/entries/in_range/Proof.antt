@@ -34,27 +34,27 @@ is-head-requires c κs = search needs
 
 returns : tie.Need-returns
 unfolding legal-left legal-right is-name program
-returns c = let a = c .before .before .before .before .before .before .args in legal-pass (program (a .ws .now) (a .s)) _ Flow (c .before .before .before .enum-told .given .1) (a .a) (a .b) _ (lt-ltb _ _ (c .before .if1 .taken)) (c .is-value .ensures)
+returns c = legal-pass _ _ Flow (c .before .before .before .enum-told .given .1) _ _ _ (lt-ltb _ _ (c .before .if1 .taken)) (c .is-value .ensures)
 
 returns-2 : tie.Need-returns-2
 unfolding legal-left legal-right is-name program
-returns-2 c = let a = c .before .before .before .before .before .args in legal-fail (program (a .ws .now) (a .s)) _ Flow (c .before .before .enum-told .given .1) (a .a) (a .b) _ refl (le-ltb _ _ (c .if1 .left))
+returns-2 c = legal-fail _ _ Flow (c .before .before .enum-told .given .1) _ _ _ refl (le-ltb _ _ (c .if1 .left))
 
 returns-3 : tie.Need-returns-3
 unfolding legal-left legal-right
-returns-3 c = let a = c .before .before .before .before .before .before .args in legal-pass (program (a .ws .now) (a .s)) _ Mail (c .before .before .before .enum-told2 .given .1) (a .a) (a .b) _ (sym (c .before .before .is-class .ensures) ∙ c .before .if2 .taken) (c .is-value2 .ensures)
+returns-3 c = legal-pass _ _ Mail (c .before .before .before .enum-told2 .given .1) _ _ _ (sym (c .before .before .is-class .ensures) ∙ c .before .if2 .taken) (c .is-value2 .ensures)
 
 returns-4 : tie.Need-returns-4
 unfolding legal-left legal-right
-returns-4 c = let a = c .before .before .before .before .before .args in legal-fail (program (a .ws .now) (a .s)) _ Mail (c .before .before .enum-told2 .given .1) (a .a) (a .b) _ (c .before .is-class .ensures) (sym (c .before .is-class .ensures) ∙ c .if2 .left)
+returns-4 c = legal-fail _ _ Mail (c .before .before .enum-told2 .given .1) _ _ _ (c .before .is-class .ensures) (sym (c .before .is-class .ensures) ∙ c .if2 .left)
 
 returns-5 : tie.Need-returns-5
 unfolding legal-left legal-right
-returns-5 c = let a = c .before .before .before .before .before .before .args in legal-pass (program (a .ws .now) (a .s)) _ States (c .before .before .before .enum-told3 .given .1) (a .a) (a .b) _ (sym (c .before .before .is-class2 .ensures) ∙ c .before .if3 .taken) (c .is-head .ensures)
+returns-5 c = legal-pass _ _ States (c .before .before .before .enum-told3 .given .1) _ _ _ (sym (c .before .before .is-class2 .ensures) ∙ c .before .if3 .taken) (c .is-head .ensures)
 
 returns-6 : tie.Need-returns-6
 unfolding legal-left legal-right
-returns-6 c = let a = c .before .before .before .before .before .args in legal-fail (program (a .ws .now) (a .s)) _ States (c .before .before .enum-told3 .given .1) (a .a) (a .b) _ (c .before .is-class2 .ensures) (sym (c .before .is-class2 .ensures) ∙ c .if3 .left)
+returns-6 c = legal-fail _ _ States (c .before .before .enum-told3 .given .1) _ _ _ (c .before .is-class2 .ensures) (sym (c .before .is-class2 .ensures) ∙ c .if3 .left)
 
 pub in-range-spec : {M : Type 1} → statement M
 in-range-spec =

@@ -32,7 +32,7 @@ add-t8 : tie.Need-add-t8
 add-t8 c = search needs
 
 returns : tie.Need-returns
-returns c = let a = c .before .before .before .before .before .args in list-is (a .s) (a .n) (a .k) _ _ refl refl
+returns c = list-is _ _ _ _ _ refl refl
 
 pub list-spec : {M : Type 1} → statement M
 list-spec =

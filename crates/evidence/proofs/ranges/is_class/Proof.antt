@@ -9,11 +9,11 @@ tag-requires : tie.Need-tag-requires
 tag-requires c κs = search needs
 
 returns : tie.Need-returns
-returns c = let a = c .before .before .before .args in class-spawn (program (a .ws .now) (a .s)) (a .c) _ (c .before .tag .ensures) (c .if1 .taken)
+returns c = class-spawn _ _ _ (c .before .tag .ensures) (c .if1 .taken)
 
 returns-2 : tie.Need-returns-2
 unfolding program columns
-returns-2 c = let a = c .before .before .before .before .args in class-start (program (a .ws .now) (a .s)) (a .c) _ (c .before .before .tag .ensures) (c .before .if1 .left)
+returns-2 c = class-start _ _ _ (c .before .before .tag .ensures) (c .before .if1 .left)
 
 pub is-class-spec : {M : Type 1} → statement M
 is-class-spec = tie.close (tie.spec tag-requires returns returns-2)

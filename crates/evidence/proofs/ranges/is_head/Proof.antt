@@ -1,5 +1,4 @@
 use borrow.Author.Needs.{needs}
-use Rattle.model.specs.Rows.{program}
 use Rattle.evidence.proofs.Tags.{head-from, no-head}
 use Rattle.evidence.proofs.ranges.is_head.Statement.{statement}
 use Rattle.evidence.proofs.ranges.is_head.Tie as tie
@@ -8,10 +7,10 @@ tag-requires : tie.Need-tag-requires
 tag-requires c κs = search needs
 
 returns : tie.Need-returns
-returns c = let a = c .before .before .before .args in head-from (program (a .ws .now) (a .s)) (a .r) _ (c .before .tag .ensures) (c .if1 .taken)
+returns c = head-from _ _ _ (c .before .tag .ensures) (c .if1 .taken)
 
 returns-2 : tie.Need-returns-2
-returns-2 c = let a = c .before .before .before .args in no-head (program (a .ws .now) (a .s)) (a .r) _ (c .before .tag .ensures) (c .if1 .left)
+returns-2 c = no-head _ _ _ (c .before .tag .ensures) (c .if1 .left)
 
 pub is-head-spec : {M : Type 1} → statement M
 is-head-spec = tie.close (tie.spec tag-requires returns returns-2)

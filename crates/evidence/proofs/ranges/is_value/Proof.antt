@@ -11,13 +11,13 @@ tag-requires c κs = search needs
 
 returns : tie.Need-returns
 unfolding program columns
-returns c = let a = c .before .before .before .before .before .args in value-start (program (a .ws .now) (a .s)) (a .v) _ (c .before .before .before .tag .ensures) (⊎-elim (λ w. inl (w .taken)) (λ w. inr (w .1 .left)) (c .before .if1 .came)) (c .before .before .match .rest .1)
+returns c = value-start _ _ _ (c .before .before .before .tag .ensures) (⊎-elim (λ w. inl (w .taken)) (λ w. inr (w .1 .left)) (c .before .if1 .came)) (c .before .before .match .rest .1)
 
 returns-2 : tie.Need-returns-2
-returns-2 c = let a = c .before .before .before .args in value-high (program (a .ws .now) (a .s)) (a .v) _ (c .before .tag .ensures) (c .match .keys1)
+returns-2 c = value-high _ _ _ (c .before .tag .ensures) (c .match .keys1)
 
 returns-3 : tie.Need-returns-3
-returns-3 c = let a = c .before .before .before .before .before .args in value-low (program (a .ws .now) (a .s)) (a .v) _ (c .before .before .before .tag .ensures) (search needs) (search needs)
+returns-3 c = value-low _ _ _ (c .before .before .before .tag .ensures) (search needs) (search needs)
 
 pub is-value-spec : {M : Type 1} → statement M
 is-value-spec = tie.close (tie.spec tag-requires returns returns-2 returns-3)

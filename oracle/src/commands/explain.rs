@@ -1,0 +1,13 @@
+//! `oracle explain [--lend N] FILE`
+
+use super::{number, read_message, Answer};
+use oracle::{explain, limits};
+
+pub fn command(args: &[String]) -> Answer {
+    let (lent, file) = match args {
+        [option, lent, file] if option == "--lend" => (number(lent)?, file),
+        [file] => (limits::LENT, file),
+        _ => return Err("explain: one file is wanted".to_string()),
+    };
+    Ok(explain::explain(&read_message(file)?, lent))
+}

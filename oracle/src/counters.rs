@@ -1,0 +1,154 @@
+//! The counters' run, and what holds of its counts.
+
+use crate::bads::Bad;
+use crate::bounds::{self, Bounds};
+use crate::limits::UNBOUNDED;
+use crate::machine::{Deed, Machine, Step};
+use crate::program::Program;
+use crate::system::{Effect, Rule, System};
+use crate::tables::Tables;
+
+/// A whole number without limit for each counter (64 bits outlast any run here).
+#[derive(Clone, Debug, PartialEq, Eq)]
+pub struct Counts(pub Vec<u64>);
+
+impl Counts {
+    /// 1 for state (R, start), 0 for the others.
+    pub fn start(system: &System, start: usize) -> Counts {
+        let mut counts = vec![0; system.counters()];
+        counts[start] = 1;
+        Counts(counts)
+    }
+
+    /// Uses a rule; false, with nothing changed, where it can't be used.
+    pub fn apply(&mut self, rule: &Rule) -> bool {
+        let free = self.0[rule.from] >= 1 && rule.read().is_none_or(|letter| self.0[letter] >= 1);
+        if free {
+            self.0[rule.from] -= 1;
+            rule.read().into_iter().for_each(|letter| self.0[letter] -= 1);
+            self.0[rule.to] += 1;
+            rule.adds().into_iter().for_each(|counter| self.0[counter] += 1);
+        }
+        free
+    }
+
+    pub fn under(&self, limits: &[u16]) -> bool {
+        self.0.iter().zip(limits).all(|(&count, &limit)| limit == UNBOUNDED || count <= limit as u64)
+    }
+
+    pub fn under_one(&self, bounds: &Bounds) -> bool {
+        bounds.limits.iter().any(|limits| self.under(limits))
+    }
+
+    /// True if every item is met.
+    pub fn meet(&self, items: &[(usize, u16)]) -> bool {
+        items.iter().all(|&(counter, minimum)| self.0[counter] >= minimum as u64)
+    }
+}
+
+/// A station's counts; none if a process or message has no counter.
+pub fn station_counts(machine: &Machine, tables: &Tables, system: &System) -> Option<Counts> {
+    let mut counts = vec![0; system.counters()];
+    for process in &machine.processes {
+        counts[tables.state(process.class, process.location)?] += 1;
+        for &message in &process.mailbox {
+            counts[system.letter(process.class, machine.letter(message))?] += 1;
+        }
+    }
+    Some(Counts(counts))
+}
+
+/// The index of the rule that a step uses.
+pub fn rule_of(step: &Step, tables: &Tables, system: &System) -> Option<usize> {
+    let from = tables.state(step.class, step.from)?;
+    let to = tables.state(step.class, step.to)?;
+    let effect = match step.deed {
+        Deed::Inner => Effect::Nothing,
+        Deed::Read { letter } => Effect::Read(system.letter(step.class, letter)?),
+        Deed::Put { class, letter, .. } => Effect::Put(system.letter(class, letter)?),
+        Deed::New { class, head, .. } => Effect::New(tables.state(class, head)?),
+    };
+    let begin = system.rules.partition_point(|rule| rule.from < from);
+    let rule = Rule { from, to, effect };
+    system.rules[begin..].iter().position(|other| *other == rule).map(|i| begin + i)
+}
+
+/// A safe station beside its counters.
+pub struct Beside<'a> {
+    pub machine: Machine<'a>,
+    pub counts: Counts,
+    pub tables: &'a Tables,
+    pub system: &'a System,
+    bounds: &'a Bounds,
+    bads: Vec<Option<Vec<(usize, u16)>>>,
+}
+
+impl<'a> Beside<'a> {
+    pub fn new(
+        program: &'a Program,
+        tables: &'a Tables,
+        system: &'a System,
+        bounds: &'a Bounds,
+        bads: &[Bad],
+    ) -> Option<Beside<'a>> {
+        let start = tables.state(program.rows, program.start)?;
+        Some(Beside {
+            machine: Machine::new(program),
+            counts: Counts::start(system, start),
+            tables,
+            system,
+            bounds,
+            bads: bads.iter().map(|bad| bounds::bad_counters(program, tables, system, bad)).collect(),
+        })
+    }
+
+    /// One number: the process steps and the counters' run follows with the rule the step uses.
+    pub fn step(&mut self, number: usize) -> Result<Option<usize>, String> {
+        let Ok(step) = self.machine.step(number) else { return Ok(None) };
+        let rule = rule_of(&step, self.tables, self.system).ok_or_else(|| format!("no rule for {step:?}"))?;
+        match self.counts.apply(&self.system.rules[rule]) {
+            true => Ok(Some(rule)),
+            false => Err(format!("rule {rule} can't be used in its turn")),
+        }
+    }
+
+    /// Demand 3 for the counts as they stand.
+    pub fn check(&self) -> Result<(), String> {
+        let station = station_counts(&self.machine, self.tables, self.system);
+        if station.as_ref() != Some(&self.counts) {
+            return Err(format!("the station counts {station:?}, the counters {:?}", self.counts));
+        }
+        if !self.counts.under_one(self.bounds) {
+            return Err(format!("counts {:?} lie under no ceiling", self.counts));
+        }
+        match self.bads.iter().flatten().position(|items| self.counts.meet(items)) {
+            Some(bad) => Err(format!("counts {:?} meet bad {bad}", self.counts)),
+            None => Ok(()),
+        }
+    }
+
+    /// Demand 3 for a whole list of process numbers.
+    pub fn run(&mut self, numbers: &[usize]) -> Result<Vec<usize>, String> {
+        self.check()?;
+        let mut rules = Vec::new();
+        for &number in numbers {
+            rules.extend(self.step(number)?);
+            self.check()?;
+        }
+        Ok(rules)
+    }
+}
+
+/// Runs a safe message over a list of process numbers and checks demand 3 after each.
+/// Gives the rules that were used.
+pub fn check_demand_3(message: &[u8], numbers: &[usize]) -> Result<Vec<usize>, String> {
+    let mut read = crate::verify::Read::default();
+    crate::verify::inspect(message, &mut read).map_err(|r| format!("refused {} at {}", r.number, r.position))?;
+    match (&read.program, &read.tables, &read.system, &read.bounds, &read.bads) {
+        (Some(program), Some(tables), Some(system), Some(bounds), Some(bads)) => {
+            let beside = Beside::new(program, tables, system, bounds, bads);
+            beside.ok_or("no starting state")?.run(numbers)
+        }
+        _ => Err("not all parts were read".to_string()),
+    }
+}

@@ -1,0 +1,256 @@
+//! The verdict in words: what the place is, what was wanted there, what to do.
+
+use crate::limits;
+use crate::message::{Columns, Message};
+use crate::refusal::{self, Detail, Refusal, Want};
+use crate::symbols::Symbols;
+use crate::verify::{verify_in_detail, Read};
+
+/// The verdict of a message for a person, with so many words lent.
+pub fn explain(bytes: &[u8], lent: usize) -> String {
+    let (read, result) = verify_in_detail(bytes, &mut vec![0; lent]);
+    match result {
+        Ok(part) => safe(&read, part.len()),
+        Err(refusal) => Explainer { bytes, read: &read, refusal: &refusal }.words(),
+    }
+}
+
+fn safe(read: &Read, part: usize) -> String {
+    let system = read.system.as_ref();
+    let (states, letters) = system.map_or((0, 0), |s| (s.states, s.letters.len()));
+    let rules = system.map_or(0, |s| s.rules.len());
+    let bounds = read.bounds.as_ref().map_or(0, |b| b.limits.len());
+    format!(
+        "0 (safe): no run of this station meets a bad.\n\
+         The loader gets the program's {part} bytes. The system has {states} states, {letters} letters and {rules} rules;\n\
+         {bounds} ceilings hold every count a run can reach.\n"
+    )
+}
+
+struct Explainer<'a> {
+    bytes: &'a [u8],
+    read: &'a Read,
+    refusal: &'a Refusal,
+}
+
+/// The trade's word for a refusal.
+pub fn trade_word(number: u32) -> &'static str {
+    const WORDS: [&str; 15] = [
+        "safe", "length", "size", "row", "name", "scope", "bad", "entry", "open", "counters", "ceiling", "start", "met",
+        "leak", "space",
+    ];
+    WORDS.get(number as usize).copied().unwrap_or("unknown")
+}
+
+impl Explainer<'_> {
+    fn words(&self) -> String {
+        let r = self.refusal;
+        let (what, wanted, to_do) = match r.number {
+            refusal::LENGTH => self.length(),
+            refusal::SIZE => self.size(),
+            refusal::ROW => self.row(),
+            refusal::NAME => self.name(),
+            refusal::SCOPE => self.scope(),
+            refusal::BAD => self.bad(),
+            refusal::ENTRY => self.entry(),
+            refusal::OPEN => self.open(),
+            refusal::COUNTERS => self.counters(),
+            refusal::BOUND => self.bound(),
+            refusal::START => self.start(),
+            refusal::MET => self.met(),
+            refusal::LEAK => self.leak(),
+            _ => self.space(),
+        };
+        let word = trade_word(r.number);
+        format!("{} ({word}) at {}\nplace:  {what}\nwanted: {wanted}\nto do:  {to_do}\n", r.number, r.position)
+    }
+
+    fn wanted(&self) -> String {
+        match self.refusal.detail {
+            Detail::Wanted(what) => what.to_string(),
+            _ => String::new(),
+        }
+    }
+
+    fn word_at(&self, position: usize) -> String {
+        match self.bytes.get(2 * position..2 * position + 2) {
+            Some(b) => u16::from_le_bytes([b[0], b[1]]).to_string(),
+            None => "no word".to_string(),
+        }
+    }
+
+    fn message(&self) -> Option<&Message> {
+        self.read.message.as_ref()
+    }
+
+    fn symbols(&self) -> Option<Symbols<'_>> {
+        self.read.program.as_ref().map(Symbols::new)
+    }
+
+    fn length(&self) -> (String, String, String) {
+        let place = format!("word {} of a message of {} bytes", self.refusal.position, self.bytes.len());
+        let what = match self.refusal.detail {
+            Detail::Wanted("the end of the message") => format!("{place}: the ceilings end here, but bytes follow"),
+            _ => format!("{place}: the part that begins here is not whole"),
+        };
+        (what, self.wanted(), "send the whole message, each part as long as its sizes say, and nothing behind it".to_string())
+    }
+
+    fn size(&self) -> (String, String, String) {
+        let what = format!("the size at word {} is {}", self.refusal.position, self.word_at(self.refusal.position));
+        let limits = "R 1 to 1024, V 1 to 512, C and G to 64; B 1 to 16, bad rows 4 to 256; F to 4096, M and S to 512; \
+                      K to 256, ceiling entries to 8192";
+        (what, format!("{} ({limits})", self.wanted()), "make the station smaller, or correct the size".to_string())
+    }
+
+    /// A row of the program in words.
+    fn row_words(&self, row: usize) -> String {
+        let pair = self.message().filter(|m| row < m.rows).map(|m| m.program.pair(row));
+        pair.map_or(format!("row {row}: past the last row"), |(tag, number)| format!("row {row}, which is ({tag}, {number})"))
+    }
+
+    fn row(&self) -> (String, String, String) {
+        let row = self.refusal.position.saturating_sub(4);
+        let to_do = "rows are read once in order; correct this row or one before it that says how many follow";
+        (self.row_words(row), self.wanted(), to_do.to_string())
+    }
+
+    fn name(&self) -> (String, String, String) {
+        if self.refusal.position == 1 {
+            let what = "the size V: some name below V is bound by no row".to_string();
+            return (what, self.wanted(), "lower V or bind the name".to_string());
+        }
+        let what = self.row_words(self.refusal.position - 4);
+        (what, self.wanted(), "give this row a name of its own: each name is bound in one place".to_string())
+    }
+
+    fn scope(&self) -> (String, String, String) {
+        let row = self.refusal.position.saturating_sub(4);
+        let number = self.message().map_or(0, |m| m.program.pair(row).1);
+        let program = self.read.program.as_ref();
+        let binder = program.and_then(|p| p.binders.iter().find(|b| b.name == number));
+        let bound = binder.map_or(String::new(), |b| match b.from < b.until {
+            true => format!("; name {number} is bound in row {} and holds in rows {} to {}", b.row, b.from, b.until - 1),
+            false => format!("; name {number} is bound in row {} and holds in no row", b.row),
+        });
+        let what = format!("{}{bound}", self.row_words(row));
+        (what, self.wanted(), "read a name that holds here, or bind it further out".to_string())
+    }
+
+    /// An entry of a part's two columns in words.
+    fn entry_words(&self, kind: &str, columns: &Columns) -> String {
+        let i = self.refusal.position.saturating_sub(columns.at);
+        match i < columns.len() {
+            true => format!("{kind} {i}, which is {:?}", columns.pair(i)),
+            false => format!("past the last {kind} ({} there are)", columns.len()),
+        }
+    }
+
+    fn bad(&self) -> (String, String, String) {
+        let what = self.message().map_or(String::new(), |m| self.entry_words("bad row", &m.bad_rows));
+        let to_do = "a bad is items (40, class) (41, head) or (42, letter) (43, minimum), then (44, 0)";
+        (what, self.wanted(), to_do.to_string())
+    }
+
+    fn entry(&self) -> (String, String, String) {
+        let what = self.message().map_or(String::new(), |m| {
+            let i = self.refusal.position.saturating_sub(m.tables.at);
+            let list = if i < m.flow { "flow" } else if i < m.flow + m.mail { "mail" } else { "states" };
+            format!("{} of the tables, in the list of {list}", self.entry_words("entry", &m.tables))
+        });
+        (what, self.wanted(), "sort each list, drop entries that stand twice, keep to names, values, classes and heads".to_string())
+    }
+
+    fn want(&self, want: &Want) -> String {
+        let Some(symbols) = self.symbols() else { return String::new() };
+        match *want {
+            Want::Flow { name, value } => {
+                format!("flow entry ({name}, {value}): {} may hold {}", symbols.name(name), symbols.value(value))
+            }
+            Want::Mail { class, value } => {
+                format!("mail entry ({class}, {value}): a mailbox of {} may hold {}", symbols.class(class), symbols.value(value))
+            }
+            Want::State { class, head } => format!("state entry ({class}, {head}): {}", symbols.state(class, head)),
+        }
+    }
+
+    fn open(&self) -> (String, String, String) {
+        let wanted = match &self.refusal.detail {
+            Detail::Lacks(want) => self.want(want),
+            _ => String::new(),
+        };
+        let at = self.message().map_or(0, |m| m.tables.at + m.flow + m.mail);
+        let state = self.refusal.position.checked_sub(at);
+        let state = state.and_then(|i| self.read.tables.as_ref()?.states.get(i).map(|s| (i, *s)));
+        let what = match (state, self.symbols()) {
+            (Some((i, (class, head))), Some(symbols)) => format!("state {i}: {}", symbols.state(class, head)),
+            _ => "the size F: an opening entry is missing".to_string(),
+        };
+        (what, wanted, "add this entry, then verify again: it may want others (`oracle assemble` finds them all)".to_string())
+    }
+
+    fn counters(&self) -> (String, String, String) {
+        let count = match self.refusal.detail {
+            Detail::Counted(count) => count,
+            _ => 0,
+        };
+        let what = format!("the size S: states and letters make {count} counters");
+        (what, format!("at most {} counters", limits::COUNTERS), "make the station smaller or drop entries that are not needed".to_string())
+    }
+
+    fn bound(&self) -> (String, String, String) {
+        let what = self.message().map_or(String::new(), |m| self.entry_words("ceiling entry", &m.entries));
+        let count = self.read.system.as_ref().map_or(0, |s| s.counters());
+        let to_do = format!("within a ceiling counters rise and limits lie from 1 to 65535; ({count}, 0) closes it");
+        (what, self.wanted(), to_do)
+    }
+
+    fn start(&self) -> (String, String, String) {
+        let what = "the size K: no ceiling holds the starting counts".to_string();
+        let wanted = "a ceiling with a limit of at least 1 for the starting process at the start".to_string();
+        (what, wanted, "add such a ceiling".to_string())
+    }
+
+    /// A ceiling's limits in words.
+    fn limits(&self, bound: usize) -> String {
+        let (Some(symbols), Some(tables), Some(system), Some(bounds)) =
+            (self.symbols(), &self.read.tables, &self.read.system, &self.read.bounds)
+        else {
+            return String::new();
+        };
+        let held = bounds.limits[bound].iter().enumerate().filter(|&(_, &limit)| limit > 0);
+        let words = held.map(|(c, &limit)| {
+            let limit = if limit == limits::UNBOUNDED { "any".to_string() } else { limit.to_string() };
+            format!("{}<={limit}", symbols.counter(tables, system, c))
+        });
+        words.collect::<Vec<_>>().join(" ")
+    }
+
+    fn met(&self) -> (String, String, String) {
+        let Detail::Met { bad, bound } = self.refusal.detail else { return Default::default() };
+        let what = format!("bad {bad}; ceiling {bound} allows it: {}", self.limits(bound));
+        let wanted = "no ceiling that lets every item of a bad reach its minimum".to_string();
+        let to_do = "if a run can meet the bad, change the station; if not, split this ceiling into narrower ones";
+        (what, wanted, to_do.to_string())
+    }
+
+    fn leak(&self) -> (String, String, String) {
+        let Detail::Leak { bound, rule } = self.refusal.detail else { return Default::default() };
+        let words = match (self.symbols(), &self.read.tables, &self.read.system) {
+            (Some(symbols), Some(tables), Some(system)) => symbols.rule(tables, system, &system.rules[rule]),
+            _ => String::new(),
+        };
+        let what = format!("ceiling {bound}: {}", self.limits(bound));
+        let wanted = format!("one ceiling over all that rule {rule} makes of it: {words}");
+        (what, wanted, "raise a limit or add a ceiling that holds the result (65534 and one more lies under 65535 only)".to_string())
+    }
+
+    fn space(&self) -> (String, String, String) {
+        let lent = match self.refusal.detail {
+            Detail::Counted(lent) => lent,
+            _ => 0,
+        };
+        let what = format!("the system needs {} words, {lent} were lent", self.refusal.position);
+        (what, "room for the whole system".to_string(), format!("lend {} words (`--lend {0}`)", self.refusal.position))
+    }
+}

@@ -1,0 +1,218 @@
+//! A random station with its evidence: a whole message, most of them safe.
+
+use super::generate::{self, Rows};
+use super::rng::Rng;
+use crate::bads::Bad;
+use crate::evidence;
+use crate::explore::Limits;
+use crate::least;
+use crate::limits::UNBOUNDED;
+use crate::message::Message;
+use crate::program::Program;
+use crate::system::System;
+use crate::tables::Tables;
+
+/// A message, the words its system needs if it is safe, and the numbers of its bounds.
+#[derive(Clone, Debug)]
+pub struct Station {
+    pub message: Message,
+    pub words: usize,
+    pub counters: usize,
+}
+
+/// How large a program to make; small ones most often.
+fn size(rng: &mut Rng) -> usize {
+    match rng.below(100) {
+        0..=24 => rng.range(4, 30),
+        25..=79 => rng.range(20, 90),
+        80..=96 => rng.range(60, 200),
+        97..=98 => rng.range(150, 500),
+        _ => rng.range(400, 1000),
+    }
+}
+
+/// A random station; tries until the limits are kept.
+pub fn station(rng: &mut Rng) -> Station {
+    loop {
+        let crowded = rng.chance(1, 40);
+        let size = size(rng);
+        let rows = if crowded { generate::crowded(rng) } else { generate::program(rng, size) };
+        if let Some(station) = finish(rng, &rows, crowded) {
+            return station;
+        }
+    }
+}
+
+fn finish(rng: &mut Rng, rows: &Rows, crowded: bool) -> Option<Station> {
+    let sizes = (rows.names, rows.constructors, rows.functions);
+    let mut m = evidence::bare(sizes, &rows.rows, 1, &[(40, rows.rows.len()), (42, 0), (43, 1), (44, 0)]);
+    let (program, _) = evidence::read(&m).ok()?;
+    let mut tables = least::least(&program);
+    if rng.chance(1, 4) {
+        tables = with_extra(rng, &program, tables);
+    }
+    evidence::put_tables(&mut m, &program, &tables).ok()?;
+    let Ok(system) = evidence::derive(&m, &program, &tables) else {
+        return crowded.then(|| Station { message: uncounted(m), words: 0, counters: 0 });
+    };
+    let mut bads = random_bads(rng, &program, &tables, &system);
+    let read = put_bads(&mut m, &program, &tables, &bads)?;
+    let mut limits = match evidence::find_bounds(&program, &tables, &system, &read, budget(rng)) {
+        Ok(limits) => limits,
+        Err(_) => {
+            let limits = any_bounds(rng, &program, &tables, &system);
+            if !rng.chance(1, 12) {
+                make_harmless(rng, &mut bads, &limits, &program, &tables, &system)?;
+                put_bads(&mut m, &program, &tables, &bads)?;
+            }
+            limits
+        }
+    };
+    if rng.chance(1, 4) {
+        rng.shuffle(&mut limits);
+    }
+    evidence::put_bounds(&mut m, &limits);
+    Some(Station { message: m, words: system.words(), counters: system.counters() })
+}
+
+/// Too many counters: some bound that no one reads.
+fn uncounted(mut m: Message) -> Message {
+    evidence::put_bounds(&mut m, &[vec![1]]);
+    m
+}
+
+/// Some entries more than are needed, and what they want.
+fn with_extra(rng: &mut Rng, program: &Program, tables: Tables) -> Tables {
+    let values: Vec<usize> = (0..=program.rows).filter(|&v| program.is_value(v)).collect();
+    let heads: Vec<usize> = (0..program.rows).filter(|&r| program.is_head(r)).collect();
+    let mut more = tables.clone();
+    for _ in 0..rng.range(1, 3) {
+        let (Some(&value), Some(&head)) = (rng.pick(&values), rng.pick(&heads)) else { break };
+        let class = rng.below(more.mail.len());
+        match rng.below(3) {
+            0 => {
+                more.flow[rng.below(program.names)].insert(value);
+            }
+            1 => {
+                more.mail[class].insert(value);
+            }
+            _ => {
+                let class = program.classes().nth(class).unwrap_or(program.rows);
+                if let Err(i) = more.states.binary_search(&(class, head)) {
+                    more.states.insert(i, (class, head));
+                }
+            }
+        }
+    }
+    least::close(program, more)
+}
+
+/// Items of each bad: class, then place as a row, then minimum.
+type Items = Vec<Vec<(usize, (usize, usize), usize)>>;
+
+fn random_bads(rng: &mut Rng, program: &Program, tables: &Tables, system: &System) -> Items {
+    let count = if rng.chance(1, 20) { rng.range(1, 16) } else { rng.range(1, 3) };
+    let items = |rng: &mut Rng| if rng.chance(1, 20) { rng.range(1, 5) } else { rng.range(1, 2) };
+    let one = |rng: &mut Rng| {
+        let (class, place) = random_item(rng, program, tables, system);
+        let minimum = match rng.below(6) {
+            0 => 1,
+            1..=3 => 2,
+            4 => rng.range(2, 5),
+            _ => rng.range(1, 65_535),
+        };
+        (class, place, minimum)
+    };
+    (0..count).map(|_| (0..items(rng)).map(|_| one(rng)).collect()).collect()
+}
+
+/// Puts bads into the message and reads them back.
+fn put_bads(m: &mut Message, program: &Program, tables: &Tables, bads: &Items) -> Option<Vec<Bad>> {
+    let mut rows = Vec::new();
+    for bad in bads {
+        bad.iter().for_each(|&(class, place, minimum)| rows.extend([(40, class), place, (43, minimum)]));
+        rows.push((44, 0));
+    }
+    let sizes = (m.names, m.constructors, m.functions);
+    let program_rows: Vec<_> = (0..m.rows).map(|i| m.program.pair(i)).collect();
+    let mut next = evidence::bare(sizes, &program_rows, bads.len(), &rows);
+    evidence::put_tables(&mut next, program, tables).ok()?;
+    *m = next;
+    crate::bads::read(m, program).ok()
+}
+
+fn counter(tables: &Tables, system: &System, class: usize, place: (usize, usize)) -> Option<usize> {
+    if place.0 == 41 { tables.state(class, place.1) } else { system.letter(class, place.1) }
+}
+
+/// Changes one item of each bad that a bound allows so that none does.
+fn make_harmless(
+    rng: &mut Rng,
+    bads: &mut Items,
+    limits: &[Limits],
+    program: &Program,
+    tables: &Tables,
+    system: &System,
+) -> Option<()> {
+    for bad in bads {
+        let allowed = limits.iter().any(|l| {
+            bad.iter().all(|&(class, place, minimum)| {
+                counter(tables, system, class, place).is_some_and(|c| l[c] as usize >= minimum)
+            })
+        });
+        if allowed {
+            let i = rng.below(bad.len());
+            bad[i] = (0..50).find_map(|_| harmless_item(rng, limits, program, tables, system))?;
+        }
+    }
+    Some(())
+}
+
+/// An item without a counter, or one whose minimum lies above every limit.
+fn harmless_item(
+    rng: &mut Rng,
+    limits: &[Limits],
+    program: &Program,
+    tables: &Tables,
+    system: &System,
+) -> Option<(usize, (usize, usize), usize)> {
+    let (class, place) = random_item(rng, program, tables, system);
+    match counter(tables, system, class, place) {
+        None => Some((class, place, rng.range(1, 3))),
+        Some(c) => {
+            let most = limits.iter().map(|l| l[c]).max().unwrap_or(0);
+            (most != UNBOUNDED).then_some((class, place, most as usize + 1))
+        }
+    }
+}
+
+/// Class and place of an item: one that has a counter, or any.
+fn random_item(rng: &mut Rng, program: &Program, tables: &Tables, system: &System) -> (usize, (usize, usize)) {
+    let classes: Vec<usize> = program.classes().collect();
+    let class = rng.pick(&classes).copied().unwrap_or(program.rows);
+    match rng.below(6) {
+        0 => (class, (42, rng.below(program.letters()))),
+        1 => {
+            let heads: Vec<usize> = (0..program.rows).filter(|&r| program.is_head(r)).collect();
+            (class, (41, rng.pick(&heads).copied().unwrap_or(program.start)))
+        }
+        2..=3 if !system.letters.is_empty() => {
+            let (class, letter) = system.letters[rng.below(system.letters.len())];
+            (class, (42, letter))
+        }
+        _ => {
+            let (class, head) = tables.states[rng.below(tables.states.len())];
+            (class, (41, head))
+        }
+    }
+}
+
+fn budget(rng: &mut Rng) -> usize {
+    if rng.chance(1, 10) { 8000 } else { 1200 }
+}
+
+/// Bounds with the bads left aside; at worst everything unbounded.
+fn any_bounds(rng: &mut Rng, program: &Program, tables: &Tables, system: &System) -> Vec<Limits> {
+    let all = vec![vec![UNBOUNDED; system.counters()]];
+    evidence::find_bounds(program, tables, system, &[], budget(rng)).unwrap_or(all)
+}

@@ -1,0 +1,408 @@
+//! Ways to damage a message.
+
+use super::build::Station;
+use super::rng::Rng;
+use crate::message::{self, Columns, Message};
+
+/// What a verifier is given.
+#[derive(Clone, Debug)]
+pub struct Case {
+    pub message: Vec<u8>,
+    pub lent: usize,
+}
+
+fn bytes(m: &Message) -> Vec<u8> {
+    message::to_bytes(&message::write(m))
+}
+
+/// The message as it is, with enough words lent: just enough, some more, or many.
+pub fn whole(rng: &mut Rng, station: &Station) -> Case {
+    let lent = match rng.below(4) {
+        0 => station.words,
+        1 => station.words + rng.below(9),
+        _ => station.words.max(16_384),
+    };
+    Case { message: bytes(&station.message), lent }
+}
+
+/// The message with some damage.
+pub fn damaged(rng: &mut Rng, station: &Station) -> Case {
+    let mut case = Case { message: Vec::new(), lent: station.words.max(16_384) };
+    let mut m = station.message.clone();
+    let times = if rng.chance(1, 8) { 2 } else { 1 };
+    for _ in 0..times {
+        structured(rng, &mut m, station);
+    }
+    case.message = bytes(&m);
+    match rng.below(100) {
+        0..=6 => words(rng, &mut case.message),
+        7..=12 => length(rng, &mut case.message),
+        13..=18 => size(rng, &station.message, &mut case.message),
+        19..=23 => {
+            case.message = bytes(&station.message);
+            case.lent = if rng.chance(1, 2) { station.words.saturating_sub(1) } else { rng.below(station.words.max(1)) };
+        }
+        24..=27 => {
+            case.message = bytes(&station.message);
+            words(rng, &mut case.message);
+        }
+        _ => {}
+    }
+    case
+}
+
+/// A word that is likely to matter.
+fn odd_word(rng: &mut Rng, near: u16) -> u16 {
+    match rng.below(9) {
+        0 => 0,
+        1 => 65_534,
+        2 => 65_535,
+        3..=4 => near.wrapping_add(1),
+        5..=6 => near.wrapping_sub(1),
+        7 => rng.below(64) as u16,
+        _ => rng.number() as u16,
+    }
+}
+
+fn words(rng: &mut Rng, bytes: &mut Vec<u8>) {
+    let mut words = message::to_words(bytes);
+    for _ in 0..rng.range(1, 3) {
+        let (i, j) = (rng.below(words.len()), rng.below(words.len()));
+        match rng.below(4) {
+            0 => words.swap(i, j),
+            1 => words[i] = words[j],
+            _ => words[i] = odd_word(rng, words[i]),
+        }
+    }
+    *bytes = message::to_bytes(&words);
+}
+
+fn length(rng: &mut Rng, bytes: &mut Vec<u8>) {
+    match rng.below(4) {
+        0 => bytes.truncate(rng.below(bytes.len())),
+        1 => bytes.truncate(bytes.len() - 1 - rng.below(4).min(bytes.len() - 1)),
+        2 => bytes.truncate(rng.below(30).min(bytes.len())),
+        _ => (0..rng.range(1, 3)).for_each(|_| bytes.push(0)),
+    }
+}
+
+/// The words of all sizes and their most.
+fn size_words(m: &Message) -> Vec<(usize, u16)> {
+    let (b, t, c) = (m.bads_at, m.tables_at, m.bounds_at);
+    vec![
+        (0, 1024),
+        (1, 512),
+        (2, 64),
+        (3, 64),
+        (b, 16),
+        (b + 1, 256),
+        (t, 4096),
+        (t + 1, 512),
+        (t + 2, 512),
+        (c, 256),
+        (c + 1, 8192),
+    ]
+}
+
+fn size(rng: &mut Rng, original: &Message, bytes: &mut Vec<u8>) {
+    let mut words = message::to_words(bytes);
+    let sizes = size_words(original);
+    let (at, most) = sizes[rng.below(sizes.len())];
+    if let Some(word) = words.get_mut(at) {
+        *word = match rng.below(5) {
+            0 => most + 1,
+            1 => 0,
+            2 => odd_word(rng, *word),
+            3 => most,
+            _ => odd_word(rng, most),
+        };
+    }
+    *bytes = message::to_bytes(&words);
+}
+
+fn structured(rng: &mut Rng, m: &mut Message, station: &Station) {
+    match rng.below(35) {
+        32 => soup(rng, m),
+        33 => deepen(rng, m),
+        34 => entry_wrong(rng, m),
+        0..=1 => row(rng, m),
+        2 => row_gone(rng, m),
+        3..=5 => binder(rng, m),
+        6..=8 => read(rng, m),
+        9..=11 => bad(rng, m),
+        12..=13 => minimum(rng, m),
+        14..=17 => entry_gone(rng, m),
+        18..=19 => entry_more(rng, m),
+        20 => entry_wrong(rng, m),
+        21..=23 => bound_gone(rng, m, station.counters),
+        24..=26 => limit(rng, m, station.counters),
+        27..=28 => bound_form(rng, m, station.counters),
+        29 => all_limits(rng, m),
+        30 => keep_bounds(rng, m, station.counters),
+        _ => {
+            m.entries = Columns::default();
+            m.bounds = 0;
+        }
+    }
+}
+
+fn row(rng: &mut Rng, m: &mut Message) {
+    let i = rng.below(m.program.len());
+    match rng.below(3) {
+        0 => m.program.first[i] = [1, 2, 3, 4, 5, 6, 7, 8, 9, 10, 11, 20, 21, 22, 23, 24, 25, 30, 31, 32][rng.below(20)],
+        _ => m.program.second[i] = odd_word(rng, m.program.second[i]),
+    }
+}
+
+/// Some rows at random.
+fn soup(rng: &mut Rng, m: &mut Message) {
+    const TAGS: [u16; 21] = [1, 1, 2, 3, 4, 5, 6, 7, 8, 9, 10, 11, 20, 21, 21, 22, 23, 25, 30, 31, 32];
+    let begin = rng.below(m.program.len());
+    for i in begin..(begin + rng.range(1, 12)).min(m.program.len()) {
+        m.program.first[i] = TAGS[rng.below(TAGS.len())];
+        m.program.second[i] = rng.below(4) as u16;
+    }
+}
+
+/// A pattern put into constructors of one argument, perhaps too deep.
+fn deepen(rng: &mut Rng, m: &mut Message) {
+    let rows = rows_with(m, &[30, 31, 32]);
+    let of_one: Vec<usize> = (0..m.constructors.min(m.program.len())).filter(|&c| m.program.pair(c) == (10, 1)).collect();
+    let (Some(&i), Some(&constructor)) = (rng.pick(&rows), rng.pick(&of_one)) else { return };
+    for _ in 0..rng.range(1, 4) {
+        insert(&mut m.program, i, 31, constructor as u16);
+    }
+}
+
+fn remove(columns: &mut Columns, i: usize) {
+    columns.first.remove(i);
+    columns.second.remove(i);
+}
+
+fn insert(columns: &mut Columns, i: usize, first: u16, second: u16) {
+    columns.first.insert(i, first);
+    columns.second.insert(i, second);
+}
+
+fn row_gone(rng: &mut Rng, m: &mut Message) {
+    let i = rng.below(m.program.len());
+    let (first, second) = (m.program.first[i], m.program.second[i]);
+    match rng.below(3) {
+        0 if m.program.len() > 1 => remove(&mut m.program, i),
+        1 => insert(&mut m.program, i, first, second),
+        _ => {
+            let end = m.program.len();
+            insert(&mut m.program, end, 1, 0);
+        }
+    }
+}
+
+fn rows_with(m: &Message, tags: &[u16]) -> Vec<usize> {
+    (0..m.program.len()).filter(|&i| tags.contains(&m.program.first[i])).collect()
+}
+
+/// A binding row gets the name of another, or a name is left without a binder.
+fn binder(rng: &mut Rng, m: &mut Message) {
+    let rows = rows_with(m, &[2, 3, 4, 5, 6, 7, 11, 23, 30]);
+    let (Some(&i), Some(&j)) = (rng.pick(&rows), rng.pick(&rows)) else { return };
+    match rng.below(5) {
+        0 => m.names = (m.names + 1).min(512),
+        1 => m.program.second.swap(i, j),
+        _ => m.program.second[i] = m.program.second[j],
+    }
+}
+
+/// A reading row reads another name.
+fn read(rng: &mut Rng, m: &mut Message) {
+    let rows = rows_with(m, &[1, 8, 21]);
+    if let Some(&i) = rng.pick(&rows) {
+        m.program.second[i] = rng.below(m.names) as u16;
+    }
+}
+
+fn bad(rng: &mut Rng, m: &mut Message) {
+    let i = rng.below(m.bad_rows.len());
+    match rng.below(6) {
+        0 => m.bad_rows.first[i] = 39 + rng.below(7) as u16,
+        1 => m.bad_rows.second[i] = odd_word(rng, m.bad_rows.second[i]),
+        2 if m.bad_rows.len() > 4 => remove(&mut m.bad_rows, i),
+        3 => insert(&mut m.bad_rows, i, 44, 0),
+        4 => m.bads = (m.bads + 1).min(16),
+        _ => m.bads = (m.bads - 1).max(1),
+    }
+}
+
+fn minimum(rng: &mut Rng, m: &mut Message) {
+    let rows: Vec<usize> = (0..m.bad_rows.len()).filter(|&i| m.bad_rows.first[i] == 43).collect();
+    if rng.chance(1, 2) {
+        rows.iter().for_each(|&i| m.bad_rows.second[i] = 1);
+    } else if let Some(&i) = rng.pick(&rows) {
+        m.bad_rows.second[i] = [1, 2, 65_534, 65_535][rng.below(4)];
+    }
+}
+
+/// Counts the list of table entry `i` up or down.
+fn count(m: &mut Message, i: usize, by: isize) {
+    let size = if i < m.flow {
+        &mut m.flow
+    } else if i < m.flow + m.mail {
+        &mut m.mail
+    } else {
+        &mut m.states
+    };
+    *size = size.saturating_add_signed(by);
+}
+
+fn entry_gone(rng: &mut Rng, m: &mut Message) {
+    if m.tables.is_empty() {
+        return;
+    }
+    let i = spot_entry(rng, m).unwrap_or_else(|| rng.below(m.tables.len()));
+    count(m, i, -1);
+    remove(&mut m.tables, i);
+}
+
+/// Every other time a flow entry of a pattern's name, if there is one.
+fn spot_entry(rng: &mut Rng, m: &Message) -> Option<usize> {
+    let names: Vec<u16> = rows_with(m, &[30]).into_iter().map(|i| m.program.second[i]).collect();
+    let entries: Vec<usize> = (0..m.flow.min(m.tables.len())).filter(|&i| names.contains(&m.tables.first[i])).collect();
+    if rng.chance(1, 2) { rng.pick(&entries).copied() } else { None }
+}
+
+/// A legal entry more in its order, without what it wants.
+fn entry_more(rng: &mut Rng, m: &mut Message) {
+    let with_start = |mut rows: Vec<usize>| {
+        rows.push(m.program.len());
+        rows
+    };
+    let values = with_start(rows_with(m, &[2, 3, 6, 11]));
+    let classes = with_start(rows_with(m, &[6]));
+    let heads = rows_with(m, &[1, 2, 3, 4, 5, 6, 7, 8, 9]);
+    let names: Vec<usize> = (0..m.names).collect();
+    let list = rng.below(4);
+    let (firsts, seconds, begin, length) = match list {
+        0 => (&names, &values, 0, m.flow),
+        1 => (&classes, &values, m.flow, m.mail),
+        _ => (&classes, &heads, m.flow + m.mail, m.states),
+    };
+    let (Some(&first), Some(&second)) = (rng.pick(firsts), rng.pick(seconds)) else { return };
+    if begin + length > m.tables.len() {
+        return;
+    }
+    let at = begin + (begin..begin + length).filter(|&i| m.tables.pair(i) < (first, second)).count();
+    match list {
+        0 => m.flow += 1,
+        1 => m.mail += 1,
+        _ => m.states += 1,
+    }
+    insert(&mut m.tables, at, first as u16, second as u16);
+}
+
+fn entry_wrong(rng: &mut Rng, m: &mut Message) {
+    if m.tables.len() < 2 {
+        return;
+    }
+    let i = rng.below(m.tables.len() - 1);
+    match rng.below(5) {
+        0 => {
+            m.tables.first.swap(i, i + 1);
+            m.tables.second.swap(i, i + 1);
+        }
+        1 => {
+            m.tables.first[i + 1] = m.tables.first[i];
+            m.tables.second[i + 1] = m.tables.second[i];
+        }
+        2 => m.tables.first[i] = odd_word(rng, m.tables.first[i]),
+        _ => m.tables.second[i] = odd_word(rng, m.tables.second[i]),
+    }
+}
+
+/// Ranges of the bounds' entries.
+fn bounds(m: &Message, counters: usize) -> Vec<std::ops::Range<usize>> {
+    let mut ranges = Vec::new();
+    let mut begin = 0;
+    for i in 0..m.entries.len() {
+        if m.entries.pair(i) == (counters, 0) {
+            ranges.push(begin..i + 1);
+            begin = i + 1;
+        }
+    }
+    ranges
+}
+
+fn drop_bound(m: &mut Message, range: std::ops::Range<usize>) {
+    m.entries.first.drain(range.clone());
+    m.entries.second.drain(range);
+    m.bounds = m.bounds.saturating_sub(1);
+}
+
+fn bound_gone(rng: &mut Rng, m: &mut Message, counters: usize) {
+    let ranges = bounds(m, counters);
+    let i = if rng.chance(1, 3) { 0 } else { rng.below(ranges.len()) };
+    if let Some(range) = ranges.get(i) {
+        drop_bound(m, range.clone());
+    }
+}
+
+/// Only a few bounds stay.
+fn keep_bounds(rng: &mut Rng, m: &mut Message, counters: usize) {
+    let mut ranges = bounds(m, counters);
+    while ranges.len() > 1 && !rng.chance(1, 4) {
+        let i = rng.below(ranges.len());
+        drop_bound(m, ranges[i].clone());
+        ranges = bounds(m, counters);
+    }
+}
+
+fn limit(rng: &mut Rng, m: &mut Message, counters: usize) {
+    let entries: Vec<usize> = (0..m.entries.len()).filter(|&i| m.entries.pair(i).0 < counters).collect();
+    let Some(&i) = rng.pick(&entries) else { return };
+    let limit = m.entries.second[i];
+    m.entries.second[i] = match rng.below(6) {
+        0 => 65_534,
+        1 => 65_535,
+        2 => limit.wrapping_add(1),
+        3..=4 if limit > 1 => limit - 1,
+        _ => {
+            remove(&mut m.entries, i);
+            return;
+        }
+    };
+}
+
+/// Every unbounded limit becomes 65,534, or every limit unbounded; perhaps the minimums go with them.
+fn all_limits(rng: &mut Rng, m: &mut Message) {
+    let all = rng.chance(1, 2);
+    if rng.chance(1, 2) {
+        let minimum = [65_534, 65_535][rng.below(2)];
+        let rows: Vec<usize> = (0..m.bad_rows.len()).filter(|&i| m.bad_rows.first[i] == 43).collect();
+        rows.into_iter().for_each(|i| m.bad_rows.second[i] = minimum);
+    }
+    for limit in m.entries.second.iter_mut().filter(|limit| **limit > 0) {
+        if all {
+            *limit = 65_535;
+        } else if *limit == 65_535 {
+            *limit = 65_534;
+        }
+    }
+}
+
+fn bound_form(rng: &mut Rng, m: &mut Message, counters: usize) {
+    if m.entries.is_empty() {
+        return;
+    }
+    let i = rng.below(m.entries.len());
+    match rng.below(8) {
+        0 => m.entries.first[i] = odd_word(rng, m.entries.first[i]),
+        1 => m.entries.second[i] = odd_word(rng, m.entries.second[i]),
+        2 => remove(&mut m.entries, i),
+        3 => insert(&mut m.entries, i, counters as u16, 0),
+        4 => m.bounds = (m.bounds + 1).min(256),
+        5 => m.bounds = m.bounds.saturating_sub(1),
+        6 => m.entries.first.swap(i, 0),
+        _ => {
+            let (first, second) = (m.entries.first[i], m.entries.second[i]);
+            insert(&mut m.entries, i, first, second);
+        }
+    }
+}

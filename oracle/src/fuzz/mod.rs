@@ -1,0 +1,10 @@
+//! Random messages: well-formed stations, their damage, and the comparison of two verifiers.
+
+pub mod build;
+pub mod compare;
+pub mod corpus;
+pub mod damage;
+pub mod generate;
+pub mod hostile;
+pub mod rng;
+pub mod row_list;

@@ -1,0 +1,30 @@
+//! A second implementation of the loading gate for station programs, written from the papers.
+
+pub mod analysis;
+pub mod bads;
+pub mod bounds;
+pub mod closed;
+pub mod counters;
+pub mod evidence;
+pub mod explain;
+pub mod explore;
+pub mod fuzz;
+pub mod leak;
+pub mod least;
+pub mod limits;
+pub mod listing;
+pub mod machine;
+pub mod matching;
+pub mod message;
+pub mod naive;
+pub mod names;
+pub mod program;
+pub mod reader;
+pub mod refusal;
+pub mod run;
+pub mod set;
+pub mod symbols;
+pub mod system;
+pub mod tables;
+pub mod text;
+pub mod verify;

@@ -1,0 +1,54 @@
+//! The `oracle` program: picks the command.
+
+mod commands;
+
+use commands::{against, assemble, corpus, disassemble, explain, fuzz, hostile, run, time, verify, Answer};
+use std::io::Write;
+use std::process::ExitCode;
+
+const USAGE: &str = "oracle verify [--lend N] FILE...      number, place and listing (- for standard input)
+oracle explain [--lend N] FILE          the verdict in words
+oracle run FILE NUMBERS...             a station run step by step beside its counters (N*K repeats)
+oracle assemble FILE [OUT]             text to message, with tables and ceilings
+oracle disassemble FILE                message to text
+oracle fuzz SEED COUNT                 random messages, two verifiers, the tally
+oracle against PROGRAM SEED COUNT      the same messages through a program that prints the listing
+oracle time FILE...                    how long the verifier takes
+oracle corpus SEED COUNT OUT           OUT.bin and OUT.txt: messages of every verdict, what is expected
+oracle check-corpus OUT                verifies a stored corpus anew
+oracle hostile DIR                     writes worst-case messages for a benchmark";
+
+fn answer(command: &str, args: &[String]) -> Answer {
+    match command {
+        "verify" => verify::command(args),
+        "run" => run::command(args),
+        "fuzz" => fuzz::command(args),
+        "against" => against::command(args),
+        "time" => time::command(args),
+        "corpus" => corpus::command(args),
+        "check-corpus" => corpus::check(args),
+        "hostile" => hostile::command(args),
+        "explain" => explain::command(args),
+        "assemble" => assemble::command(args),
+        "disassemble" => disassemble::command(args),
+        _ => Err(USAGE.to_string()),
+    }
+}
+
+fn main() -> ExitCode {
+    let args: Vec<String> = std::env::args().skip(1).collect();
+    let (command, rest) = match args.split_first() {
+        Some((command, rest)) => (command.as_str(), rest),
+        None => ("", &[][..]),
+    };
+    match answer(command, rest) {
+        Ok(text) => match std::io::stdout().write_all(text.as_bytes()) {
+            Ok(()) => ExitCode::SUCCESS,
+            Err(_) => ExitCode::from(2),
+        },
+        Err(word) => {
+            eprintln!("{word}");
+            ExitCode::from(2)
+        }
+    }
+}

@@ -1,0 +1,116 @@
+//! Words for the numbers of a message: the same ones in `run`, `explain` and `disassemble`.
+
+use crate::program::{Head, Name, Node, Program, Row};
+use crate::system::{Effect, Rule, System};
+use crate::tables::Tables;
+use std::collections::BTreeMap;
+
+/// Names for one program. Nothing of the author's own words is left in a message; the assembler
+/// still has them and puts them in.
+pub struct Symbols<'a> {
+    program: &'a Program,
+    pub names: Vec<String>,
+    pub constructors: Vec<String>,
+    pub labels: BTreeMap<Row, String>,
+}
+
+impl<'a> Symbols<'a> {
+    pub fn new(program: &'a Program) -> Symbols<'a> {
+        let mut names: Vec<String> = (0..program.names).map(|n| format!("N{n}")).collect();
+        for (i, function) in program.named().enumerate() {
+            names[function.name] = format!("f{i}");
+        }
+        let constructors = (0..program.arities.len()).map(|c| format!("c{c}")).collect();
+        Symbols { program, names, constructors, labels: BTreeMap::new() }
+    }
+
+    pub fn name(&self, name: Name) -> &str {
+        &self.names[name]
+    }
+
+    pub fn constructor(&self, constructor: usize) -> &str {
+        &self.constructors[constructor]
+    }
+
+    /// The label of a head.
+    pub fn label(&self, row: Row) -> String {
+        self.labels.get(&row).cloned().unwrap_or_else(|| format!("r{row}"))
+    }
+
+    pub fn class(&self, class: usize) -> String {
+        if class == self.program.rows { "start".to_string() } else { self.label(class) }
+    }
+
+    pub fn letter(&self, letter: usize) -> String {
+        match letter.checked_sub(self.program.arities.len()) {
+            None => self.constructor(letter).to_string(),
+            Some(0) => "function".to_string(),
+            Some(_) => "address".to_string(),
+        }
+    }
+
+    pub fn value(&self, value: usize) -> String {
+        if let Some((constructor, _)) = self.program.build(value) {
+            return format!("{} built at {}", self.constructor(constructor), self.label(value));
+        }
+        if self.program.is_class(value) {
+            return format!("address of {}", self.class(value));
+        }
+        match (self.program.nodes.get(value), self.program.function(value)) {
+            (Some(Node::Named), Some(f)) => format!("function {}", self.name(f.name)),
+            _ => format!("function made at {}", self.label(value)),
+        }
+    }
+
+    fn list(&self, names: &[Name]) -> String {
+        names.iter().map(|&n| self.name(n)).collect::<Vec<_>>().join(", ")
+    }
+
+    /// One head in a few words, without its rest.
+    pub fn head(&self, row: Row) -> String {
+        let n = |name: &Name| self.name(*name);
+        match self.program.head(row) {
+            Some(Head::GiveBack { value }) => format!("give back {}", n(value)),
+            Some(Head::Build { name, constructor, args, .. }) => {
+                format!("{} = {}({})", n(name), self.constructor(*constructor), self.list(args))
+            }
+            Some(Head::Function { name, .. }) => format!("{} = fun", n(name)),
+            Some(Head::Call { name, callee, args, .. }) => {
+                format!("{} = {}({})", n(name), n(callee), self.list(args))
+            }
+            Some(Head::Send { name, target, message, .. }) => format!("{} = {} ! {}", n(name), n(target), n(message)),
+            Some(Head::Spawn { name, callee, .. }) => format!("{} = spawn({})", n(name), n(callee)),
+            Some(Head::SelfAddress { name, .. }) => format!("{} = self()", n(name)),
+            Some(Head::Case { value, .. }) => format!("case {}", n(value)),
+            Some(Head::Receive { .. }) => "receive".to_string(),
+            None => "no head".to_string(),
+        }
+    }
+
+    pub fn state(&self, class: usize, head: Row) -> String {
+        format!("{} at {} [{}]", self.class(class), self.label(head), self.head(head))
+    }
+
+    /// A counter, short: `start@r7` for a state, `start!c0` for a letter.
+    pub fn counter(&self, tables: &Tables, system: &System, counter: usize) -> String {
+        if let Some(&(class, head)) = tables.states.get(counter) {
+            return format!("{}@{}", self.class(class), self.label(head));
+        }
+        match system.letters.get(counter - tables.states.len()) {
+            Some(&(class, letter)) => format!("{}!{}", self.class(class), self.letter(letter)),
+            None => "no counter".to_string(),
+        }
+    }
+
+    /// A rule in words.
+    pub fn rule(&self, tables: &Tables, system: &System, rule: &Rule) -> String {
+        let counter = |c: usize| self.counter(tables, system, c);
+        let effect = match rule.effect {
+            Effect::Nothing => String::new(),
+            Effect::Read(c) => format!(", reads {}", counter(c)),
+            Effect::Put(c) => format!(", puts {}", counter(c)),
+            Effect::New(c) => format!(", new process {}", counter(c)),
+        };
+        format!("{} -> {}{effect}", counter(rule.from), counter(rule.to))
+    }
+}

@@ -1,0 +1,216 @@
+//! The derived system: counters and rules (refusal 9), and its words (refusal 14).
+
+use crate::analysis::Analysis;
+use crate::limits;
+use crate::message::Message;
+use crate::program::{Branch, Head, Name, Row};
+use crate::refusal::{self, Detail, Refusal};
+use crate::set::Set;
+
+#[derive(Clone, Copy, Debug, PartialEq, Eq)]
+pub enum Effect {
+    Nothing,
+    Read(usize),
+    Put(usize),
+    New(usize),
+}
+
+#[derive(Clone, Copy, Debug, PartialEq, Eq)]
+pub struct Rule {
+    pub from: usize,
+    pub to: usize,
+    pub effect: Effect,
+}
+
+impl Rule {
+    /// Its rows (tag, number).
+    pub fn rows(&self) -> impl Iterator<Item = (u32, u32)> {
+        let last = match self.effect {
+            Effect::Nothing => None,
+            Effect::Read(letter) => Some((52, letter as u32)),
+            Effect::Put(letter) => Some((53, letter as u32)),
+            Effect::New(state) => Some((54, state as u32)),
+        };
+        [(50, self.from as u32), (51, self.to as u32)].into_iter().chain(last)
+    }
+
+    fn length(&self) -> usize {
+        match self.effect {
+            Effect::Nothing => 2,
+            _ => 3,
+        }
+    }
+
+    /// The letter counter it reads.
+    pub fn read(&self) -> Option<usize> {
+        match self.effect {
+            Effect::Read(letter) => Some(letter),
+            _ => None,
+        }
+    }
+
+    /// The letter counter put or the new state.
+    pub fn adds(&self) -> Option<usize> {
+        match self.effect {
+            Effect::Put(counter) | Effect::New(counter) => Some(counter),
+            _ => None,
+        }
+    }
+}
+
+#[derive(Clone, Debug, Default, PartialEq, Eq)]
+pub struct System {
+    /// The states' counters come first, in the order of the states.
+    pub states: usize,
+    /// (class, letter) of the letter counters, ascending.
+    pub letters: Vec<(usize, usize)>,
+    /// In the written order, so by their from.
+    pub rules: Vec<Rule>,
+}
+
+impl System {
+    pub fn counters(&self) -> usize {
+        self.states + self.letters.len()
+    }
+
+    pub fn letter(&self, class: usize, letter: usize) -> Option<usize> {
+        let i = self.letters.binary_search(&(class, letter)).ok()?;
+        Some(self.states + i)
+    }
+
+    /// Rows of all rules.
+    pub fn rows(&self) -> usize {
+        self.rules.iter().map(Rule::length).sum()
+    }
+
+    pub fn words(&self) -> usize {
+        4 + 2 * self.rows()
+    }
+
+    /// Ranges of rules by their from state.
+    pub fn by_state(&self) -> Vec<std::ops::Range<usize>> {
+        let mut ranges = Vec::with_capacity(self.states);
+        let mut begin = 0;
+        for state in 0..self.states {
+            let length = self.rules[begin..].iter().take_while(|r| r.from == state).count();
+            ranges.push(begin..begin + length);
+            begin += length;
+        }
+        ranges
+    }
+
+    /// Refusal 14, or the system written at the head of the lent words.
+    pub fn write(&self, lent: &mut [u32]) -> Result<(), Refusal> {
+        let (rows, words) = (self.rows(), self.words());
+        if words > lent.len() {
+            return Err(Refusal::new(refusal::SPACE, words, Detail::Counted(lent.len())));
+        }
+        let sizes = [self.states, self.letters.len(), self.rules.len(), rows];
+        lent.iter_mut().zip(sizes).for_each(|(word, size)| *word = size as u32);
+        for (i, (tag, number)) in self.rules.iter().flat_map(Rule::rows).enumerate() {
+            lent[4 + i] = tag;
+            lent[4 + rows + i] = number;
+        }
+        Ok(())
+    }
+}
+
+/// Distinct (class, letter) of the mail, ascending.
+fn letter_counters(a: &Analysis) -> Vec<(usize, usize)> {
+    let mails = a.program.classes().zip(&a.tables.mail);
+    mails.flat_map(|(class, mail)| a.letters(mail).map(move |letter| (class, letter)).collect::<Vec<_>>()).collect()
+}
+
+/// Refusal 9, or the system of closed tables.
+pub fn derive(message: &Message, a: &Analysis) -> Result<System, Refusal> {
+    let mut system = System { states: a.tables.states.len(), letters: letter_counters(a), rules: Vec::new() };
+    if system.counters() > limits::COUNTERS {
+        let detail = Detail::Counted(system.counters());
+        return Err(Refusal::new(refusal::COUNTERS, message.tables_at + 2, detail));
+    }
+    for (from, &(class, head)) in a.tables.states.iter().enumerate() {
+        Derive { a, system: &mut system, from, class }.state(head);
+    }
+    Ok(system)
+}
+
+/// Adds the rules of one state. Tables are closed, so every counter looked up is there.
+struct Derive<'a> {
+    a: &'a Analysis<'a>,
+    system: &'a mut System,
+    from: usize,
+    class: usize,
+}
+
+impl Derive<'_> {
+    fn state(&mut self, row: Row) {
+        let a = self.a;
+        match a.program.head(row) {
+            Some(Head::Build { rest, .. } | Head::Function { rest, .. } | Head::SelfAddress { rest, .. }) => {
+                self.rule(*rest, Some(Effect::Nothing))
+            }
+            Some(Head::Call { callee, args, .. }) => self.call(*callee, args.len()),
+            Some(Head::GiveBack { .. }) => self.give_back(row),
+            Some(Head::Send { target, message, rest, .. }) => self.send(*target, *message, *rest),
+            Some(Head::Spawn { callee, rest, .. }) => self.spawn(row, *callee, *rest),
+            Some(Head::Case { value, branches }) => self.case(a.flow(*value), branches),
+            Some(Head::Receive { branches }) => self.receive(branches),
+            None => {}
+        }
+    }
+
+    fn rule(&mut self, to: Row, effect: Option<Effect>) {
+        if let (Some(to), Some(effect)) = (self.a.tables.state(self.class, to), effect) {
+            self.system.rules.push(Rule { from: self.from, to, effect });
+        }
+    }
+
+    fn call(&mut self, callee: Name, count: usize) {
+        for f in self.a.callees(callee, count).iter().filter_map(|f| self.a.program.function(f)) {
+            self.rule(f.body, Some(Effect::Nothing));
+        }
+    }
+
+    fn give_back(&mut self, row: Row) {
+        let Some(function) = self.a.program.inside[row] else { return };
+        for (_, _, rest) in self.a.returns(self.class, function) {
+            self.rule(rest, Some(Effect::Nothing));
+        }
+    }
+
+    fn send(&mut self, target: Name, message: Name, rest: Row) {
+        let letters: Vec<usize> = self.a.letters(self.a.flow(message)).collect();
+        for class in self.a.targets(target).iter() {
+            for &letter in &letters {
+                let put = self.system.letter(class, letter).map(Effect::Put);
+                self.rule(rest, put);
+            }
+        }
+    }
+
+    fn spawn(&mut self, row: Row, callee: Name, rest: Row) {
+        for f in self.a.callees(callee, 0).iter().filter_map(|f| self.a.program.function(f)) {
+            let new = self.a.tables.state(row, f.body).map(Effect::New);
+            self.rule(rest, new);
+        }
+    }
+
+    fn case(&mut self, values: &Set, branches: &[Branch]) {
+        for branch in branches {
+            if !self.a.matching.may(branch.pattern, values).is_empty() {
+                self.rule(branch.body, Some(Effect::Nothing));
+            }
+        }
+    }
+
+    fn receive(&mut self, branches: &[Branch]) {
+        let mail = self.a.tables.mail_of(self.a.program, self.class);
+        for branch in branches {
+            let reached = self.a.matching.may(branch.pattern, &mail);
+            for letter in self.a.letters(&reached) {
+                let read = self.system.letter(self.class, letter).map(Effect::Read);
+                self.rule(branch.body, read);
+            }
+        }
+    }
+}

@@ -1,0 +1,106 @@
+//! Flow, mail and states: their entries in range and in order (refusal 7).
+
+use crate::message::Message;
+use crate::program::Program;
+use crate::refusal::{self, Refusal};
+use crate::set::Set;
+
+#[derive(Clone, Debug, Default, PartialEq, Eq)]
+pub struct Tables {
+    /// Values of each name.
+    pub flow: Vec<Set>,
+    /// Values in the mail of each class, by the class's index.
+    pub mail: Vec<Set>,
+    /// (class, head) in ascending order.
+    pub states: Vec<(usize, usize)>,
+}
+
+impl Tables {
+    pub fn empty(program: &Program) -> Tables {
+        Tables {
+            flow: vec![Set::EMPTY; program.names],
+            mail: vec![Set::EMPTY; program.spawns.len() + 1],
+            states: Vec::new(),
+        }
+    }
+
+    pub fn state(&self, class: usize, head: usize) -> Option<usize> {
+        self.states.binary_search(&(class, head)).ok()
+    }
+
+    pub fn has_state(&self, class: usize, head: usize) -> bool {
+        self.state(class, head).is_some()
+    }
+
+    pub fn mail_of(&self, program: &Program, class: usize) -> Set {
+        program.class_index(class).map_or(Set::EMPTY, |i| self.mail[i])
+    }
+
+    /// Flow entries in order.
+    pub fn flow_pairs(&self) -> Vec<(usize, usize)> {
+        let pairs = self.flow.iter().enumerate();
+        pairs.flat_map(|(name, values)| values.iter().map(move |v| (name, v)).collect::<Vec<_>>()).collect()
+    }
+
+    /// Mail entries in order.
+    pub fn mail_pairs(&self, program: &Program) -> Vec<(usize, usize)> {
+        let pairs = program.classes().zip(&self.mail);
+        pairs.flat_map(|(class, values)| values.iter().map(move |v| (class, v)).collect::<Vec<_>>()).collect()
+    }
+}
+
+/// Checks one list and hands each good entry on.
+struct List<'a> {
+    message: &'a Message,
+    from: usize,
+    count: usize,
+    wanted: &'static str,
+}
+
+impl List<'_> {
+    fn each(
+        &self,
+        in_range: impl Fn(usize, usize) -> bool,
+        mut keep: impl FnMut(usize, usize),
+    ) -> Result<(), Refusal> {
+        let mut before = None;
+        for i in self.from..self.from + self.count {
+            let pair = self.message.tables.pair(i);
+            let position = self.message.tables.at + i;
+            if !in_range(pair.0, pair.1) {
+                return Err(Refusal::wanted(refusal::ENTRY, position, self.wanted));
+            }
+            if before.is_some_and(|b| b >= pair) {
+                return Err(Refusal::wanted(refusal::ENTRY, position, "an entry above the one before it in its list"));
+            }
+            before = Some(pair);
+            keep(pair.0, pair.1);
+        }
+        Ok(())
+    }
+}
+
+/// Refusal 7, or the tables.
+pub fn read(message: &Message, program: &Program) -> Result<Tables, Refusal> {
+    let mut tables = Tables::empty(program);
+    let (flow, mail, states) = (message.flow, message.mail, message.states);
+    List { message, from: 0, count: flow, wanted: "a flow entry (name, value)" }.each(
+        |name, value| name < program.names && program.is_value(value),
+        |name, value| {
+            tables.flow[name].insert(value);
+        },
+    )?;
+    List { message, from: flow, count: mail, wanted: "a mail entry (class, value)" }.each(
+        |class, value| program.is_class(class) && program.is_value(value),
+        |class, value| {
+            if let Some(i) = program.class_index(class) {
+                tables.mail[i].insert(value);
+            }
+        },
+    )?;
+    List { message, from: flow + mail, count: states, wanted: "a state entry (class, head)" }.each(
+        |class, head| program.is_class(class) && program.is_head(head),
+        |class, head| tables.states.push((class, head)),
+    )?;
+    Ok(tables)
+}

@@ -1,0 +1,74 @@
+//! The verifier: every check of 01 in its order.
+
+use crate::analysis::Analysis;
+use crate::bads::{self, Bad};
+use crate::bounds::{self, Bounds};
+use crate::leak;
+use crate::message::{self, Message};
+use crate::names;
+use crate::program::Program;
+use crate::reader;
+use crate::refusal::Refusal;
+use crate::system::{self, System};
+use crate::tables::{self, Tables};
+use std::ops::Range;
+
+/// Number, place and the range of the message's bytes handed to the loader.
+#[derive(Clone, Debug, PartialEq, Eq)]
+pub struct Outcome {
+    pub number: u32,
+    pub place: usize,
+    pub part: Range<usize>,
+}
+
+/// What was read of a message, as far as the checks went.
+#[derive(Clone, Debug, Default)]
+pub struct Read {
+    pub message: Option<Message>,
+    pub program: Option<Program>,
+    pub bads: Option<Vec<Bad>>,
+    pub tables: Option<Tables>,
+    pub system: Option<System>,
+    pub bounds: Option<Bounds>,
+}
+
+/// Checks 1 to 13, keeping what was read.
+pub fn inspect(bytes: &[u8], read: &mut Read) -> Result<(), Refusal> {
+    let message = &*read.message.insert(message::read(bytes)?);
+    let program = &*read.program.insert(reader::read(message)?);
+    names::check(program)?;
+    let bads = &*read.bads.insert(bads::read(message, program)?);
+    let tables = &*read.tables.insert(tables::read(message, program)?);
+    let analysis = Analysis::new(program, tables);
+    crate::closed::check(message, &analysis)?;
+    let system = &*read.system.insert(system::derive(message, &analysis)?);
+    let bounds = &*read.bounds.insert(bounds::read(message, system.counters())?);
+    let start = tables.state(program.rows, program.start).unwrap_or(0);
+    bounds::check_start(message, bounds, start)?;
+    let counters: Vec<_> = bads.iter().map(|bad| bounds::bad_counters(program, tables, system, bad)).collect();
+    bounds::check_bads(message, bounds, bads, &counters)?;
+    leak::check(message, system, bounds)
+}
+
+fn inspect_and_write(bytes: &[u8], read: &mut Read, lent: &mut [u32]) -> Result<Range<usize>, Refusal> {
+    inspect(bytes, read)?;
+    if let Some(system) = &read.system {
+        system.write(lent)?;
+    }
+    Ok(0..read.message.as_ref().map_or(0, Message::program_bytes))
+}
+
+/// Verdict of a message. Only on 0 are lent words written, and only as many as are needed.
+pub fn verify(message: &[u8], system: &mut [u32]) -> Outcome {
+    match inspect_and_write(message, &mut Read::default(), system) {
+        Ok(part) => Outcome { number: 0, place: 0, part },
+        Err(refusal) => Outcome { number: refusal.number, place: refusal.position, part: 0..0 },
+    }
+}
+
+/// As `verify`, with all that was read and the refusal's detail.
+pub fn verify_in_detail(message: &[u8], system: &mut [u32]) -> (Read, Result<Range<usize>, Refusal>) {
+    let mut read = Read::default();
+    let result = inspect_and_write(message, &mut read, system);
+    (read, result)
+}

@@ -1,0 +1,78 @@
+//! Two readings of the hard checks agree on random messages, and safe stations keep demand 3.
+
+use oracle::fuzz::{compare, corpus, hostile};
+use oracle::{naive, verify};
+
+#[test]
+fn the_two_verifiers_agree_and_every_verdict_is_seen() {
+    let tally = compare::fuzz(2024, 2500, &verify::verify, &naive::verify).map_err(|(_, word)| word).unwrap();
+    assert!(tally.verdicts.iter().all(|&seen| seen > 0), "{}", tally.words());
+    assert!(3 * tally.verdicts[0] >= tally.total(), "{}", tally.words());
+    assert!(tally.steps > 500, "{}", tally.words());
+}
+
+#[test]
+fn a_wrong_verifier_is_found_out() {
+    let careless = |message: &[u8], lent: &mut [u32]| {
+        let mut outcome = verify::verify(message, lent);
+        if outcome.number == 13 {
+            outcome.place += 1;
+        }
+        outcome
+    };
+    assert!(compare::fuzz(7, 3000, &verify::verify, &careless).is_err());
+}
+
+#[test]
+fn a_corpus_comes_back_with_every_verdict() {
+    let made = corpus::collect(11, 150, &verify::verify).unwrap();
+    assert!(made.verdicts.iter().all(|&kept| kept > 0), "{:?}", made.verdicts);
+    let read = corpus::read(&corpus::container(&made.cases)).unwrap();
+    assert_eq!(read.len(), made.cases.len());
+    for (case, line) in read.iter().zip(made.lines.lines()) {
+        let seen = compare::see(&naive::verify, case).unwrap();
+        assert_eq!(corpus::line(case, &seen).trim_end(), line);
+    }
+}
+
+#[test]
+fn hostile_messages_are_settled_in_time() {
+    for hostile in hostile::all().unwrap() {
+        let begin = std::time::Instant::now();
+        let outcome = verify::verify(&hostile.message, &mut vec![0; 1 << 20]);
+        assert!(begin.elapsed().as_millis() < 1000, "{}", hostile.name);
+        let expected = match hostile.name {
+            "leak-at-the-end" => 13,
+            "open-at-the-end" => 8,
+            _ => 0,
+        };
+        assert_eq!(outcome.number, expected, "{}", hostile.name);
+    }
+}
+
+#[test]
+fn random_programs_come_back_from_their_text() {
+    let mut cases = compare::Cases::new(31);
+    let mut tried = 0;
+    for _ in 0..300 {
+        let case = cases.next_case();
+        let outcome = verify::verify(&case.message, &mut vec![0; 1 << 20]);
+        if outcome.number == 0 && case.message.len() < 2000 {
+            let text = oracle::text::disassemble::disassemble(&case.message).unwrap();
+            let again = oracle::text::assemble::assemble(&text).map_err(|e| format!("{e}\n{text}")).unwrap();
+            assert_eq!(again.message[..outcome.part.end], case.message[outcome.part]);
+            tried += 1;
+        }
+    }
+    assert!(tried > 30, "{tried}");
+}
+
+#[test]
+fn the_deepest_programs_come_back_from_their_text() {
+    for hostile in hostile::all().unwrap().into_iter().filter(|h| h.name.starts_with("deep")) {
+        let outcome = verify::verify(&hostile.message, &mut vec![0; 1 << 20]);
+        let text = oracle::text::disassemble::disassemble(&hostile.message).unwrap();
+        let again = oracle::text::assemble::assemble(&text).unwrap().message;
+        assert_eq!(again[..outcome.part.end], hostile.message[outcome.part], "{}", hostile.name);
+    }
+}

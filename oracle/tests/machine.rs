@@ -1,0 +1,104 @@
+//! How a station runs, by small stations in text.
+
+use oracle::machine::{Deed, Idle, Machine};
+use oracle::program::Program;
+use oracle::text::assemble::assemble;
+use oracle::{message, reader};
+
+fn program(text: &str) -> Program {
+    let text = format!("constructors a/0, b/0, box/1. {text} bad none: start holds address >= 65535.");
+    let assembled = assemble(&text).expect("a station");
+    reader::read(&message::read(&assembled.message).expect("a message")).expect("a program")
+}
+
+/// Steps process 0 until it no longer can; the deeds and why it rests.
+fn run(text: &str) -> (Vec<Deed>, Idle) {
+    let program = program(text);
+    let mut machine = Machine::new(&program);
+    let mut deeds = Vec::new();
+    for _ in 0..1000 {
+        match machine.step(0) {
+            Ok(step) => deeds.push(step.deed),
+            Err(idle) => return (deeds, idle),
+        }
+    }
+    (deeds, Idle::Waiting)
+}
+
+fn stopped(text: &str) -> bool {
+    matches!(run(text).1, Idle::Stopped(_))
+}
+
+/// The letter of the value that process 0 gives back when it ends.
+fn ends_with_branch(text: &str) -> Vec<Deed> {
+    let (deeds, idle) = run(text);
+    assert_eq!(idle, Idle::Ended);
+    deeds
+}
+
+#[test]
+fn the_earliest_message_that_any_branch_matches() {
+    let deeds = ends_with_branch("start -> Me = self(), Me ! a, Me ! b, Me ! box(a), receive box(_) -> a; b -> a end.");
+    let reads: Vec<&Deed> = deeds.iter().filter(|d| matches!(d, Deed::Read { .. })).collect();
+    assert_eq!(reads, [&Deed::Read { letter: 1 }]);
+}
+
+#[test]
+fn the_first_branch_that_matches() {
+    let text = "start -> case box(a) of box(b) -> self(); X -> X; box(_) -> self() end.";
+    let (deeds, idle) = run(text);
+    assert_eq!((deeds.len(), idle), (3, Idle::Ended));
+}
+
+#[test]
+fn a_message_that_no_branch_matches_stays() {
+    let program = program("start -> Me = self(), Me ! a, receive b -> a end.");
+    let mut machine = Machine::new(&program);
+    while machine.step(0).is_ok() {}
+    assert_eq!(machine.step(0), Err(Idle::Waiting));
+    assert_eq!(machine.processes[0].mailbox.len(), 1);
+}
+
+#[test]
+fn what_stops_a_process() {
+    assert!(stopped("start -> a ! b."));
+    assert!(stopped("start -> F = a, F()."));
+    assert!(stopped("function f(X) -> X. start -> f()."));
+    assert!(stopped("function f(X) -> X. start -> spawn(f)."));
+    assert!(stopped("start -> spawn(a)."));
+    assert!(stopped("start -> case a of b -> a end."));
+}
+
+#[test]
+fn a_function_value_keeps_its_bindings() {
+    let text = "function keep(X) -> fun() -> X end. start -> F = keep(a), keep(b), case F() of a -> self() end.";
+    assert_eq!(run(text).1, Idle::Ended);
+}
+
+#[test]
+fn a_call_comes_back_to_its_own_bindings() {
+    let text = "function deep(X, N) -> case N of box(M) -> deep(b, M), X; a -> X end.
+                start -> case deep(a, box(box(a))) of a -> self() end.";
+    assert_eq!(run(text).1, Idle::Ended);
+}
+
+#[test]
+fn spawned_processes_are_numbered_and_start_with_nothing_pushed() {
+    let program = program("function child() -> a. start -> P = spawn(child), Q = spawn(child), P ! b, Q.");
+    let mut machine = Machine::new(&program);
+    assert_eq!(machine.step(1), Err(Idle::NoProcess));
+    assert!(matches!(machine.step(0).map(|s| s.deed), Ok(Deed::New { process: 1, .. })));
+    assert!(matches!(machine.step(0).map(|s| s.deed), Ok(Deed::New { process: 2, .. })));
+    assert!(machine.step(1).is_ok());
+    assert_eq!(machine.step(1), Err(Idle::Ended));
+    assert!(machine.step(0).is_ok());
+    assert!(matches!(machine.step(0).map(|s| s.deed), Ok(Deed::Put { process: 1, letter: 1, .. })));
+    assert_eq!(machine.processes[1].mailbox.len(), 1);
+}
+
+#[test]
+fn letters_of_functions_and_addresses() {
+    let deeds = ends_with_branch("start -> Me = self(), Me ! Me, Me ! fun() -> a end, a.");
+    let letters: Vec<usize> = deeds.iter().filter_map(|d| if let Deed::Put { letter, .. } = d { Some(*letter) } else { None }).collect();
+    assert_eq!(letters, [4, 3]);
+}
