@@ -11,7 +11,7 @@ ghost use Rattle.model.specs.Limits.{maxArity};
 ghost use Rattle.program.specs.Rows.{Whole};
 
 // Word i of the n words that stand from `at`, and 0 past them.
-fn column(ws: &[u16], n: usize, at: usize, i: usize) -> usize
+pub fn column(ws: &[u16], n: usize, at: usize, i: usize) -> usize
     requires { ⌜ at + n ≤ length (now ws) ⌝ }
     ensures { λ w. ⌜ w ≡ getD (take n (drop at (now (ws .entry)))) i 0 ⌝ }
 {

@@ -76,7 +76,7 @@ module _ (p : Program) where
   unfolding step
   parameters-end n r q h = rows-end parameter (λ t m. eqb t 23 && is-name p m) (λ t m. refl) n r q h
 
-  header-ends : (r q : ℕ) → from p (header ∷ []) r ≡ past q → q ≡ r + 1 + num p r
+  pub header-ends : (r q : ℕ) → from p (header ∷ []) r ≡ past q → q ≡ r + 1 + num p r
   unfolding step
   header-ends r q h = let w = opened-by header (replicate (num p r) parameter) _ r q refl h in parameters-end (num p r) (r + 1) q (w .1)
 

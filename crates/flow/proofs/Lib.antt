@@ -1,0 +1,13 @@
+pub mod Narrow
+pub mod Entries
+pub mod Codes
+pub mod Subpatterns
+pub mod Ready
+pub mod Arguments
+pub mod Values
+pub mod Filling
+pub mod Apart
+pub mod Walk
+pub mod Cases
+pub mod Mails
+pub mod Heads

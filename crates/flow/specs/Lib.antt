@@ -1,0 +1,4 @@
+pub mod Members
+pub mod Branches
+pub mod Patterns
+pub mod Filled
