@@ -1,10 +1,10 @@
 -- What each item says to a row, as the readers of the code test it.
-use Prim.Native.Nat.{ℕ, zero, suc, _+_, _*_, _-_, _≤_, _<_}
+use Prim.Native.Nat.{ℕ, zero, suc, _-_, _≤_, _<_}
 use native.Mathlib.Omega.{arith}
-use mathlib.Core.Path.{_≡_, refl, sym, _∙_, ap, ap₂, subst}
+use mathlib.Core.Path.{_≡_, refl, sym, _∙_, ap}
 use mathlib.Core.Bool.{Bool, true, false, _&&_, _||_}
 use mathlib.Core.List.{List, [], _∷_, _++_}
-use mathlib.Core.Option.{Option, some, none}
+use mathlib.Core.Option.{none}
 use mathlib.Core.Logic.{⊎-elim}
 use lib.ListN.{replicate}
 use lib.Dec.{leb, ltb, eqb}
@@ -12,7 +12,7 @@ use borrow.Author.Tests.{eqb-true, eq-eqb, ne-eqb, le-leb}
 use Rattle.model.specs.declared.Sizes.{Sizes}
 use Rattle.model.specs.Limits.{maxArity}
 use Rattle.model.specs.Reader.{fits}
-use Rattle.model.specs.Rows.{Program, program, kind, Item, constructor, global, header, parameter, expression, made, operand, arguments, branches, pattern, body-form, branch-items, lead, arity, is-name, is-branch-count, step, expression-step, pattern-step}
+use Rattle.model.specs.Rows.{program, kind, constructor, global, expression, made, operand, branches, pattern, body-form, branch-items, lead, arity, is-name, is-branch-count, step, expression-step, pattern-step}
 use Rattle.model.proofs.Logic.{or-cases, test}
 use Rattle.program.specs.Rows.{listed, listed-item, counted-items}
 

@@ -1,24 +1,23 @@
 -- Laws of reading from a row on, as the readers of the code need them: one row, items one after the other, and where they end.
-use Prim.Native.Nat.{ℕ, zero, suc, _+_, _*_, _-_, _≤_, _<_}
+use Prim.Native.Nat.{ℕ, zero, suc, _+_, _-_, _≤_, _<_}
 use native.Mathlib.Decide.{decLt}
 use native.Mathlib.Omega.{arith}
-use mathlib.Core.Path.{_≡_, refl, sym, _∙_, ap, ap₂, subst}
-use mathlib.Core.Bool.{Bool, true, false, _&&_, _||_}
+use mathlib.Core.Path.{_≡_, refl, sym, _∙_, ap, ap₂}
+use mathlib.Core.Bool.{Bool, true, false}
 use mathlib.Core.List.{List, [], _∷_, _++_, append-nil}
 use mathlib.Core.Option.{Option, some, none, Option·some-ne-none, Option·map}
-use lib.ListN.{getD, replicate}
-use lib.Dec.{leb, ltb, eqb}
+use lib.ListN.{replicate}
+use lib.Dec.{leb}
 use borrow.Author.Tests.{eq-eqb, ne-eqb}
 use Rattle.model.specs.declared.Sizes.{Sizes}
-use Rattle.model.specs.declared.Verdict.{Verdict}
 use Rattle.model.specs.declared.Verdict.the-variants.{Safe, Row}
 use Rattle.model.specs.Verify.{answer}
 use Rattle.model.specs.Limits.{maxDepth}
 use Rattle.model.specs.Words.{left, right, columns}
 use Rattle.model.specs.Reader.{Read, past, wrong, fits, read, complete, first-wrong}
-use Rattle.model.specs.Rows.{Program, program, size, tag, num, kind, other, Item, constructor, global, header, parameter, expression, made, operand, arguments, branches, pattern, body-form, branch, branch-items, whole, row-check, step, expression-step, pattern-step}
-use Rattle.model.proofs.Logic.{test, true-false}
-use Rattle.model.proofs.Reader.{read-none, read-end, read-stop, read-go, read-range, read-takes, read-wrong-range, read-append, read-append-wrong, past-wrong, past-row, wrong-row, by-read}
+use Rattle.model.specs.Rows.{Program, program, size, tag, num, kind, Item, constructor, global, header, parameter, expression, made, operand, arguments, branches, pattern, branch, branch-items, whole, row-check, step, expression-step, pattern-step}
+use Rattle.model.proofs.Logic.{test}
+use Rattle.model.proofs.Reader.{read-none, read-end, read-stop, read-go, read-range, read-takes, read-wrong-range, read-append, read-append-wrong}
 use Rattle.program.specs.declared.grammar.Next.{Next}
 use Rattle.program.specs.declared.grammar.Next.the-variants.{Past, Wrong}
 use Rattle.program.specs.Rows.{reading, from}

@@ -1,7 +1,7 @@
 -- What the readers of a program's rows promise: the model's reading from a row on, over the words of a message whose parts are whole.
 use Prim.Native.Nat.{ℕ, _+_, _*_, _-_, _≤_}
 use mathlib.Core.Bool.{Bool, true, false, _||_}
-use mathlib.Core.List.{List, [], _∷_}
+use mathlib.Core.List.{List}
 use lib.ListN.{length}
 use lib.Dec.{eqb}
 use Rattle.model.specs.declared.Sizes.{Sizes}

@@ -9,7 +9,7 @@ use model::Sizes;
 use model::Verdict;
 ghost use mathlib.Core.Path.{_≡_};
 ghost use mathlib.Core.Bool.{true};
-ghost use mathlib.Core.List.{[], _∷_, _++_};
+ghost use mathlib.Core.List.{[], _∷_};
 ghost use Prim.Native.Nat.{_+_, _≤_, _<_};
 ghost use lib.ListN.{replicate};
 ghost use Rattle.model.specs.Rows.{program, tag, kind, constructor, global, expression, made, operand, arguments, branches, pattern, body-form, branch-items, lead, is-branch-count, declarations, whole, row-check};

@@ -1,26 +1,24 @@
 -- Which rows bind names: the tests of the code, the table of binders, and refusal 4.
-use Prim.Native.Nat.{ℕ, zero, suc, _+_, _-_, _≤_, _<_}
+use Prim.Native.Nat.{ℕ, zero, suc, _+_, _≤_, _<_}
 use native.Mathlib.Decide.{ℕ-discrete, decLt}
 use native.Mathlib.Omega.{arith}
 use mathlib.Core.Path.{_≡_, refl, sym, _∙_, ap}
-use mathlib.Core.Bool.{Bool, true, false, not, _&&_, _||_}
-use mathlib.Core.List.{List, [], _∷_}
+use mathlib.Core.Bool.{Bool, true, false, not, _&&_}
+use mathlib.Core.List.{List}
 use mathlib.Core.Logic.{_⊎_, inl, inr, ⊎-elim}
-use mathlib.Core.Option.{Option, some, none}
 use lib.ListN.{length, getD, set}
 use lib.Seq.{getD-set-same, getD-set-other}
-use lib.Dec.{leb, ltb, eqb}
+use lib.Dec.{eqb}
 use borrow.Author.Tests.{eq-eqb, ne-eqb, le-leb, lt-leb, lt-ltb, le-ltb, eqb-true, eqb-false}
-use Rattle.model.specs.declared.Verdict.{Verdict}
 use Rattle.model.specs.declared.Verdict.the-variants.{Safe, Name}
 use Rattle.model.specs.Verdict.{_>>_, unless}
-use Rattle.model.specs.Index.{any, all, first}
+use Rattle.model.specs.Index.{all, first}
 use Rattle.model.specs.Rows.{Program, size, tag, num}
 use Rattle.model.specs.Scopes.{binds, binds-name, binder, bound-again, name-check}
 use Rattle.model.specs.Verify.{answer}
 use Rattle.scopes.specs.Tables.{is-bound}
-use Rattle.model.proofs.Logic.{test, true-false, and-left, and-right, and-intro}
-use Rattle.model.proofs.Index.{any-intro, none-any, first-end, first-hit, first-miss, First, first-is, all-end, all-hit, all-miss}
+use Rattle.model.proofs.Logic.{test, true-false, and-intro}
+use Rattle.model.proofs.Index.{any-intro, none-any, first-hit, first-miss, First, first-is}
 
 and-none : (b : Bool) → (b && false) ≡ false
 and-none true = refl

@@ -1,29 +1,29 @@
 -- The innermost function around a row: body forms, and the search through the functions that enclose each other.
-use Prim.Native.Nat.{ℕ, zero, suc, _+_, _-_, _≤_, _<_}
+use Prim.Native.Nat.{ℕ, zero, suc, _+_, _≤_, _<_}
 use native.Mathlib.Decide.{ℕ-discrete, decLt}
 use native.Mathlib.Omega.{arith}
 use mathlib.Core.Path.{_≡_, refl, sym, _∙_, ap}
-use mathlib.Core.Bool.{Bool, true, false, not, _&&_, _||_}
+use mathlib.Core.Bool.{Bool, true, false, _&&_}
 use mathlib.Core.List.{List, [], _∷_, _++_}
-use mathlib.Core.Logic.{_⊎_, inl, inr, ⊎-elim}
-use mathlib.Core.Option.{Option, some, none, Option·some-ne-none}
+use mathlib.Core.Logic.{⊎-elim}
+use mathlib.Core.Option.{none, Option·some-ne-none}
 use lib.ListN.{length, getD, set}
 use lib.Seq.{getD-set-same, getD-set-other}
-use lib.Dec.{leb, ltb, eqb}
-use borrow.Author.Tests.{eq-eqb, ne-eqb, lt-ltb, le-ltb, ltb-true, eqb-true}
+use lib.Dec.{ltb, eqb}
+use borrow.Author.Tests.{lt-ltb, le-ltb, ltb-true, eqb-true}
 use Rattle.model.specs.declared.Sizes.{Sizes}
 use Rattle.model.specs.Index.{last}
 use Rattle.model.specs.Reader.{past}
-use Rattle.model.specs.Rows.{Program, program, size, tag, num, kind, Item, constructor, global, header, parameter, expression, made, operand, arguments, branches, pattern, body-form, lead, past-items, step, row-check}
+use Rattle.model.specs.Rows.{Program, program, size, tag, num, kind, global, header, expression, body-form, lead, past-items, step, row-check}
 use Rattle.model.specs.Heads.{is-function, innermost}
 use Rattle.model.proofs.Logic.{test, true-false, and-left, and-right, and-intro, or-cases}
 use Rattle.model.proofs.Reader.{by-option}
-use Rattle.model.proofs.Index.{last-hit, last-miss, last-is, last-none, Last, last-elim}
+use Rattle.model.proofs.Index.{last-hit, last-miss, last-elim}
 use Rattle.program.specs.Rows.{from}
 use Rattle.program.proofs.Items.{bound-says, global-says}
 use Rattle.scopes.specs.Tables.{After-from, inside, or-end, upto, Inner-upto, Candidate}
 use Rattle.scopes.proofs.Visits.{parted, head-read, global-read}
-use Rattle.scopes.proofs.Ends.{opened, opened-by, header-ends}
+use Rattle.scopes.proofs.Ends.{opened-by, header-ends}
 use Rattle.scopes.proofs.Scoping.{past-is, head-between}
 
 -- a last index among the first m is the last among all, where none behind passes

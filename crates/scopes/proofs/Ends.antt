@@ -3,24 +3,24 @@ use Prim.Native.Nat.{ℕ, zero, suc, _+_, _*_, _-_, _≤_, _<_}
 use native.Mathlib.Decide.{ℕ-discrete, decLt}
 use native.Mathlib.Omega.{arith}
 use mathlib.Core.Path.{_≡_, refl, sym, _∙_, ap}
-use mathlib.Core.Bool.{Bool, true, false, _&&_, _||_}
+use mathlib.Core.Bool.{Bool, true, false, _&&_}
 use mathlib.Core.List.{List, [], _∷_, _++_, append-nil}
-use mathlib.Core.Option.{Option, some, none, Option·some-injective, Option·some-ne-none, Option·none-ne-some}
-use lib.ListN.{length, getD, set, replicate, length-take}
-use lib.Seq.{getD-set-same, getD-set-other, getD-take, getD-drop}
-use lib.Dec.{leb, ltb, eqb}
+use mathlib.Core.Option.{some, none, Option·some-injective, Option·none-ne-some}
+use lib.ListN.{length, getD, set, replicate}
+use lib.Seq.{getD-set-same, getD-set-other}
+use lib.Dec.{eqb}
 use Rattle.model.specs.declared.Sizes.{Sizes}
-use Rattle.model.specs.Limits.{maxArity, maxDepth}
-use Rattle.model.specs.Words.{left, right, columns}
-use Rattle.model.specs.Reader.{Read, past, wrong, fits, read}
-use Rattle.model.specs.Rows.{Program, program, size, tag, num, kind, Item, header, parameter, expression, made, operand, arguments, branches, pattern, body-form, branch-items, lead, arity, is-name, is-branch-count, step}
+use Rattle.model.specs.Limits.{maxDepth}
+use Rattle.model.specs.Words.{right, columns}
+use Rattle.model.specs.Reader.{past, wrong, fits}
+use Rattle.model.specs.Rows.{Program, program, size, tag, num, kind, Item, header, parameter, expression, made, operand, arguments, branches, pattern, branch-items, lead, arity, is-name, step}
 use Rattle.model.proofs.Reader.{past-wrong, past-row, by-option, read-end}
 use Rattle.program.specs.Rows.{from}
 use Rattle.program.proofs.Columns.{part-at, part-past}
 use Rattle.program.proofs.Reading.{from-none, from-stop, from-go, from-range, from-takes}
-use Rattle.program.proofs.Items.{made-says, give-says, bound-says, case-says, receive-says, no-head-says, branches-25, branches-other, pattern-30, pattern-31, pattern-32, pattern-other, pattern-none, lead-of, lead-none}
+use Rattle.program.proofs.Items.{give-says, bound-says, case-says, receive-says, no-head-says, branches-25, branches-other, pattern-30, pattern-31, pattern-32, pattern-other, pattern-none, lead-of, lead-none}
 use Rattle.scopes.specs.Tables.{After-from, Ends-at, Rest-at, hop}
-use Rattle.scopes.proofs.Visits.{Parted, parted}
+use Rattle.scopes.proofs.Visits.{parted}
 
 some-fits : (b : Bool) (xs ys : List Item) → fits b xs ≡ some ys → ys ≡ xs
 unfolding fits

@@ -1,17 +1,16 @@
 -- Where names hold: rests, next heads, the interval of a scope, and refusal 5.
-use Prim.Native.Nat.{ℕ, zero, suc, _+_, _-_, _≤_, _<_}
-use native.Mathlib.Decide.{ℕ-discrete, decLt, decLe}
+use Prim.Native.Nat.{ℕ, _+_, _≤_, _<_}
+use native.Mathlib.Decide.{ℕ-discrete, decLt}
 use native.Mathlib.Omega.{arith}
 use mathlib.Core.Path.{_≡_, refl, sym, _∙_, ap}
-use mathlib.Core.Bool.{Bool, true, false, not, _&&_, _||_}
-use mathlib.Core.List.{List, [], _∷_, _++_}
+use mathlib.Core.Bool.{Bool, true, false, not}
+use mathlib.Core.List.{List, [], _∷_}
 use mathlib.Core.Logic.{_⊎_, inl, inr, ⊎-elim}
-use mathlib.Core.Option.{Option, some, none}
+use mathlib.Core.Option.{none}
 use lib.ListN.{length, getD, set}
 use lib.Seq.{getD-set-same, getD-set-other}
 use lib.Dec.{leb, ltb, eqb}
-use borrow.Author.Tests.{eq-eqb, ne-eqb, le-leb, lt-leb, lt-ltb, le-ltb, eqb-true, leb-true}
-use Rattle.model.specs.declared.Verdict.{Verdict}
+use borrow.Author.Tests.{eq-eqb, ne-eqb, le-leb, lt-leb, leb-true}
 use Rattle.model.specs.declared.Verdict.the-variants.{Safe, Scope}
 use Rattle.model.specs.Verdict.{unless}
 use Rattle.model.specs.Index.{first}
@@ -19,7 +18,7 @@ use Rattle.model.specs.Reader.{past}
 use Rattle.model.specs.Rows.{Program, program, size, tag, num, kind, is-head, Item, expression, lead, past-items, step, row-check}
 use Rattle.model.specs.Scopes.{binds, uses, binds-name, binder, rest, next-head, holds-in, in-scope, out-of-scope, scope-check}
 use Rattle.model.specs.Verify.{answer}
-use Rattle.model.proofs.Logic.{test, true-false, and-left, and-right, and-intro, or-cases}
+use Rattle.model.proofs.Logic.{test, true-false, and-left, and-right}
 use Rattle.model.proofs.Index.{first-end, first-hit, first-miss, First, first-is}
 use Rattle.model.proofs.Reader.{after-past}
 use Rattle.program.specs.Rows.{from}
@@ -27,18 +26,14 @@ use Rattle.model.specs.declared.Sizes.{Sizes}
 use Rattle.model.specs.Words.{columns}
 use Rattle.program.proofs.Reading.{from-none, past-tag}
 use Rattle.program.proofs.Items.{bound-says, lead-none}
-use Rattle.scopes.specs.Tables.{After-from, Rest-at, Head-table}
+use Rattle.scopes.specs.Tables.{After-from, Rest-at}
 use Rattle.scopes.proofs.Visits.{parted, head-read}
-use Rattle.scopes.proofs.Ends.{opened, opened-by}
+use Rattle.scopes.proofs.Ends.{opened-by}
 
 -- the tags of heads, and of uses
 pub head-between : (t : ℕ) → 1 ≤ t → t ≤ 9 → is-head t ≡ true
 unfolding is-head
 head-between t a b = rw (le-leb 1 t a, le-leb t 9 b)
-
-pub head-not : (t : ℕ) → (1 ≤ t → 9 < t) → is-head t ≡ false
-unfolding is-head
-head-not t h = elim (decLt 0 t) [ yes a ↦ rw (lt-leb t 9 (h a), le-leb 1 t a) | no a ↦ rw (lt-leb 1 t (omega arith)) ]
 
 pub uses-these : (t : ℕ) → (t ≡ 1) ⊎ ((t ≡ 8) ⊎ (t ≡ 21)) → true ≡ uses t
 unfolding uses

@@ -5,10 +5,10 @@ use mathlib.Core.Path.{_≡_, refl, sym, _∙_, ap}
 use mathlib.Core.Bool.{Bool, true, false, _&&_, _||_}
 use mathlib.Core.List.{List, [], _∷_, _++_}
 use mathlib.Core.Logic.{⊎-elim}
-use mathlib.Core.Option.{Option, some, none, Option·map, Option·some-ne-none, Option·none-ne-some}
-use lib.Dec.{leb, ltb, eqb}
+use mathlib.Core.Option.{some, none, Option·map, Option·some-ne-none, Option·none-ne-some}
+use lib.Dec.{leb, eqb}
 use borrow.Author.Tests.{eqb-true, eq-eqb, ltb-true}
-use Rattle.model.specs.Reader.{Read, past, wrong, fits, read, first-wrong}
+use Rattle.model.specs.Reader.{past, fits, first-wrong}
 use Rattle.model.specs.Rows.{Program, size, tag, num, kind, is-head, Item, constructor, global, header, parameter, expression, made, operand, arguments, branches, pattern, is-name, whole, row-check, step, expression-step, pattern-step}
 use Rattle.model.specs.Scopes.{binds, uses}
 use Rattle.model.proofs.Logic.{test, true-false, and-left, and-right, or-cases, or-left, or-right}

@@ -9,7 +9,7 @@ use program::rows::tag;
 ghost use mathlib.Core.Path.{_≡_};
 ghost use mathlib.Core.Bool.{true};
 ghost use mathlib.Core.Option.{none};
-ghost use Prim.Native.Nat.{_<_, _≤_};
+ghost use Prim.Native.Nat.{_<_};
 ghost use Rattle.model.specs.Index.{first};
 ghost use Rattle.model.specs.Rows.{program, tag, is-head, row-check};
 ghost use Rattle.model.specs.Scopes.{binds, uses, rest, holds-in, in-scope, out-of-scope, scope-check};

@@ -3,13 +3,12 @@ use Prim.Native.Nat.{ℕ, _+_, _*_, _-_, _≤_, _<_}
 use native.Mathlib.Omega.{arith}
 use mathlib.Core.Path.{_≡_, refl, sym, _∙_, ap}
 use mathlib.Core.List.{[], _∷_, _++_}
-use lib.ListN.{replicate}
-use borrow.Author.Tests.{lt-ltb, le-ltb, eq-eqb, ne-eqb}
-use Rattle.model.specs.Rows.{program, tag, kind, pattern, header, expression, branches, lead, body-form, branch-items, operand, made, arguments}
+use borrow.Author.Tests.{lt-ltb, le-ltb}
+use Rattle.model.specs.Rows.{program, tag, kind, pattern, header, expression, branches, lead, body-form, branch-items, made}
 use Rattle.model.specs.Limits.{maxDepth}
-use Rattle.program.specs.Rows.{from, reading, listed, listed-item, counted-items}
+use Rattle.program.specs.Rows.{from, listed, listed-item, counted-items}
 use Rattle.program.proofs.Items.{give-says, bound-says, case-says, lead-of, lead-none, receive-says, no-head-says, branches-25, branches-other}
-use Rattle.program.proofs.Reading.{past-answer, wrong-answer, came-past, came-wrong, replicate-by, items-by, branches-past, branches-no-pattern, branches-no-body, branches-none, from-stop, from-none, past-upto, past-behind, takes-row, last-row, refuses-row, then-past, then-wrong, yes-fits, no-fits}
+use Rattle.program.proofs.Reading.{past-answer, wrong-answer, came-past, came-wrong, items-by, branches-past, branches-no-pattern, branches-no-body, branches-none, from-none, past-upto, past-behind, takes-row, last-row, refuses-row, then-past, then-wrong, yes-fits, no-fits}
 use borrow.Fn.Kinds.{In}
 use borrow.Fn.PlainCycle.{Measures, is, falls, and}
 use Rattle.program.proofs.grammar.body_form.Reads as body-form-reads
@@ -35,12 +34,8 @@ use Rattle.program.proofs.grammar.names.Reads as names-reads
 use Rattle.program.proofs.grammar.pattern.Reads as pattern-reads
 use Rattle.program.proofs.rows.num.Reads as num-reads
 use Rattle.program.proofs.rows.tag.Reads as tag-reads
-use Rattle.program.proofs.grammar.+body_form+branches+case_branches+expression+lead.{
-  statement,
-}
-use Rattle.program.proofs.grammar.+body_form+branches+case_branches+expression+lead.Tie.{
-  close,
-}
+use Rattle.program.proofs.grammar.+body_form+branches+case_branches+expression+lead.{statement}
+use Rattle.program.proofs.grammar.+body_form+branches+case_branches+expression+lead.Tie.{close}
 
 abbrev μ-body-form : Measures 1 body-form-kinds.ps ℕ
 μ-body-form κs a = 4 * (a .1 .0 .rows - a .1 .1 .0) + 1

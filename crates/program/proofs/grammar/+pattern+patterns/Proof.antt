@@ -1,14 +1,14 @@
 use borrow.Author.Needs.{needs}
 use Prim.Native.Nat.{ℕ, _+_, _*_, _-_, _≤_, _<_}
 use native.Mathlib.Omega.{arith}
-use mathlib.Core.Path.{_≡_, refl, sym, _∙_, ap}
+use mathlib.Core.Path.{_≡_, refl, sym, _∙_}
 use mathlib.Core.List.{[], _∷_}
 use lib.ListN.{replicate}
 use borrow.Author.Tests.{lt-ltb, le-ltb, eq-eqb, ne-eqb}
 use Rattle.model.specs.Rows.{program, pattern, arity}
 use Rattle.program.specs.Rows.{from}
 use Rattle.program.proofs.Items.{pattern-30, pattern-31, pattern-32, pattern-other, pattern-none}
-use Rattle.program.proofs.Reading.{past-answer, wrong-answer, came-past, came-wrong, replicate-past, replicate-wrong, replicate-none, replicate-by, from-stop, go, go-on, stop, one-row, past-upto, past-behind, takes-row, last-row, refuses-row, yes-fits, no-fits}
+use Rattle.program.proofs.Reading.{past-answer, wrong-answer, came-past, came-wrong, replicate-past, replicate-wrong, replicate-none, replicate-by, from-stop, past-upto, takes-row, last-row, refuses-row, yes-fits, no-fits}
 use borrow.Fn.Kinds.{In}
 use borrow.Fn.PlainCycle.{Measures, is, falls, and}
 use Rattle.program.proofs.grammar.pattern.Reads as pattern-reads

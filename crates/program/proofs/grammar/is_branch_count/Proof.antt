@@ -1,4 +1,3 @@
-use mathlib.Core.Path.{_≡_, refl}
 use borrow.Author.Tests.{le-leb, lt-leb}
 use Rattle.model.specs.Rows.{is-branch-count}
 use Rattle.program.proofs.grammar.is_branch_count.Statement.{statement}

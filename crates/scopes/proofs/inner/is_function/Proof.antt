@@ -1,5 +1,4 @@
 use borrow.Author.Tests.{eq-eqb, ne-eqb}
-use borrow.Author.Needs.{needs}
 use Rattle.scopes.proofs.inner.is_function.Statement.{statement}
 use Rattle.scopes.proofs.inner.is_function.Tie as tie
 

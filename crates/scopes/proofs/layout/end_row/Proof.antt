@@ -1,6 +1,6 @@
 use native.Mathlib.Omega.{arith}
 use Prim.Native.Nat.{_+_}
-use mathlib.Core.Path.{_≡_, refl, sym, _∙_}
+use mathlib.Core.Path.{sym, _∙_}
 use Rattle.scopes.proofs.Ends.{ends-bound, ends-case, ends-receive, ends-pattern, ends-row, num-word, arity-of}
 use borrow.Author.Needs.{needs}
 use Rattle.scopes.proofs.layout.end_row.Statement.{statement}

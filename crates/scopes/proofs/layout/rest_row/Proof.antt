@@ -1,6 +1,5 @@
 use native.Mathlib.Omega.{arith}
 use Prim.Native.Nat.{_+_}
-use mathlib.Core.Path.{_≡_, refl, sym, _∙_}
 use Rattle.scopes.proofs.Ends.{rest-2, rest-3, rest-4, rest-5, rest-6, rest-none, num-word}
 use borrow.Author.Needs.{needs}
 use Rattle.scopes.proofs.layout.rest_row.Statement.{statement}

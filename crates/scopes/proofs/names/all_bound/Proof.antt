@@ -1,7 +1,6 @@
-use Prim.Native.Nat.{_≤_, _-_, _+_}
+use Prim.Native.Nat.{_≤_, _-_}
 use native.Mathlib.Omega.{arith}
 use mathlib.Core.Path.{_≡_, refl, sym, _∙_}
-use borrow.Author.Tests.{lt-ltb, le-ltb}
 use Rattle.model.specs.Index.{all}
 use Rattle.model.specs.Words.{columns}
 use Rattle.model.specs.Rows.{program}

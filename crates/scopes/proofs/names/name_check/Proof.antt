@@ -1,4 +1,4 @@
-use mathlib.Core.Path.{_≡_, sym, _∙_}
+use mathlib.Core.Path.{sym, _∙_}
 use Rattle.model.specs.Words.{columns}
 use Rattle.model.specs.Rows.{program}
 use Rattle.scopes.proofs.Binding.{first-whole, name-again, name-missing, names-pass}

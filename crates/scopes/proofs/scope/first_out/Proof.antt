@@ -1,10 +1,10 @@
-use Prim.Native.Nat.{_+_, _-_, _≤_}
+use Prim.Native.Nat.{_-_, _≤_}
 use Rattle.model.specs.Index.{first}
 use Rattle.model.specs.Rows.{program}
 use Rattle.model.specs.Scopes.{out-of-scope}
 use Rattle.model.proofs.Index.{first-end, first-hit, first-miss}
 use native.Mathlib.Omega.{arith}
-use mathlib.Core.Path.{_≡_, refl, sym, _∙_, ap}
+use mathlib.Core.Path.{_≡_, refl, sym, _∙_}
 use borrow.Author.Needs.{needs}
 use Rattle.scopes.proofs.scope.first_out.Statement.{statement}
 use Rattle.scopes.proofs.scope.first_out.Tie as tie

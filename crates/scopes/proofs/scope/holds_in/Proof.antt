@@ -1,7 +1,6 @@
 use Rattle.model.specs.Words.{columns}
 use Rattle.model.specs.Rows.{program, is-head}
-use native.Mathlib.Omega.{arith}
-use mathlib.Core.Path.{_≡_, refl, sym, _∙_, ap}
+use mathlib.Core.Path.{sym, _∙_, ap}
 use Rattle.scopes.proofs.Scoping.{holds-rest, holds-next}
 use borrow.Author.Needs.{needs}
 use Rattle.scopes.proofs.scope.holds_in.Statement.{statement}

@@ -1,8 +1,5 @@
-use native.Mathlib.Omega.{arith}
-use mathlib.Core.Path.{_≡_, refl, sym, _∙_, ap}
 use borrow.Author.Tests.{le-leb, lt-leb}
 use Rattle.model.specs.Rows.{is-head}
-use borrow.Author.Needs.{needs}
 use Rattle.scopes.proofs.scope.is_head.Statement.{statement}
 use Rattle.scopes.proofs.scope.is_head.Tie as tie
 

@@ -1,7 +1,7 @@
 use Rattle.model.specs.Words.{columns}
 use Rattle.model.specs.Rows.{program}
 use native.Mathlib.Omega.{arith}
-use mathlib.Core.Path.{_≡_, refl, sym, _∙_, ap}
+use mathlib.Core.Path.{sym, _∙_}
 use Rattle.scopes.proofs.Scoping.{scope-global, scope-before, scope-within, holds-end}
 use borrow.Author.Needs.{needs}
 use Rattle.scopes.proofs.scope.is_in_scope.Statement.{statement}

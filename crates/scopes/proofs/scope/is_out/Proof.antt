@@ -5,7 +5,7 @@ use borrow.Author.Tests.{not-true, not-false}
 use Rattle.scopes.proofs.Visits.{used-below}
 use native.Mathlib.Omega.{arith}
 use mathlib.Core.Bool.{true}
-use mathlib.Core.Path.{_≡_, refl, sym, _∙_, ap}
+use mathlib.Core.Path.{_≡_, sym, _∙_, ap}
 use Rattle.scopes.proofs.Scoping.{out-unused, out-unbound, out-by, binder-binds}
 use borrow.Author.Needs.{needs}
 use Rattle.scopes.proofs.scope.is_out.Statement.{statement}

@@ -1,7 +1,6 @@
 use Rattle.model.specs.Words.{columns}
 use Rattle.model.specs.Rows.{program}
 use native.Mathlib.Omega.{arith}
-use mathlib.Core.Path.{_≡_, refl, sym, _∙_, ap}
 use Rattle.scopes.proofs.Ends.{after-later}
 use Rattle.scopes.proofs.Scoping.{rest-is}
 use borrow.Author.Needs.{needs}

@@ -1,5 +1,4 @@
 use Rattle.scopes.proofs.Scoping.{uses-these, uses-none}
-use borrow.Author.Needs.{needs}
 use Rattle.scopes.proofs.scope.uses.Statement.{statement}
 use Rattle.scopes.proofs.scope.uses.Tie as tie
 
