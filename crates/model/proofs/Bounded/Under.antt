@@ -20,10 +20,13 @@ allowed-iff : (limit n : ℕ) → (allowed limit n ≡ true) ↔ Allowed limit n
 unfolding allowed
 allowed-iff limit n = or-iff _ _ (eqb-iff limit omega-limit) (leb-iff n limit)
 
--- the test for one bound, and for some bound
-pub under-exact : (bs : Bounds) (k : ℕ) (m : Marking) → (under (bs .counters) (bs .limit k) m ≡ true) ↔ Under bs k m
+-- the test for limits, for one bound, and for some bound
+pub under-iff : (counters : ℕ) (b : Bound) (m : Marking) → (under counters b m ≡ true) ↔ ((x : ℕ) → x < counters → Allowed (b x) (m x))
 unfolding under
-under-exact bs k m = all-iff (bs .counters) _ (λ x. allowed-iff (bs .limit k x) (m x))
+under-iff counters b m = all-iff counters _ (λ x. allowed-iff (b x) (m x))
+
+pub under-exact : (bs : Bounds) (k : ℕ) (m : Marking) → (under (bs .counters) (bs .limit k) m ≡ true) ↔ Under bs k m
+under-exact bs k m = under-iff (bs .counters) (bs .limit k) m
 
 pub under-some-exact : (bs : Bounds) (m : Marking) → (under-some bs m ≡ true) ↔ Under-one bs m
 unfolding under-some

@@ -1,0 +1,12 @@
+pub mod Reading
+pub mod Filling
+pub mod Repeated
+pub mod Ceilings
+pub mod Start
+pub mod Steps
+pub mod Suspects
+pub mod PairTable
+pub mod Escapes
+pub mod Held
+pub mod BadRows
+pub mod Meeting

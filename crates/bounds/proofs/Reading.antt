@@ -1,0 +1,161 @@
+-- One pass over the entries of the ceilings: the first wrong entry from entry e on, by the least counter number allowed and the ceilings that are left.
+use Prim.Native.Nat.{ℕ, zero, suc, _+_, _-_, _≤_, _<_}
+use native.Mathlib.Omega.{arith}
+use mathlib.Core.Path.{_≡_, refl, sym, _∙_, ap}
+use mathlib.Core.Bool.{Bool, true, false, _&&_}
+use mathlib.Core.List.{List, [], _∷_, _++_}
+use mathlib.Core.Option.{Option, some, none, Option·map}
+use lib.Dec.{leb, ltb, eqb}
+use borrow.Author.Tests.{eq-eqb, ne-eqb, le-leb, lt-leb, lt-ltb, le-ltb, leb-true, ltb-true}
+use Rattle.model.specs.declared.Sizes.{Sizes}
+use Rattle.model.specs.declared.Verdict.{Verdict}
+use Rattle.model.specs.declared.Verdict.the-variants.{Safe, Ceiling}
+use Rattle.model.specs.Words.{Columns, left, right, columns}
+use Rattle.model.specs.Message.{bounds-at}
+use Rattle.model.specs.Reader.{Read, past, wrong, fits, read, complete, first-wrong}
+use Rattle.model.specs.Bounds.{bound-entries, Ahead, from-counter, bound-step, bounds-of, bound-check}
+use Rattle.model.specs.Verify.{answer}
+use Rattle.model.proofs.Logic.{and-left, and-right}
+use Rattle.model.proofs.Reader.{read-none, read-end, read-stop, read-go}
+use Rattle.bounds.specs.Parts.{in-ceiling}
+
+-- what an entry says: it closes its ceiling, or is one of it, or is wrong
+pub entry-closes : (n least x limit : ℕ) → x ≡ n → limit ≡ 0 → bound-step n (from-counter least) x limit ≡ some []
+unfolding bound-step fits
+entry-closes n least x limit e z = rw (eq-eqb x n e, bound-step) (rw (eq-eqb limit 0 z))
+
+pub entry-open : (n least x limit : ℕ) → x ≡ n → (limit ≡ 0 → ⊥) → bound-step n (from-counter least) x limit ≡ none
+unfolding bound-step fits
+entry-open n least x limit e z = rw (eq-eqb x n e, bound-step) (rw (ne-eqb limit 0 z))
+
+pub entry-fits : (n least x limit : ℕ) → (x ≡ n → ⊥) → in-ceiling n least x limit ≡ true → bound-step n (from-counter least) x limit ≡ some (from-counter (x + 1) ∷ [])
+unfolding bound-step fits in-ceiling
+entry-fits n least x limit e h = rw (ne-eqb x n e, bound-step) (rw h)
+
+pub entry-wrong : (n least x limit : ℕ) → (x ≡ n → ⊥) → in-ceiling n least x limit ≡ false → bound-step n (from-counter least) x limit ≡ none
+unfolding bound-step fits in-ceiling
+entry-wrong n least x limit e h = rw (ne-eqb x n e, bound-step) (rw h)
+
+-- the test by its parts, one after the other
+pub in-ceiling-limit : (n least x limit : ℕ) → least ≤ x → x < n → leb 1 limit ≡ in-ceiling n least x limit
+unfolding in-ceiling
+in-ceiling-limit n least x limit a b = rw (le-leb least x a, lt-ltb x n b)
+
+pub in-ceiling-counter : (n least x limit : ℕ) → least ≤ x → n ≤ x → ltb x n ≡ in-ceiling n least x limit
+unfolding in-ceiling
+in-ceiling-counter n least x limit a b = rw (le-leb least x a, le-ltb x n b)
+
+pub in-ceiling-least : (n least x limit : ℕ) → x < least → leb least x ≡ in-ceiling n least x limit
+unfolding in-ceiling
+in-ceiling-least n least x limit a = rw (lt-leb least x a)
+
+pub in-ceiling-below : (n least x limit : ℕ) → in-ceiling n least x limit ≡ true → (least ≤ x) × (x < n) × (1 ≤ limit)
+unfolding in-ceiling
+in-ceiling-below n least x limit h =
+    let rest = and-right (leb least x) _ h in
+    (leb-true _ _ (and-left (leb least x) _ h), ltb-true _ _ (and-left (ltb x n) _ rest), leb-true _ _ (and-right (ltb x n) _ rest))
+
+-- what is to come: the ceiling that stands open, and those behind it
+stack : ℕ → ℕ → List Ahead
+stack zero least = []
+stack (suc ceilings) least = from-counter least ∷ bounds-of ceilings
+
+whole-stack : (k : ℕ) → stack k 0 ≡ bounds-of k
+unfolding stack
+whole-stack zero = refl
+whole-stack (suc k) = refl
+
+behind-end : (n i : ℕ) → i < n → complete n (past i) ≡ some i
+unfolding complete
+behind-end n i h = rw (ne-eqb i n (λ z. omega arith), complete)
+
+at-end : (n : ℕ) → complete n (past n) ≡ none
+unfolding complete
+at-end n = rw (eq-eqb n n refl, complete)
+
+module _ (ws : List ℕ) (s : Sizes) (n : ℕ) where
+  abbrev entries : Columns
+  entries = bound-entries ws s
+
+  turn : (e : ℕ) → e < s .limits → s .limits - e ≡ suc (s .limits - (e + 1))
+  turn e h = omega arith
+
+  reading : ℕ → List Ahead → ℕ → Read
+  reading e items rows = read (bound-step n) entries rows items e
+
+  -- the first wrong entry from entry e on
+  pub wrong-from : ℕ → ℕ → ℕ → Option ℕ
+  wrong-from e least ceilings = complete (s .limits) (reading e (stack ceilings least) (s .limits - e))
+
+  pub wrong-whole : first-wrong (bound-step n) entries (bounds-of (s .bounds)) ≡ wrong-from 0 0 (s .bounds)
+  unfolding wrong-from reading first-wrong bound-entries columns
+  wrong-whole =
+      let z : s .limits - 0 ≡ s .limits = omega arith in
+      rw (whole-stack (s .bounds), z)
+
+  -- an entry after the last ceiling
+  pub wrong-behind : (e least ceilings : ℕ) → e < s .limits → ceilings ≡ 0 → wrong-from e least ceilings ≡ some e
+  unfolding wrong-from reading stack
+  wrong-behind e least ceilings h z = rw (z, stack) (ap (complete (s .limits)) (read-none (bound-step n) entries (s .limits - e) e) ∙ behind-end (s .limits) e h)
+
+  module _ (e least ceilings : ℕ) where
+    -- what the open ceiling says to entry e
+    abbrev said : Option (List Ahead)
+    said = bound-step n (from-counter least) (left entries e) (right entries e)
+
+    wrong-here : e < s .limits → said ≡ none → wrong-from e least (suc ceilings) ≡ some e
+    unfolding wrong-from reading stack complete
+    wrong-here h z = rw (turn e h) (ap (complete (s .limits)) (read-stop (bound-step n) entries _ e (from-counter least) (bounds-of ceilings) z))
+
+    wrong-closed : e < s .limits → said ≡ some [] → wrong-from e least (suc ceilings) ≡ wrong-from (e + 1) 0 ceilings
+    unfolding wrong-from reading stack
+    wrong-closed h z =
+        rw (turn e h) (ap (complete (s .limits)) (read-go (bound-step n) entries _ e (from-counter least) (bounds-of ceilings) [] z ∙ rw (whole-stack ceilings)))
+
+    wrong-next : (x : ℕ) → e < s .limits → said ≡ some (from-counter x ∷ []) → wrong-from e least (suc ceilings) ≡ wrong-from (e + 1) x (suc ceilings)
+    unfolding wrong-from reading stack
+    wrong-next x h z = rw (turn e h) (ap (complete (s .limits)) (read-go (bound-step n) entries _ e (from-counter least) (bounds-of ceilings) _ z))
+
+    -- entries that end early
+    wrong-early : e ≡ s .limits → wrong-from e least (suc ceilings) ≡ some e
+    unfolding wrong-from reading stack complete
+    wrong-early z =
+        let t : s .limits - e ≡ zero = omega arith in
+        rw t (ap (complete (s .limits)) (read-end (bound-step n) entries (from-counter least) (bounds-of ceilings) e))
+
+  pub wrong-none : (e least ceilings : ℕ) → e ≡ s .limits → ceilings ≡ 0 → wrong-from e least ceilings ≡ none
+  unfolding wrong-from reading stack
+  wrong-none e least ceilings z c = rw (c, stack) (ap (complete (s .limits)) (read-none (bound-step n) entries (s .limits - e) e) ∙ rw z (at-end (s .limits)))
+
+  -- the answer by the first wrong entry
+  pub refused : (e at : ℕ) → wrong-from 0 0 (s .bounds) ≡ some e → at ≡ bounds-at s + 2 → Ceiling (at + e) ≡ answer (bound-check ws s n)
+  unfolding bound-check answer
+  refused e at h z = rw (wrong-whole, h, z)
+
+  pub passed : wrong-from 0 0 (s .bounds) ≡ none → Safe ≡ answer (bound-check ws s n)
+  unfolding bound-check answer
+  passed h = rw (wrong-whole, h)
+
+  -- an entry in its turn, with the values that the code has: `closed` ceilings are closed before it
+  module _ (e least closed : ℕ) (still : closed < s .bounds) where
+    one-more : s .bounds - closed ≡ suc (s .bounds - (closed + 1))
+    one-more = omega arith
+
+    pub stop-early : e ≡ s .limits → wrong-from e least (s .bounds - closed) ≡ some (s .limits)
+    stop-early z = rw one-more (wrong-early e least (s .bounds - (closed + 1)) z ∙ ap some z)
+
+    module _ (x limit : ℕ) (inside : e < s .limits) (counter : x ≡ left entries e) (value : limit ≡ right entries e) where
+      says : (o : Option (List Ahead)) → bound-step n (from-counter least) x limit ≡ o → said e least (s .bounds - (closed + 1)) ≡ o
+      says o h = rw (counter, value) at h
+
+      pub stop-open : x ≡ n → (limit ≡ 0 → ⊥) → wrong-from e least (s .bounds - closed) ≡ some e
+      stop-open a b = rw one-more (wrong-here e least (s .bounds - (closed + 1)) inside (says none (entry-open n least x limit a b)))
+
+      pub stop-wrong : (x ≡ n → ⊥) → in-ceiling n least x limit ≡ false → wrong-from e least (s .bounds - closed) ≡ some e
+      stop-wrong a b = rw one-more (wrong-here e least (s .bounds - (closed + 1)) inside (says none (entry-wrong n least x limit a b)))
+
+      pub turn-closed : x ≡ n → limit ≡ 0 → wrong-from e least (s .bounds - closed) ≡ wrong-from (e + 1) 0 (s .bounds - (closed + 1))
+      turn-closed a b = ap (wrong-from e least) one-more ∙ wrong-closed e least (s .bounds - (closed + 1)) inside (says _ (entry-closes n least x limit a b))
+
+      pub turn-next : (x ≡ n → ⊥) → in-ceiling n least x limit ≡ true → wrong-from e least (s .bounds - closed) ≡ wrong-from (e + 1) (x + 1) (s .bounds - closed)
+      turn-next a b = rw one-more (wrong-next e least (s .bounds - (closed + 1)) (x + 1) inside (says _ (entry-fits n least x limit a b)))

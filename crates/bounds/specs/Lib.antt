@@ -1,0 +1,5 @@
+pub mod Parts
+pub mod Limits
+pub mod Steps
+pub mod Pairs
+pub mod Items

@@ -1,0 +1,116 @@
+// Bads under the ceilings: refusal 12.
+use crate::entries::column;
+use crate::limits::highest;
+use model::Sizes;
+use model::Verdict;
+ghost use mathlib.Core.Path.{_≡_};
+ghost use Prim.Native.Nat.{_≤_, _<_};
+ghost use Rattle.model.specs.Words.{left, right};
+ghost use Rattle.model.specs.Rows.{program};
+ghost use Rattle.model.specs.Tables.{tables};
+ghost use Rattle.model.specs.Bads.{bad-rows, counted, met};
+ghost use Rattle.model.specs.Bounds.{bounds, bad-allowed, met-check};
+ghost use Rattle.model.specs.Verify.{answer};
+ghost use Rattle.bounds.specs.Items.{Ready, most, Bads-in-form, Bad-stands, bad-end};
+ghost use Rattle.bounds.specs.Parts.{Whole};
+
+// The tag of a row of the bads, and 0 past the last row.
+fn bad_tag(ws: &[u16], s: Sizes, r: usize) -> usize
+    requires { ⌜ Whole (now ws) s ⌝ }
+    ensures { λ t. ⌜ t ≡ left (bad-rows (now (ws .entry)) s) r ⌝ }
+{
+    column(ws, s.conditions, 4 + 2 * s.rows + 2, r) as usize
+}
+
+// The number of a row of the bads, and 0 past the last row.
+fn bad_number(ws: &[u16], s: Sizes, r: usize) -> usize
+    requires { ⌜ Whole (now ws) s ⌝ }
+    ensures { λ t. ⌜ t ≡ right (bad-rows (now (ws .entry)) s) r ⌝ }
+{
+    column(ws, s.conditions, 4 + 2 * s.rows + 2 + s.conditions, r) as usize
+}
+
+// The row after the bad that stands at row r: after its items, of three rows each, and its last row.
+fn next_bad(ws: &[u16], s: Sizes, r: usize) -> usize
+    requires { ⌜ Whole (now ws) s ⌝ }
+    requires { ⌜ r ≤ s .conditions ⌝ }
+    requires { ⌜ Bad-stands (program (now ws) s) (bad-rows (now ws) s) r ⌝ }
+    ensures { λ q. ⌜ q ≡ bad-end (program (now (ws .entry)) s) (bad-rows (now (ws .entry)) s) r ⌝ }
+{
+    let mut i = r + 3;
+    loop {
+        if bad_tag(ws, s, i) != 40 {
+            return i + 1;
+        }
+        i += 3;
+    }
+}
+
+// The highest count under ceiling k of what the item at row r asks for: 0 without a counter.
+fn item_count(
+    ws: &[u16],
+    s: Sizes,
+    n: usize,
+    limits: &[u16],
+    items: &[u16],
+    k: usize,
+    r: usize,
+) -> usize
+    requires { ⌜ Ready (now ws) s n (now limits) (now items) ⌝ }
+    requires { ⌜ (k < s .bounds) × (left (bad-rows (now ws) s) r ≡ 40) ⌝ }
+    ensures { λ c. ⌜ c ≡ most (now (ws .entry)) s n k (counted (bad-rows (now (ws .entry)) s) r) ⌝ }
+{
+    let x = items[r] as usize;
+    if x < n { highest(limits, k, x) } else { 0 }
+}
+
+// The highest counts under ceiling k meet the bad that stands at row r: every item, up to the first row that is none.
+fn meets(ws: &[u16], s: Sizes, n: usize, limits: &[u16], items: &[u16], k: usize, r: usize) -> bool
+    requires { ⌜ Ready (now ws) s n (now limits) (now items) ⌝ }
+    requires { ⌜ (k < s .bounds) × (r ≤ s .conditions) ⌝ }
+    ensures { λ b. ⌜ b ≡ met (most (now (ws .entry)) s n k) (bad-rows (now (ws .entry)) s) r ⌝ }
+{
+    let mut i = r;
+    loop {
+        if bad_tag(ws, s, i) != 40 {
+            return true;
+        }
+        let least = bad_number(ws, s, i + 2);
+        if item_count(ws, s, n, limits, items, k, i) < least {
+            return false;
+        }
+        i += 3;
+    }
+}
+
+// Some ceiling allows the bad that stands at row r.
+fn some_allows(ws: &[u16], s: Sizes, n: usize, limits: &[u16], items: &[u16], r: usize) -> bool
+    requires { ⌜ Ready (now ws) s n (now limits) (now items) ⌝ }
+    requires { ⌜ r ≤ s .conditions ⌝ }
+    ensures { λ b. ⌜ b ≡ bad-allowed (program (now (ws .entry)) s) (tables (now (ws .entry)) s) (bounds (now (ws .entry)) s n) (bad-rows (now (ws .entry)) s) r ⌝ }
+{
+    for k in 0..s.bounds {
+        if meets(ws, s, n, limits, items, k, r) {
+            return true;
+        }
+    }
+    false
+}
+
+// Refusal 12: the first bad that some ceiling allows.
+pub fn met_check(ws: &[u16], s: Sizes, n: usize, limits: &[u16], items: &[u16]) -> Verdict
+    requires { ⌜ Ready (now ws) s n (now limits) (now items) ⌝ }
+    requires { ⌜ Bads-in-form (now ws) s ⌝ }
+    ensures { λ v. ⌜ v ≡ answer (met-check s (program (now (ws .entry)) s) (tables (now (ws .entry)) s) (bounds (now (ws .entry)) s n) (bad-rows (now (ws .entry)) s)) ⌝ }
+{
+    let at = 4 + 2 * s.rows + 2;
+    let mut r: usize = 0;
+    for j in 0..s.bads {
+        let here = at + r;
+        if some_allows(ws, s, n, limits, items, r) {
+            return Verdict::Met(here);
+        }
+        r = next_bad(ws, s, r);
+    }
+    Verdict::Safe
+}

@@ -1,0 +1,133 @@
+// The entries of the ceilings, as the words of the message have them; refusal 10.
+use model::MAX_BOUNDS;
+use model::MAX_COUNTERS;
+use model::Sizes;
+use model::Verdict;
+ghost use mathlib.Core.Path.{_≡_};
+ghost use Prim.Native.Nat.{ℕ, _+_, _≤_, _<_};
+ghost use lib.ListN.{length, getD, take, drop};
+ghost use Rattle.model.specs.Limits.{maxBounds, maxCounters};
+ghost use Rattle.model.specs.Words.{left, right};
+ghost use Rattle.model.specs.Message.{bounds-at};
+ghost use Rattle.model.specs.Bounds.{bound-entries, bound-check, bounds};
+ghost use Rattle.model.specs.Verify.{answer};
+ghost use Rattle.model.specs.Demands.{Within-limits};
+ghost use Rattle.bounds.specs.Limits.{limit-cells, In-form, Limits-table, Starts-table, bound-end, Stands, Blank, Bound-filled};
+ghost use Rattle.bounds.specs.Parts.{Whole, in-ceiling};
+
+// The cells of the table of limits: one for each counter under each ceiling.
+pub const LIMITS: usize = MAX_BOUNDS * MAX_COUNTERS;
+
+// Word i of the n words that stand from `at`, and 0 past them.
+pub fn column(ws: &[u16], n: usize, at: usize, i: usize) -> u16
+    requires { ⌜ at + n ≤ length (now ws) ⌝ }
+    ensures { λ w. ⌜ w ≡ getD (take n (drop at (now (ws .entry)))) i 0 ⌝ }
+{
+    if i < n { ws[at + i] } else { 0 }
+}
+
+// The word at which the ceilings part begins.
+pub fn bounds_at(s: Sizes) -> usize
+    requires { ⌜ Within-limits s ⌝ }
+    ensures { λ r. ⌜ r ≡ bounds-at s ⌝ }
+{
+    9 + 2 * (s.rows + s.conditions + s.flows + s.mails + s.states)
+}
+
+// The counter number of entry e, and 0 past the last entry.
+pub fn counter_at(ws: &[u16], s: Sizes, e: usize) -> usize
+    requires { ⌜ Whole (now ws) s ⌝ }
+    ensures { λ r. ⌜ r ≡ left (bound-entries (now (ws .entry)) s) e ⌝ }
+{
+    column(ws, s.limits, bounds_at(s) + 2, e) as usize
+}
+
+// The limit of entry e, and 0 past the last entry.
+pub fn limit_at(ws: &[u16], s: Sizes, e: usize) -> u16
+    requires { ⌜ Whole (now ws) s ⌝ }
+    ensures { λ r. ⌜ r ≡ right (bound-entries (now (ws .entry)) s) e ⌝ }
+{
+    column(ws, s.limits, bounds_at(s) + 2 + s.limits, e)
+}
+
+// An entry of a ceiling that goes on.
+fn in_ceiling(n: usize, least: usize, x: usize, limit: u16) -> bool
+    ensures { λ r. ⌜ r ≡ in-ceiling n least x limit ⌝ }
+{
+    least <= x && (x < n && 1 <= limit)
+}
+
+// Refusal 10: one pass over the entries with the least counter number allowed and the ceilings closed so far.
+pub fn bound_check(ws: &[u16], s: Sizes, n: usize) -> Verdict
+    requires { ⌜ Whole (now ws) s ⌝ }
+    requires { ⌜ n ≤ maxCounters ⌝ }
+    ensures { λ r. ⌜ r ≡ answer (bound-check (now (ws .entry)) s n) ⌝ }
+{
+    let at = bounds_at(s) + 2;
+    let mut least: usize = 0;
+    let mut closed: usize = 0;
+    for e in 0..s.limits {
+        let here = at + e;
+        if closed == s.bounds {
+            return Verdict::Ceiling(here);
+        }
+        let x = counter_at(ws, s, e);
+        let limit = limit_at(ws, s, e);
+        if x == n {
+            if limit != 0 {
+                return Verdict::Ceiling(here);
+            }
+            closed += 1;
+            least = 0;
+        } else {
+            if !in_ceiling(n, least, x, limit) {
+                return Verdict::Ceiling(here);
+            }
+            least = x + 1;
+        }
+    }
+    let end = at + s.limits;
+    if closed < s.bounds {
+        return Verdict::Ceiling(end);
+    }
+    Verdict::Safe
+}
+
+// The limits of ceiling k, whose entries stand from e on, into its part of the table; gives the entry after them.
+fn fill_bound(ws: &[u16], s: Sizes, n: usize, k: usize, e: usize, limits: &mut [u16]) -> usize
+    requires { ⌜ Whole (now ws) s ⌝ }
+    requires { ⌜ (n ≤ maxCounters) × (k < maxBounds) ⌝ }
+    requires { ⌜ Stands n (bound-entries (now ws) s) e ⌝ }
+    requires { ⌜ Blank (now limits) k ⌝ }
+    requires { ⌜ limit-cells ≤ length (now limits) ⌝ }
+    ensures { λ r. ⌜ r ≡ bound-end n (bound-entries (now (ws .entry)) s) e ⌝ }
+    ensures { λ r. ⌜ Bound-filled n (bound-entries (now (ws .entry)) s) k e (now (limits .entry)) (now (limits .exit)) ⌝ }
+{
+    let mut i = e;
+    loop {
+        let x = counter_at(ws, s, i);
+        if x == n {
+            return i + 1;
+        }
+        let at = k * MAX_COUNTERS + x;
+        limits[at] = limit_at(ws, s, i);
+        i += 1;
+    }
+}
+
+// The limits of all ceilings, and where each begins. The table is lent blank.
+pub fn fill_limits(ws: &[u16], s: Sizes, n: usize, limits: &mut [u16], starts: &mut [u16])
+    requires { ⌜ Whole (now ws) s ⌝ }
+    requires { ⌜ n ≤ maxCounters ⌝ }
+    requires { ⌜ In-form (now ws) s n ⌝ }
+    requires { ⌜ ((k : ℕ) → Blank (now limits) k) ⌝ }
+    requires { ⌜ (limit-cells ≤ length (now limits)) × (maxBounds ≤ length (now starts)) ⌝ }
+    ensures { λ _. ⌜ Limits-table (bounds (now (ws .entry)) s n) (now (limits .exit)) ⌝ }
+    ensures { λ _. ⌜ Starts-table n (bound-entries (now (ws .entry)) s) (s .bounds) (now (starts .exit)) ⌝ }
+{
+    let mut e: usize = 0;
+    for k in 0..s.bounds {
+        starts[k] = e as u16;
+        e = fill_bound(ws, s, n, k, e, limits);
+    }
+}

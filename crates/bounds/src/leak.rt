@@ -1,0 +1,144 @@
+// The test of refusal 13 for one ceiling and one rule: does the rule lead out of all ceilings?
+use crate::Step;
+use crate::limits::highest;
+use crate::limits::is_allowed;
+use crate::limits::limit;
+use crate::pairs::kept_at;
+ghost use mathlib.Core.Path.{_≡_};
+ghost use mathlib.Core.Bool.{_&&_};
+ghost use Prim.Native.Nat.{_+_, _-_, _≤_, _<_};
+ghost use lib.ListN.{length};
+ghost use Rattle.model.specs.Limits.{maxBounds, maxCounters, omega-limit};
+ghost use Rattle.model.specs.Markings.{fire, usable};
+ghost use Rattle.model.specs.Bounds.{allowed, highest};
+ghost use Rattle.bounds.specs.Limits.{limit-cells};
+ghost use Rattle.bounds.specs.Pairs.{row, held, pair-cells, passes, suspect, suspects, Pairs-table};
+ghost use Rattle.bounds.specs.Steps.{rule-of-step, escapes, Step-within, takes-other, adds-other, less-if, more-if};
+
+// So many counters could exceed.
+const SUSPECTS: usize = 6;
+
+// One more of a count: 65,534 goes on to 65,535, which lies under unbounded alone.
+fn one_more(count: usize) -> usize
+    requires { ⌜ count ≤ omega-limit + 2 ⌝ }
+    ensures { λ r. ⌜ r ≡ count + 1 ⌝ }
+{
+    count + 1
+}
+
+fn more_if(test: bool, count: usize) -> usize
+    requires { ⌜ count ≤ omega-limit + 2 ⌝ }
+    ensures { λ r. ⌜ r ≡ more-if test count ⌝ }
+{
+    if test { one_more(count) } else { count }
+}
+
+fn less_if(test: bool, count: usize) -> usize
+    ensures { λ r. ⌜ r ≡ less-if test count ⌝ }
+{
+    if test {
+        if count == 0 { 0 } else { count - 1 }
+    } else {
+        count
+    }
+}
+
+fn takes_other(step: Step, y: usize) -> bool
+    ensures { λ r. ⌜ r ≡ takes-other step y ⌝ }
+{
+    step.kind == 1 && y == step.other
+}
+
+fn adds_other(step: Step, y: usize) -> bool
+    ensures { λ r. ⌜ r ≡ adds-other step y ⌝ }
+{
+    2 <= step.kind && y == step.other
+}
+
+// The count of counter y after the step, where it was `count` before.
+fn count_after(count: usize, step: Step, y: usize) -> usize
+    requires { ⌜ count ≤ omega-limit + 1 ⌝ }
+    requires { ⌜ step .kind ≤ 3 ⌝ }
+    ensures { λ r. ⌜ r ≡ fire (rule-of-step step) (λ _. count) y ⌝ }
+{
+    let left = less_if(y == step.from, count);
+    let taken = less_if(takes_other(step, y), left);
+    let moved = more_if(y == step.to, taken);
+    more_if(adds_other(step, y), moved)
+}
+
+// The step can be used at the highest counts of ceiling k.
+fn is_usable(limits: &[u16], k: usize, step: Step) -> bool
+    requires { ⌜ k < maxBounds ⌝ }
+    requires { ⌜ Step-within maxCounters step ⌝ }
+    requires { ⌜ limit-cells ≤ length (now limits) ⌝ }
+    ensures { λ r. ⌜ r ≡ usable (rule-of-step step) (highest (row (now (limits .entry)) k)) ⌝ }
+{
+    if highest(limits, k, step.from) == 0 {
+        return false;
+    }
+    if step.kind != 1 {
+        return true;
+    }
+    1 <= highest(limits, k, step.other)
+}
+
+// Counter y, after the step from the highest counts of ceiling k, is allowed under ceiling k2.
+fn passes(limits: &[u16], k: usize, k2: usize, step: Step, y: usize) -> bool
+    requires { ⌜ (k < maxBounds) × (k2 < maxBounds) ⌝ }
+    requires { ⌜ (y < maxCounters) × (step .kind ≤ 3) ⌝ }
+    requires { ⌜ limit-cells ≤ length (now limits) ⌝ }
+    ensures { λ r. ⌜ r ≡ passes (now (limits .entry)) k k2 step y ⌝ }
+{
+    let count = count_after(highest(limits, k, y), step, y);
+    is_allowed(limit(limits, k2, y), count)
+}
+
+// Counter i of those that could exceed: the three kept for the two ceilings, and the three that the step names.
+fn suspect(pairs: &[u16], k: usize, k2: usize, step: Step, i: usize) -> usize
+    requires { ⌜ (k < maxBounds) × (k2 < maxBounds) ⌝ }
+    requires { ⌜ i < suspects ⌝ }
+    requires { ⌜ pair-cells ≤ length (now pairs) ⌝ }
+    ensures { λ r. ⌜ r ≡ suspect (now (pairs .entry)) k k2 step i ⌝ }
+{
+    match i {
+        0 => kept_at(pairs, k, k2, 0),
+        1 => step.other,
+        2 => step.to,
+        3 => step.from,
+        4 => kept_at(pairs, k, k2, 1),
+        _ => kept_at(pairs, k, k2, 2),
+    }
+}
+
+// From the highest counts of ceiling k the step leads out of all ceilings.
+pub fn leads_out(
+    limits: &[u16],
+    pairs: &[u16],
+    ceilings: usize,
+    n: usize,
+    k: usize,
+    step: Step,
+) -> bool
+    requires { ⌜ (ceilings ≤ maxBounds) × (k < ceilings) ⌝ }
+    requires { ⌜ (n ≤ maxCounters) × Step-within n step ⌝ }
+    requires { ⌜ limit-cells ≤ length (now limits) ⌝ }
+    requires { ⌜ Pairs-table ceilings n (now limits) (now pairs) ⌝ }
+    ensures { λ r. ⌜ r ≡ escapes (held ceilings n (now (limits .entry))) (rule-of-step step) (highest (row (now (limits .entry)) k)) ⌝ }
+{
+    if !is_usable(limits, k, step) {
+        return false;
+    }
+    'candidates: for k2 in 0..ceilings {
+        for i in 0..SUSPECTS {
+            let y = suspect(pairs, k, k2, step, i);
+            if y < n {
+                if !passes(limits, k, k2, step, y) {
+                    continue 'candidates;
+                }
+            }
+        }
+        return false;
+    }
+    true
+}

@@ -1,0 +1,5 @@
+pub mod Rising
+pub mod Facts
+pub mod Counts
+pub mod Marking
+pub mod Keys

@@ -1,0 +1,7 @@
+pub mod Gather
+pub mod Gathered
+pub mod Standing
+pub mod Placed
+pub mod Sourced
+pub mod Slotted
+pub mod Branched
