@@ -1,0 +1,22 @@
+use Rattle.closed.proofs.Codes.{code-none, code-holds, code-lacks}
+use borrow.Author.Needs.{needs}
+use Rattle.closed.proofs.branches.branch_closed.Statement.{statement}
+use Rattle.closed.proofs.branches.branch_closed.Tie as tie
+use Rattle.closed.proofs.branches.branch_closed.Reads as reads
+use Rattle.closed.proofs.branches.branch_closed.Lts as lts
+use Rattle.entries.proofs.lists.has_state.Reads as has-state-reads
+
+has-state-requires : tie.Need-has-state-requires
+has-state-requires c κs = search needs
+
+returns : tie.Need-returns
+returns c = code-none _ _ (c .match .keys1)
+
+returns-2 : tie.Need-returns-2
+returns-2 c = code-holds _ _ _ (c .before .match .keys2) (c .has-state .ensures)
+
+returns-3 : tie.Need-returns-3
+returns-3 c = code-lacks _ _ (c .match .rest .0 .1) (c .match .rest .1)
+
+pub branch-closed-spec : {M : Type 1} → statement M
+branch-closed-spec = tie.close (tie.spec has-state-requires returns returns-2 returns-3)

@@ -1,0 +1,28 @@
+use Rattle.closed.proofs.Openings.{no-global, this-global}
+use borrow.Author.Needs.{needs}
+use Rattle.closed.proofs.opening.opening_row.Statement.{statement}
+use Rattle.closed.proofs.opening.opening_row.Tie as tie
+use Rattle.closed.proofs.opening.opening_row.Reads as reads
+use Rattle.closed.proofs.opening.opening_row.Lts as lts
+use Rattle.entries.proofs.lists.flow_has.Reads as flow-has-reads
+use Rattle.program.proofs.rows.num.Reads as num-reads
+use Rattle.program.proofs.rows.tag.Reads as tag-reads
+
+tag-requires : tie.Need-tag-requires
+tag-requires c κs = search needs
+
+returns : tie.Need-returns
+returns c = no-global _ _ _ _ (c .before .tag .ensures) (c .if1 .taken)
+
+num-requires : tie.Need-num-requires
+num-requires c κs = search needs
+
+flow-has-requires : tie.Need-flow-has-requires
+flow-has-requires c κs = search needs
+
+returns-2 : tie.Need-returns-2
+returns-2 c = this-global _ _ _ _ (c .before .before .before .tag .ensures) _ _ (search needs) (c .before .num .ensures) (c .flow-has .ensures)
+
+pub opening-row-spec : {M : Type 1} → statement M
+opening-row-spec =
+    tie.close (tie.spec tag-requires returns num-requires flow-has-requires returns-2)

@@ -1,0 +1,4 @@
+pub mod Narrow
+pub mod Held
+pub mod Turns
+pub mod Filled
