@@ -3,9 +3,9 @@ use Prim.Native.Nat.{ℕ, zero, suc, _+_, _-_, _≤_, _<_}
 use native.Mathlib.Decide.{ℕ-discrete, decLt}
 use native.Mathlib.Omega.{arith}
 use mathlib.Core.Path.{_≡_, refl, sym, _∙_, ap}
-use mathlib.Core.Bool.{Bool, true, false, _&&_, _||_}
-use mathlib.Core.List.{List, [], _∷_, _++_}
-use mathlib.Core.Option.{Option, some, none, Option·some-injective, Option·none-ne-some}
+use mathlib.Core.Bool.{Bool, true, false, _&&_}
+use mathlib.Core.List.{List, [], _∷_}
+use mathlib.Core.Option.{some, Option·some-injective, Option·none-ne-some}
 use lib.ListN.{take, drop, length-take, List·getD-eq-default}
 use lib.Dec.{leb, eqb}
 use borrow.Author.Tests.{eq-eqb, ne-eqb, eqb-true}
@@ -13,11 +13,11 @@ use Rattle.model.specs.declared.Sizes.{Sizes}
 use Rattle.model.specs.Words.{Columns, left, right, columns}
 use Rattle.model.specs.Message.{bads-at}
 use Rattle.model.specs.Reader.{past, fits, read}
-use Rattle.model.specs.Rows.{Program, program}
+use Rattle.model.specs.Rows.{Program}
 use Rattle.model.specs.Bads.{Part, bad, subject, minimum, further, item, bad-step, bad-rows, Counted, counted, met-from, met}
-use Rattle.model.proofs.Logic.{true-false, test, and-left}
+use Rattle.model.proofs.Logic.{test, and-left}
 use Rattle.model.proofs.Reader.{past-row, read-none}
-use Rattle.bounds.proofs.Repeated.{Fitting, fitting}
+use Rattle.bounds.proofs.Repeated.{fitting}
 
 fits-more : {I : Type 0} (b : Bool) (xs ys : List I) → fits b xs ≡ some ys → (b ≡ true) × (ys ≡ xs)
 unfolding fits

@@ -1,21 +1,20 @@
 -- The test for a rule and the candidate ceilings, by the code's values.
-use Prim.Native.Nat.{ℕ, zero, suc, _+_, _*_, _-_, _≤_, _<_}
+use Prim.Native.Nat.{ℕ, zero, suc, _+_, _≤_, _<_}
 use native.Mathlib.Decide.{ℕ-discrete}
 use native.Mathlib.Omega.{arith}
-use mathlib.Core.Path.{_≡_, refl, sym, _∙_, ap, subst}
+use mathlib.Core.Path.{_≡_, refl, sym, _∙_, subst}
 use mathlib.Core.Bool.{Bool, true, false, not}
 use mathlib.Core.List.{List}
 use lib.ListN.{getD}
-use borrow.Author.Tests.{lt-ltb, le-ltb}
 use Rattle.model.specs.Limits.{maxBounds}
 use Rattle.model.specs.Index.{any}
 use Rattle.model.specs.Markings.{Marking, usable, fire}
 use Rattle.model.specs.Bounds.{allowed, highest, under, under-some}
 use Rattle.model.proofs.Logic.{true-false, test}
-use Rattle.model.proofs.Index.{any-hit, any-miss, any-end, all-intro, all-elim}
+use Rattle.model.proofs.Index.{any-hit, any-miss, all-intro, all-elim}
 use Rattle.bounds.specs.declared.Step.{Step}
 use Rattle.bounds.specs.Steps.{rule-of-step, Step-within, escapes}
-use Rattle.bounds.specs.Pairs.{row, held, exceeding, kept, pair, kept-counter, passes, suspect, suspect-list, suspects, Pairs-table}
+use Rattle.bounds.specs.Pairs.{row, held, kept, kept-counter, passes, suspect, suspect-list, suspects, Pairs-table}
 use Rattle.bounds.proofs.Steps.{fire-alone}
 use Rattle.bounds.proofs.Suspects.{few}
 

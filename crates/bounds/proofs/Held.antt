@@ -1,17 +1,15 @@
 -- What the code finds for the ceilings that the table holds is so for the ceilings of the message; and rules one after the other.
-use Prim.Native.Nat.{ℕ, zero, suc, _+_, _≤_, _<_}
+use Prim.Native.Nat.{ℕ, zero, suc, _≤_, _<_}
 use native.Mathlib.Omega.{arith}
 use mathlib.Core.Path.{_≡_, refl, sym, _∙_, ap, ap₂}
 use mathlib.Core.Bool.{Bool, true, false, not, _&&_, _||_}
 use mathlib.Core.List.{List, [], _∷_, _++_}
-use lib.ListN.{getD}
 use lib.Dec.{leb}
 use Rattle.model.specs.declared.Sizes.{Sizes}
 use Rattle.model.specs.Index.{any, all}
 use Rattle.model.specs.Rules.{Rule}
 use Rattle.model.specs.Markings.{Marking, readable, usable, fire}
 use Rattle.model.specs.Bounds.{Bound, Bounds, bounds, allowed, under, under-some, highest, leads-out}
-use Rattle.model.proofs.Logic.{true-false, test}
 use Rattle.model.proofs.Index.{any-intro, any-elim, all-intro, all-elim}
 use Rattle.bounds.specs.declared.Step.{Step}
 use Rattle.bounds.specs.Limits.{Limits-table}

@@ -1,10 +1,10 @@
 -- Refusal 12 by the code's values: the count of an item, a bad under one ceiling and under some, the first one allowed.
-use Prim.Native.Nat.{ℕ, _+_, _-_, _≤_, _<_}
+use Prim.Native.Nat.{ℕ, _+_, _≤_, _<_}
 use native.Mathlib.Omega.{arith}
-use mathlib.Core.Path.{_≡_, refl, sym, _∙_, ap}
+use mathlib.Core.Path.{_≡_, sym, _∙_}
 use mathlib.Core.Bool.{Bool, true, false, _&&_}
-use mathlib.Core.List.{List, [], _∷_}
-use mathlib.Core.Option.{some, none}
+use mathlib.Core.List.{List}
+use mathlib.Core.Option.{some}
 use lib.ListN.{length, getD}
 use lib.Dec.{leb, eqb}
 use borrow.Author.Tests.{le-leb, lt-leb, eq-eqb, ne-eqb}
@@ -23,9 +23,8 @@ use Rattle.model.specs.Markings.{standing, count-in}
 use Rattle.model.specs.Bounds.{bounds, highest, bad-allowed, met-check}
 use Rattle.model.specs.Verify.{answer}
 use Rattle.model.proofs.Reader.{by-option}
-use Rattle.bounds.specs.Limits.{Limits-table}
 use Rattle.bounds.specs.Pairs.{row}
-use Rattle.bounds.specs.Items.{Items-counted, Ready, most, Bads-in-form, Bad-stands, bad-end}
+use Rattle.bounds.specs.Items.{Ready, most, Bads-in-form, Bad-stands, bad-end}
 use Rattle.bounds.proofs.Held.{highest-same}
 use Rattle.bounds.proofs.BadRows.{bad-inside, met-item, met-over}
 use Rattle.bounds.proofs.Repeated.{Walked, walked-start, walked-row, walked-inside, walked-stands, walked-next}

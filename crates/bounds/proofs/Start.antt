@@ -4,24 +4,23 @@ use native.Mathlib.Decide.{ℕ-discrete}
 use native.Mathlib.Omega.{arith}
 use mathlib.Core.Path.{_≡_, refl, sym, _∙_, ap}
 use mathlib.Core.Bool.{Bool, true, false}
-use mathlib.Core.Logic.{inl, inr, ⊎-elim}
+use mathlib.Core.Logic.{inr, ⊎-elim}
 use mathlib.Core.List.{List}
 use lib.ListN.{getD}
 use borrow.Author.Tests.{eq-eqb, ne-eqb}
 use Rattle.model.specs.declared.Sizes.{Sizes}
 use Rattle.model.specs.declared.Verdict.the-variants.{Safe, Start}
-use Rattle.model.specs.Limits.{omega-limit}
 use Rattle.model.specs.Index.{any}
 use Rattle.model.specs.Verdict.{unless}
 use Rattle.model.specs.Message.{bounds-at}
 use Rattle.model.specs.Rows.{Program, program, size}
 use Rattle.model.specs.Heads.{start}
 use Rattle.model.specs.Tables.{Tables, tables, state, state-index}
-use Rattle.model.specs.Markings.{Marking, initial}
-use Rattle.model.specs.Bounds.{Bound, Bounds, bounds, under, under-some, start-check}
+use Rattle.model.specs.Markings.{initial}
+use Rattle.model.specs.Bounds.{Bound, bounds, under, under-some, start-check}
 use Rattle.model.specs.Verify.{answer}
-use Rattle.model.proofs.Logic.{true-false, test}
-use Rattle.model.proofs.Index.{any-hit, any-miss, any-end}
+use Rattle.model.proofs.Logic.{test}
+use Rattle.model.proofs.Index.{any-hit, any-miss}
 use Rattle.model.proofs.Bounded.Under.{under-iff}
 use Rattle.bounds.specs.Limits.{cell, Limits-table}
 

@@ -1,12 +1,12 @@
 -- A step of the counts, one counter at a time: what the code computes is what the rule does.
-use Prim.Native.Nat.{ℕ, zero, suc, _+_, _-_, _≤_, _<_}
+use Prim.Native.Nat.{ℕ, zero, suc, _+_, _-_, _≤_}
 use native.Mathlib.Omega.{arith}
-use mathlib.Core.Path.{_≡_, refl, sym, _∙_, ap}
+use mathlib.Core.Path.{_≡_, refl, sym, _∙_}
 use mathlib.Core.Bool.{Bool, true, false, not, _&&_, _||_}
 use lib.Dec.{leb, eqb}
 use borrow.Author.Tests.{eq-eqb, ne-eqb, le-leb, lt-leb}
 use Rattle.model.specs.Limits.{omega-limit}
-use Rattle.model.specs.Rules.{Effect, quiet, reads, puts, starts, Rule, rule}
+use Rattle.model.specs.Rules.{rule}
 use Rattle.model.specs.Markings.{Marking, readable, usable, taking, adding, effect-taken, effect-added, fire}
 use Rattle.model.specs.Bounds.{Bound, highest}
 use Rattle.model.proofs.Logic.{true-false, test}

@@ -1,9 +1,9 @@
 -- A step from the highest counts of a ceiling comes under another ceiling exactly where it does at a few counters: those that the step names, and the
 -- first three at which the highest counts exceed before it. A step takes from two counters at most, so of three one exceeds after it too.
-use Prim.Native.Nat.{ℕ, zero, suc, _+_, _*_, _-_, _≤_, _<_}
+use Prim.Native.Nat.{ℕ, suc, _+_, _≤_, _<_}
 use native.Mathlib.Decide.{ℕ-discrete}
 use native.Mathlib.Omega.{arith}
-use mathlib.Core.Path.{_≡_, refl, sym, _∙_, ap, subst}
+use mathlib.Core.Path.{_≡_, _∙_, ap, subst}
 use mathlib.Core.Bool.{Bool, true, false, not}
 use mathlib.Core.Logic.{_⊎_, inl, inr, ⊎-elim}
 use mathlib.Core.List.{List}
@@ -11,12 +11,11 @@ use lib.Dec.{leb, eqb}
 use borrow.Author.Tests.{leb-true, le-leb, not-true, not-false}
 use Rattle.model.specs.Limits.{omega-limit}
 use Rattle.model.specs.Index.{first}
-use Rattle.model.specs.Markings.{Marking, fire}
+use Rattle.model.specs.Markings.{Marking}
 use Rattle.model.specs.Bounds.{allowed, highest}
-use Rattle.model.proofs.Logic.{true-false, test, or-cases, or-left, or-right, not-passes}
-use Rattle.model.proofs.Index.{First, first-is, first-below}
+use Rattle.model.proofs.Logic.{true-false, test, or-cases, or-left, or-right}
+use Rattle.model.proofs.Index.{first-is, first-below}
 use Rattle.bounds.specs.declared.Step.{Step}
-use Rattle.bounds.specs.Steps.{rule-of-step, Step-within}
 use Rattle.bounds.specs.Pairs.{row, exceeds, exceeding, passes}
 use Rattle.bounds.proofs.Steps.{fire-untouched, fire-kept}
 

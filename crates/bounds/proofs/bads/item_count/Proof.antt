@@ -4,31 +4,22 @@ use Rattle.bounds.proofs.Meeting.{item-room, count-known, count-none}
 use borrow.Author.Needs.{needs}
 use Rattle.bounds.proofs.bads.item_count.Statement.{statement}
 use Rattle.bounds.proofs.bads.item_count.Tie as tie
-use Rattle.bounds.proofs.bads.item_count.Reads as reads
-use Rattle.bounds.proofs.bads.item_count.Lts as lts
-use Rattle.bounds.proofs.limits.highest.Reads as highest-reads
 
--- src/bads.rt:55:13
 mul-x : tie.Need-mul-x
 mul-x c = let p = c .before .before .before .pre in let h = item-room _ _ _ _ _ (p .0) _ (p .1 .1) in search needs
 
--- src/bads.rt:55:13
 shared-slice-read-x : tie.Need-shared-slice-read-x
 shared-slice-read-x c = let p = c .before .before .before .before .pre in item-room _ _ _ _ _ (p .0) _ (p .1 .1)
 
--- src/bads.rt:55:13
 cast-x : tie.Need-cast-x
 cast-x c = omega (arith, c .shared-slice-known4 .given (c .before .before .before .before .args .r))
 
--- src/bads.rt:56:16
 highest-requires : tie.Need-highest-requires
 highest-requires c κs = search needs
 
--- src/bads.rt:50:1
 returns : tie.Need-returns
 returns c = let a = c .before .before .before .before .before .before .args in let p = c .before .before .before .before .before .before .pre in count-known (a .ws .now) (a .s) (a .n) (a .k) _ _ (p .0) (p .1 .0) (a .r) _ (p .1 .1) refl _ (search needs) (c .highest .ensures .0)
 
--- src/bads.rt:50:1
 returns-2 : tie.Need-returns-2
 returns-2 c = let a = c .before .before .before .before .before .args in let p = c .before .before .before .before .before .pre in count-none (a .ws .now) (a .s) (a .n) (a .k) _ _ (p .0) (p .1 .0) (a .r) _ (p .1 .1) refl (search needs)
 

@@ -1,5 +1,5 @@
 -- The loop's invariant: the bad is met exactly where its items from row i on are.
-use Prim.Native.Nat.{_+_, _-_, _≤_, _<_}
+use Prim.Native.Nat.{_+_, _-_, _≤_}
 use mathlib.Core.Path.{_≡_, refl, sym, _∙_}
 use borrow.Author.Needs.{needs}
 use Rattle.model.specs.Bads.{bad-rows, met}
@@ -8,11 +8,6 @@ use Rattle.bounds.proofs.BadRows.{bad-inside}
 use Rattle.bounds.proofs.Meeting.{meets-end, meets-not, meets-next}
 use Rattle.bounds.proofs.bads.meets.Statement.{statement}
 use Rattle.bounds.proofs.bads.meets.Tie as tie
-use Rattle.bounds.proofs.bads.meets.Reads as reads
-use Rattle.bounds.proofs.bads.meets.Lts as lts
-use Rattle.bounds.proofs.bads.bad_number.Reads as bad-number-reads
-use Rattle.bounds.proofs.bads.bad_tag.Reads as bad-tag-reads
-use Rattle.bounds.proofs.bads.item_count.Reads as item-count-reads
 
 abbrev Inv-loop : tie.InvT-loop
 Inv-loop ws s n limits items k r i₀ i = (met (most ws s n k) (bad-rows ws s) r ≡ met (most ws s n k) (bad-rows ws s) i) × (i ≤ s .conditions + 3)
@@ -20,43 +15,33 @@ Inv-loop ws s n limits items k r i₀ i = (met (most ws s n k) (bad-rows ws s) r
 abbrev μ-loop : tie.MeasureT-loop
 μ-loop ws s n limits items k r i₀ i = s .conditions + 3 - i
 
--- src/bads.rt:66:5
 loop-holds : tie.Need-loop-holds Inv-loop μ-loop
 loop-holds c = (refl, search needs)
 
--- src/bads.rt:67:12
 bad-tag-requires : tie.Need-bad-tag-requires Inv-loop μ-loop
 bad-tag-requires c κs = search needs
 
--- src/bads.rt:68:13
 returns : tie.Need-returns Inv-loop μ-loop
 returns c = let a = c .before .before .before .before .before .before .args in meets-end (a .ws .now) (a .s) (a .n) (a .k) _ _ _ (c .before .before .loop .inv .0) (c .before .bad-tag .ensures) (c .if1 .taken)
 
--- src/bads.rt:70:39
 add-bad-number : tie.Need-add-bad-number Inv-loop μ-loop
 add-bad-number c = search needs
 
--- src/bads.rt:70:13
 bad-number-requires : tie.Need-bad-number-requires Inv-loop μ-loop
 bad-number-requires c κs = search needs
 
--- src/bads.rt:71:12
 item-count-requires : tie.Need-item-count-requires Inv-loop μ-loop
 item-count-requires c κs = let p = c .before .before .before .before .before .before .before .pre in (p .0, (search needs, sym (c .before .before .bad-tag .ensures) ∙ c .before .if1 .left))
 
--- src/bads.rt:72:13
 returns-2 : tie.Need-returns-2 Inv-loop μ-loop
 returns-2 c = let a = c .before .before .before .before .before .before .before .before .before .args in meets-not (a .ws .now) (a .s) (a .n) (a .k) _ _ _ (c .before .before .before .before .before .loop .inv .0) (c .before .before .before .before .bad-tag .ensures) (c .before .before .before .if1 .left) _ _ (c .before .before .bad-number .ensures) (c .before .item-count .ensures) (search needs)
 
--- src/bads.rt:74:9
 add-i : tie.Need-add-i Inv-loop μ-loop
 add-i c = search needs
 
--- src/bads.rt:66:5
 loop-less : tie.Need-loop-less Inv-loop μ-loop
 loop-less c = let h = bad-inside _ _ _ (sym (c .before .before .before .before .bad-tag .ensures) ∙ c .before .before .before .if1 .left) in search needs
 
--- src/bads.rt:66:5
 loop-again : tie.Need-loop-again Inv-loop μ-loop
 loop-again c =
     let a = c .before .before .before .before .before .before .before .before .before .args in

@@ -1,6 +1,6 @@
 -- The loop's invariant: the first bad allowed is the first of those from bad j on, which stand from row r.
 use Prim.Native.Nat.{_-_, _≤_}
-use mathlib.Core.Path.{_≡_, refl, sym, _∙_}
+use mathlib.Core.Path.{_≡_, refl, _∙_}
 use borrow.Author.Needs.{needs}
 use Rattle.model.specs.Message.{bads-at}
 use Rattle.model.specs.Index.{first}
@@ -8,10 +8,6 @@ use Rattle.model.proofs.Index.{first-hit, first-miss, first-end}
 use Rattle.bounds.proofs.Meeting.{Bads-walked, bads-start, bads-stand, bads-next, bads-inside, bad-here, bad-at, met-refused, met-safe}
 use Rattle.bounds.proofs.bads.met_check.Statement.{statement}
 use Rattle.bounds.proofs.bads.met_check.Tie as tie
-use Rattle.bounds.proofs.bads.met_check.Reads as reads
-use Rattle.bounds.proofs.bads.met_check.Lts as lts
-use Rattle.bounds.proofs.bads.next_bad.Reads as next-bad-reads
-use Rattle.bounds.proofs.bads.some_allows.Reads as some-allows-reads
 
 abbrev Inv-loop : tie.InvT-loop
 Inv-loop ws s n limits items at r₀ j₀ j-end r j = (first 0 (s .bads) (bad-here ws s n) ≡ first j (s .bads) (bad-here ws s n)) × Bads-walked ws s n j r × (j ≤ s .bads)
@@ -19,31 +15,24 @@ Inv-loop ws s n limits items at r₀ j₀ j-end r j = (first 0 (s .bads) (bad-he
 abbrev μ-loop : tie.MeasureT-loop
 μ-loop ws s n limits items at r₀ j₀ j-end r j = s .bads - j
 
--- src/bads.rt:98:18
 mul-at : tie.Need-mul-at Inv-loop μ-loop
 mul-at c = search needs
 
--- src/bads.rt:98:14
 add-at : tie.Need-add-at Inv-loop μ-loop
 add-at c = search needs
 
--- src/bads.rt:98:14
 add-at-2 : tie.Need-add-at-2 Inv-loop μ-loop
 add-at-2 c = search needs
 
--- src/bads.rt:100:5
 loop-holds : tie.Need-loop-holds Inv-loop μ-loop
 loop-holds c = let a = c .before .before .before .before .args in (refl, bads-start (a .ws .now) (a .s) (a .n) (c .before .before .before .before .pre .1), search needs)
 
--- src/bads.rt:101:20
 add-here : tie.Need-add-here Inv-loop μ-loop
 add-here c = let a = c .before .before .before .before .before .before .args in let h = bads-inside (a .ws .now) (a .s) (a .n) _ _ (c .before .loop .inv .1) in search needs
 
--- src/bads.rt:102:12
 some-allows-requires : tie.Need-some-allows-requires Inv-loop μ-loop
 some-allows-requires c κs = let a = c .before .before .before .before .before .before .args in (c .before .before .before .before .before .before .pre .0, bads-inside (a .ws .now) (a .s) (a .n) _ _ (c .before .loop .inv .1))
 
--- src/bads.rt:103:13
 returns : tie.Need-returns Inv-loop μ-loop
 unfolding bads-at
 returns c =
@@ -51,26 +40,21 @@ returns c =
     let h = c .before .before .before .loop in
     met-refused (a .ws .now) (a .s) (a .n) _ _ _ (h .inv .1) (search needs) (h .inv .0 ∙ first-hit _ _ _ (search needs) (bad-at _ _ _ _ _ _ (h .inv .1) (c .before .some-allows .ensures) ∙ c .if1 .taken)) refl
 
--- src/bads.rt:105:9
 next-bad-requires : tie.Need-next-bad-requires Inv-loop μ-loop
 next-bad-requires c κs = let a = c .before .before .before .before .before .before .before .before .args in let w = c .before .before .before .loop .inv .1 in (search needs, (bads-inside (a .ws .now) (a .s) (a .n) _ _ w, bads-stand (a .ws .now) (a .s) (a .n) _ _ w (search needs)))
 
--- src/bads.rt:100:9
 add-j : tie.Need-add-j Inv-loop μ-loop
 add-j c = search needs
 
--- src/bads.rt:100:5
 loop-less : tie.Need-loop-less Inv-loop μ-loop
 loop-less c = search needs
 
--- src/bads.rt:100:5
 loop-again : tie.Need-loop-again Inv-loop μ-loop
 loop-again c =
     let a = c .before .before .before .before .before .before .before .before .before .args in
     let h = c .before .before .before .before .loop in
     (h .inv .0 ∙ first-miss _ _ _ (search needs) (bad-at _ _ _ _ _ _ (h .inv .1) (c .before .before .some-allows .ensures) ∙ c .before .if1 .left), bads-next (a .ws .now) (a .s) (a .n) _ _ _ (h .inv .1) (search needs) (c .next-bad .ensures), search needs)
 
--- src/bads.rt:93:1
 returns-2 : tie.Need-returns-2 Inv-loop μ-loop
 returns-2 c = let h = c .before .loop in met-safe _ _ _ _ (search needs) (h .inv .0 ∙ first-end _ _ _ (search needs))
 

@@ -10,9 +10,6 @@ use Rattle.bounds.specs.Items.{bad-end}
 use Rattle.bounds.proofs.BadRows.{bad-first, bad-next, bad-last, bad-inside}
 use Rattle.bounds.proofs.bads.next_bad.Statement.{statement}
 use Rattle.bounds.proofs.bads.next_bad.Tie as tie
-use Rattle.bounds.proofs.bads.next_bad.Reads as reads
-use Rattle.bounds.proofs.bads.next_bad.Lts as lts
-use Rattle.bounds.proofs.bads.bad_tag.Reads as bad-tag-reads
 
 abbrev Inv-loop : tie.InvT-loop
 Inv-loop ws s r i₀ i = ((m : ℕ) × (read (bad-step (program ws s)) (bad-rows ws s) m (further ∷ []) i ≡ past (bad-end (program ws s) (bad-rows ws s) r))) × (i ≤ s .conditions + 3)
@@ -20,27 +17,21 @@ Inv-loop ws s r i₀ i = ((m : ℕ) × (read (bad-step (program ws s)) (bad-rows
 abbrev μ-loop : tie.MeasureT-loop
 μ-loop ws s r i₀ i = s .conditions + 3 - i
 
--- src/bads.rt:40:17
 add-i : tie.Need-add-i Inv-loop μ-loop
 add-i c = search needs
 
--- src/bads.rt:41:5
 loop-holds : tie.Need-loop-holds Inv-loop μ-loop
 loop-holds c = (bad-first _ _ _ _ _ (c .before .pre .1 .1), search needs)
 
--- src/bads.rt:42:12
 bad-tag-requires : tie.Need-bad-tag-requires Inv-loop μ-loop
 bad-tag-requires c κs = search needs
 
--- src/bads.rt:43:20
 add-result : tie.Need-add-result Inv-loop μ-loop
 add-result c = search needs
 
--- src/bads.rt:43:13
 returns : tie.Need-returns Inv-loop μ-loop
 returns c = sym (bad-last _ _ _ _ _ (c .before .before .loop .inv .0 .1) (λ z. c .if1 .taken (c .before .bad-tag .ensures ∙ z)))
 
--- src/bads.rt:45:9
 add-i-2 : tie.Need-add-i-2 Inv-loop μ-loop
 add-i-2 c = search needs
 
@@ -51,7 +42,6 @@ inside c = bad-inside _ _ _ (sym (c .before .bad-tag .ensures) ∙ c .if1 .left)
 loop-less : tie.Need-loop-less Inv-loop μ-loop
 loop-less c = let h = inside c in search needs
 
--- src/bads.rt:41:5
 loop-again : tie.Need-loop-again Inv-loop μ-loop
 loop-again c = let h = inside c in (bad-next _ _ _ _ _ (c .before .before .loop .inv .0 .1) (sym (c .before .bad-tag .ensures) ∙ c .if1 .left), search needs)
 

@@ -7,9 +7,6 @@ use Rattle.model.proofs.Index.{any-hit, any-miss, any-end}
 use Rattle.bounds.proofs.Meeting.{allows, allows-some}
 use Rattle.bounds.proofs.bads.some_allows.Statement.{statement}
 use Rattle.bounds.proofs.bads.some_allows.Tie as tie
-use Rattle.bounds.proofs.bads.some_allows.Reads as reads
-use Rattle.bounds.proofs.bads.some_allows.Lts as lts
-use Rattle.bounds.proofs.bads.meets.Reads as meets-reads
 
 abbrev Inv-loop : tie.InvT-loop
 Inv-loop ws s n limits items r k₀ k-end k = (any 0 (s .bounds) (allows ws s n r) ≡ any k (s .bounds) (allows ws s n r)) × (k ≤ s .bounds)
@@ -17,31 +14,24 @@ Inv-loop ws s n limits items r k₀ k-end k = (any 0 (s .bounds) (allows ws s n 
 abbrev μ-loop : tie.MeasureT-loop
 μ-loop ws s n limits items r k₀ k-end k = s .bounds - k
 
--- src/bads.rt:84:5
 loop-holds : tie.Need-loop-holds Inv-loop μ-loop
 loop-holds c = (refl, search needs)
 
--- src/bads.rt:85:12
 meets-requires : tie.Need-meets-requires Inv-loop μ-loop
 meets-requires c κs = search needs
 
--- src/bads.rt:86:13
 returns : tie.Need-returns Inv-loop μ-loop
 returns c = let a = c .before .before .before .before .before .before .before .args in allows-some (a .ws .now) (a .s) (a .n) _ _ (c .before .before .before .loop .inv .0 ∙ any-hit _ _ _ (search needs) (sym (c .before .meets .ensures) ∙ c .if1 .taken))
 
--- src/bads.rt:84:9
 add-k : tie.Need-add-k Inv-loop μ-loop
 add-k c = search needs
 
--- src/bads.rt:84:5
 loop-less : tie.Need-loop-less Inv-loop μ-loop
 loop-less c = search needs
 
--- src/bads.rt:84:5
 loop-again : tie.Need-loop-again Inv-loop μ-loop
 loop-again c = (c .before .before .before .loop .inv .0 ∙ any-miss _ _ _ (search needs) (sym (c .before .meets .ensures) ∙ c .if1 .left), search needs)
 
--- src/bads.rt:79:1
 returns-2 : tie.Need-returns-2 Inv-loop μ-loop
 returns-2 c = let a = c .before .before .before .before .before .args in allows-some (a .ws .now) (a .s) (a .n) _ _ (c .before .loop .inv .0 ∙ any-end _ _ _ (search needs))
 

@@ -1,6 +1,6 @@
 use Prim.Native.Nat.{_-_, _≤_}
 use native.Mathlib.Omega.{arith}
-use mathlib.Core.Path.{_≡_, refl, sym, _∙_}
+use mathlib.Core.Path.{_≡_, sym, _∙_}
 use mathlib.Core.Logic.{⊎-elim}
 use borrow.Author.Tests.{not-true, not-false}
 use borrow.Author.Needs.{needs}
@@ -8,12 +8,6 @@ use Rattle.model.specs.Message.{bounds-at}
 use Rattle.bounds.proofs.Reading.{in-ceiling-below, wrong-from, wrong-behind, wrong-none, refused, passed, stop-early, stop-open, stop-wrong, turn-closed, turn-next}
 use Rattle.bounds.proofs.entries.bound_check.Statement.{statement}
 use Rattle.bounds.proofs.entries.bound_check.Tie as tie
-use Rattle.bounds.proofs.entries.bound_check.Reads as reads
-use Rattle.bounds.proofs.entries.bound_check.Lts as lts
-use Rattle.bounds.proofs.entries.bounds_at.Reads as bounds-at-reads
-use Rattle.bounds.proofs.entries.counter_at.Reads as counter-at-reads
-use Rattle.bounds.proofs.entries.in_ceiling.Reads as in-ceiling-reads
-use Rattle.bounds.proofs.entries.limit_at.Reads as limit-at-reads
 
 abbrev Inv-loop : tie.InvT-loop
 Inv-loop ws s n at least₀ closed₀ e₀ e-end least closed e = (wrong-from ws s n 0 0 (s .bounds) ≡ wrong-from ws s n e least (s .bounds - closed)) × (closed ≤ s .bounds) × (e ≤ s .limits)
@@ -21,65 +15,50 @@ Inv-loop ws s n at least₀ closed₀ e₀ e-end least closed e = (wrong-from ws
 abbrev μ-loop : tie.MeasureT-loop
 μ-loop ws s n at least₀ closed₀ e₀ e-end least closed e = s .limits - e
 
--- src/entries.rt:60:14
 bounds-at-requires : tie.Need-bounds-at-requires Inv-loop μ-loop
 bounds-at-requires c κs = search needs
 
--- src/entries.rt:60:14
 add-at : tie.Need-add-at Inv-loop μ-loop
 unfolding bounds-at
 add-at c = search needs
 
--- src/entries.rt:63:5
 loop-holds : tie.Need-loop-holds Inv-loop μ-loop
 loop-holds c = (let z : c .before .before .args .s .bounds - 0 ≡ c .before .before .args .s .bounds = omega arith in rw z, search needs, search needs)
 
--- src/entries.rt:64:20
 add-here : tie.Need-add-here Inv-loop μ-loop
 unfolding bounds-at
 add-here c = search needs
 
--- src/entries.rt:66:13
 returns : tie.Need-returns Inv-loop μ-loop
 returns c = let h = c .before .before .before .loop in refused _ _ _ _ _ (h .inv .0 ∙ wrong-behind _ _ _ _ (h .least) _ (search needs) (search needs)) (search needs)
 
--- src/entries.rt:68:13
 counter-at-requires : tie.Need-counter-at-requires Inv-loop μ-loop
 counter-at-requires c κs = search needs
 
--- src/entries.rt:69:13
 limit-at-requires : tie.Need-limit-at-requires Inv-loop μ-loop
 limit-at-requires c κs = search needs
 
--- src/entries.rt:72:17
 returns-2 : tie.Need-returns-2 Inv-loop μ-loop
 returns-2 c = let h = c .before .before .before .before .before .before .before .loop in refused _ _ _ _ _ (h .inv .0 ∙ stop-open _ _ _ _ _ _ (search needs) _ _ (search needs) (c .before .before .before .counter-at .ensures) (c .before .before .limit-at .ensures) (search needs) (search needs)) (search needs)
 
--- src/entries.rt:74:13
 add-closed : tie.Need-add-closed Inv-loop μ-loop
 add-closed c = search needs
 
--- src/entries.rt:77:17
 in-ceiling-requires : tie.Need-in-ceiling-requires Inv-loop μ-loop
 in-ceiling-requires c κs = search needs
 
--- src/entries.rt:78:17
 returns-3 : tie.Need-returns-3 Inv-loop μ-loop
 returns-3 c = let h = c .before .before .before .before .before .before .before .before .loop in refused _ _ _ _ _ (h .inv .0 ∙ stop-wrong _ _ _ _ _ _ (search needs) _ _ (search needs) (c .before .before .before .before .counter-at .ensures) (c .before .before .before .limit-at .ensures) (search needs) (sym (c .before .in-ceiling .ensures) ∙ not-true _ (c .if4 .taken))) (search needs)
 
--- src/entries.rt:80:21
 add-least : tie.Need-add-least Inv-loop μ-loop
 add-least c = let b = in-ceiling-below _ _ _ _ (sym (c .before .in-ceiling .ensures) ∙ not-false _ (c .if4 .left)) in search needs
 
--- src/entries.rt:63:9
 add-e : tie.Need-add-e Inv-loop μ-loop
 add-e c = search needs
 
--- src/entries.rt:63:5
 loop-less : tie.Need-loop-less Inv-loop μ-loop
 loop-less c = search needs
 
--- src/entries.rt:63:5
 loop-again : tie.Need-loop-again Inv-loop μ-loop
 loop-again c =
     let h = c .before .before .before .before .before .before .loop in
@@ -89,16 +68,13 @@ loop-again c =
     (λ w. (rw (w .2, w .3) (h .inv .0 ∙ turn-closed _ _ _ _ _ _ (search needs) _ _ (search needs) x l (search needs) (search needs)), search needs, search needs))
     (λ w. (rw (w .3, w .4) (h .inv .0 ∙ turn-next _ _ _ _ _ _ (search needs) _ _ (search needs) x l (search needs) (sym (w .1 .ensures) ∙ not-false _ (w .2 .left))), search needs, search needs)) (c .if2 .came)
 
--- src/entries.rt:83:15
 add-end : tie.Need-add-end Inv-loop μ-loop
 unfolding bounds-at
 add-end c = search needs
 
--- src/entries.rt:85:9
 returns-4 : tie.Need-returns-4 Inv-loop μ-loop
 returns-4 c = let h = c .before .before .before .before .loop in refused _ _ _ _ _ (h .inv .0 ∙ stop-early _ _ _ _ _ _ (search needs) (search needs)) (search needs)
 
--- src/entries.rt:55:1
 returns-5 : tie.Need-returns-5 Inv-loop μ-loop
 returns-5 c = let h = c .before .before .before .before .loop in passed _ _ _ (h .inv .0 ∙ wrong-none _ _ _ _ _ _ (search needs) (search needs))
 

@@ -2,34 +2,25 @@ use borrow.Author.Needs.{needs}
 use Rattle.model.specs.Message.{bounds-at}
 use Rattle.bounds.proofs.entries.bounds_at.Statement.{statement}
 use Rattle.bounds.proofs.entries.bounds_at.Tie as tie
-use Rattle.bounds.proofs.entries.bounds_at.Reads as reads
-use Rattle.bounds.proofs.entries.bounds_at.Lts as lts
 
--- src/entries.rt:28:14
 add-result : tie.Need-add-result
 add-result c = search needs
 
--- src/entries.rt:28:14
 add-result-2 : tie.Need-add-result-2
 add-result-2 c = search needs
 
--- src/entries.rt:28:14
 add-result-3 : tie.Need-add-result-3
 add-result-3 c = search needs
 
--- src/entries.rt:28:14
 add-result-4 : tie.Need-add-result-4
 add-result-4 c = search needs
 
--- src/entries.rt:28:9
 mul-result : tie.Need-mul-result
 mul-result c = search needs
 
--- src/entries.rt:28:5
 add-result-5 : tie.Need-add-result-5
 add-result-5 c = search needs
 
--- src/entries.rt:24:1
 returns : tie.Need-returns
 unfolding bounds-at
 returns c = search needs

@@ -2,26 +2,19 @@ use borrow.Author.Needs.{needs}
 use Rattle.program.proofs.Columns.{part-at, part-past}
 use Rattle.bounds.proofs.entries.column.Statement.{statement}
 use Rattle.bounds.proofs.entries.column.Tie as tie
-use Rattle.bounds.proofs.entries.column.Reads as reads
-use Rattle.bounds.proofs.entries.column.Lts as lts
 
--- src/entries.rt:20:19
 add-result : tie.Need-add-result
 add-result c = search needs
 
--- src/entries.rt:20:16
 mul-result : tie.Need-mul-result
 mul-result c = search needs
 
--- src/entries.rt:20:16
 shared-slice-read-result : tie.Need-shared-slice-read-result
 shared-slice-read-result c = search needs
 
--- src/entries.rt:16:1
 returns : tie.Need-returns
 returns c = let a = c .before .before .args in part-at (a .ws .now) (a .n) (a .at) (a .i) (search needs)
 
--- src/entries.rt:16:1
 returns-2 : tie.Need-returns-2
 returns-2 c = let a = c .before .args in part-past (a .ws .now) (a .n) (a .at) (a .i) (search needs)
 

@@ -4,30 +4,21 @@ use Rattle.model.specs.Message.{bounds-at, end-at}
 use Rattle.model.specs.Bounds.{bound-entries}
 use Rattle.bounds.proofs.entries.counter_at.Statement.{statement}
 use Rattle.bounds.proofs.entries.counter_at.Tie as tie
-use Rattle.bounds.proofs.entries.counter_at.Reads as reads
-use Rattle.bounds.proofs.entries.counter_at.Lts as lts
-use Rattle.bounds.proofs.entries.bounds_at.Reads as bounds-at-reads
-use Rattle.bounds.proofs.entries.column.Reads as column-reads
 
--- src/entries.rt:36:26
 bounds-at-requires : tie.Need-bounds-at-requires
 bounds-at-requires c κs = search needs
 
--- src/entries.rt:36:26
 add-column : tie.Need-add-column
 unfolding bounds-at
 add-column c = search needs
 
--- src/entries.rt:36:5
 column-requires : tie.Need-column-requires
 unfolding end-at bounds-at
 column-requires c κs = search needs
 
--- src/entries.rt:36:5
 cast-result : tie.Need-cast-result
 cast-result c = search needs
 
--- src/entries.rt:32:1
 returns : tie.Need-returns
 unfolding bound-entries left columns
 returns c = rw (← c .before .bounds-at .ensures) (c .column .ensures)

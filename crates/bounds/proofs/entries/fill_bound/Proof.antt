@@ -8,10 +8,6 @@ use Rattle.bounds.proofs.Filling.{Filling, filling-start, filling-insid
 use Rattle.bounds.proofs.Ceilings.{entries-size}
 use Rattle.bounds.proofs.entries.fill_bound.Statement.{statement}
 use Rattle.bounds.proofs.entries.fill_bound.Tie as tie
-use Rattle.bounds.proofs.entries.fill_bound.Reads as reads
-use Rattle.bounds.proofs.entries.fill_bound.Lts as lts
-use Rattle.bounds.proofs.entries.counter_at.Reads as counter-at-reads
-use Rattle.bounds.proofs.entries.limit_at.Reads as limit-at-reads
 
 abbrev Inv-loop : tie.InvT-loop
 Inv-loop ws s n k e limits₀ i₀ limits i = Filling n (bound-entries ws s) k e i limits₀ limits
@@ -32,51 +28,39 @@ small c =
 loop-holds : tie.Need-loop-holds Inv-loop μ-loop
 loop-holds c = filling-start _ _ _ _ _ (search needs) (c .before .before .pre .1 .1 .0) (c .before .before .pre .1 .1 .1 .0)
 
--- src/entries.rt:108:13
 counter-at-requires : tie.Need-counter-at-requires Inv-loop μ-loop
 counter-at-requires c κs = search needs
 
--- src/entries.rt:110:20
 add-result : tie.Need-add-result Inv-loop μ-loop
 add-result c = let h = inside (c .before .before) in search needs
 
--- src/entries.rt:110:13
 same-length : tie.Need-same-length Inv-loop μ-loop
 same-length c = c .before .before .loop .inv .long
 
--- src/entries.rt:110:13
 returns : tie.Need-returns Inv-loop μ-loop
 returns c = let (a, b) = filling-end _ _ _ _ _ _ _ (c .before .before .loop .inv) (sym (c .before .counter-at .ensures) ∙ c .if1 .taken) in (sym a, b)
 
--- src/entries.rt:112:18
 mul-at : tie.Need-mul-at Inv-loop μ-loop
 mul-at c = search needs
 
--- src/entries.rt:112:18
 add-at : tie.Need-add-at Inv-loop μ-loop
 add-at c = let h = small c in search needs
 
--- src/entries.rt:113:22
 limit-at-requires : tie.Need-limit-at-requires Inv-loop μ-loop
 limit-at-requires c κs = search needs
 
--- src/entries.rt:113:9
 mul-limits : tie.Need-mul-limits Inv-loop μ-loop
 mul-limits c = let h = small (c .before) in search needs
 
--- src/entries.rt:113:9
 slice-write-limits : tie.Need-slice-write-limits Inv-loop μ-loop
 slice-write-limits c = let h = small (c .before) in omega (arith, c .before .before .before .loop .inv .long)
 
--- src/entries.rt:114:9
 add-i : tie.Need-add-i Inv-loop μ-loop
 add-i c = let h = inside (c .before .before .before) in search needs
 
--- src/entries.rt:107:5
 loop-less : tie.Need-loop-less Inv-loop μ-loop
 loop-less c = let h = inside (c .before .before .before) in search needs
 
--- src/entries.rt:107:5
 loop-again : tie.Need-loop-again Inv-loop μ-loop
 loop-again c =
     let h = small (c .before) in

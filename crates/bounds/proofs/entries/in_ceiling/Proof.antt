@@ -2,18 +2,13 @@ use borrow.Author.Needs.{needs}
 use Rattle.bounds.proofs.Reading.{in-ceiling-limit, in-ceiling-counter, in-ceiling-least}
 use Rattle.bounds.proofs.entries.in_ceiling.Statement.{statement}
 use Rattle.bounds.proofs.entries.in_ceiling.Tie as tie
-use Rattle.bounds.proofs.entries.in_ceiling.Reads as reads
-use Rattle.bounds.proofs.entries.in_ceiling.Lts as lts
 
--- src/entries.rt:48:1
 returns : tie.Need-returns
 returns c = in-ceiling-limit _ _ _ _ (search needs) (search needs)
 
--- src/entries.rt:48:1
 returns-2 : tie.Need-returns-2
 returns-2 c = in-ceiling-counter _ _ _ _ (search needs) (search needs)
 
--- src/entries.rt:48:1
 returns-3 : tie.Need-returns-3
 returns-3 c = in-ceiling-least _ _ _ _ (search needs)
 

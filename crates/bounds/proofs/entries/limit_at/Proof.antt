@@ -4,31 +4,22 @@ use Rattle.model.specs.Message.{bounds-at, end-at}
 use Rattle.model.specs.Bounds.{bound-entries}
 use Rattle.bounds.proofs.entries.limit_at.Statement.{statement}
 use Rattle.bounds.proofs.entries.limit_at.Tie as tie
-use Rattle.bounds.proofs.entries.limit_at.Reads as reads
-use Rattle.bounds.proofs.entries.limit_at.Lts as lts
-use Rattle.bounds.proofs.entries.bounds_at.Reads as bounds-at-reads
-use Rattle.bounds.proofs.entries.column.Reads as column-reads
 
--- src/entries.rt:44:26
 bounds-at-requires : tie.Need-bounds-at-requires
 bounds-at-requires c κs = search needs
 
--- src/entries.rt:44:26
 add-column : tie.Need-add-column
 unfolding bounds-at
 add-column c = search needs
 
--- src/entries.rt:44:26
 add-column-2 : tie.Need-add-column-2
 unfolding bounds-at
 add-column-2 c = search needs
 
--- src/entries.rt:44:5
 column-requires : tie.Need-column-requires
 unfolding end-at bounds-at
 column-requires c κs = search needs
 
--- src/entries.rt:40:1
 returns : tie.Need-returns
 unfolding bound-entries right columns
 returns c = rw (← c .before .before .bounds-at .ensures) (c .column .ensures)

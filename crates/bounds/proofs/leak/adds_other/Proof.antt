@@ -1,18 +1,13 @@
-use borrow.Author.Needs.{needs}
 use borrow.Author.Tests.{le-leb, lt-leb}
 use Rattle.bounds.specs.Steps.{adds-other}
 use Rattle.bounds.proofs.Steps.{and-first, and-second}
 use Rattle.bounds.proofs.leak.adds_other.Statement.{statement}
 use Rattle.bounds.proofs.leak.adds_other.Tie as tie
-use Rattle.bounds.proofs.leak.adds_other.Reads as reads
-use Rattle.bounds.proofs.leak.adds_other.Lts as lts
 
--- src/leak.rt:47:1
 returns : tie.Need-returns
 unfolding adds-other
 returns c = and-second _ _ (le-leb _ _ (c .before .if1 .taken))
 
--- src/leak.rt:47:1
 returns-2 : tie.Need-returns-2
 unfolding adds-other
 returns-2 c = and-first _ _ (lt-leb _ _ (c .if1 .left))

@@ -8,17 +8,12 @@ use borrow.Author.Needs.{needs}
 use Rattle.model.specs.Index.{any}
 use Rattle.model.specs.Markings.{usable}
 use Rattle.model.specs.Bounds.{highest}
-use Rattle.model.proofs.Index.{any-hit, any-miss, any-end}
+use Rattle.model.proofs.Index.{any-end}
 use Rattle.bounds.specs.Pairs.{row, passes, suspect, suspects}
 use Rattle.bounds.specs.Steps.{rule-of-step}
 use Rattle.bounds.proofs.Escapes.{covers, passing-next, candidate-fails, candidate-covers, unusable, covered, led-out, within-more}
 use Rattle.bounds.proofs.leak.leads_out.Statement.{statement}
 use Rattle.bounds.proofs.leak.leads_out.Tie as tie
-use Rattle.bounds.proofs.leak.leads_out.Reads as reads
-use Rattle.bounds.proofs.leak.leads_out.Lts as lts
-use Rattle.bounds.proofs.leak.is_usable.Reads as is-usable-reads
-use Rattle.bounds.proofs.leak.passes.Reads as passes-reads
-use Rattle.bounds.proofs.leak.suspect.Reads as suspect-reads
 
 abbrev Inv-loop : tie.InvT-loop
 Inv-loop limits pairs ceilings n k step k2₀ i₀ k2 i = (k2 ≡ k2₀) × (i ≤ suspects) × ((j : ℕ) → j < i → suspect pairs k k2 step j < n → passes limits k k2 step (suspect pairs k k2 step j) ≡ true)
@@ -39,56 +34,44 @@ used c = sym (c .before .is-usable .ensures) ∙ not-false _ (c .if1 .left)
 is-usable-requires : tie.Need-is-usable-requires Inv-loop μ-loop Inv-candidates μ-candidates
 is-usable-requires c κs = (search needs, (within-more _ _ _ (search needs) (c .before .before .pre .1 .0 .1), search needs))
 
--- src/leak.rt:121:9
 returns : tie.Need-returns Inv-loop μ-loop Inv-candidates μ-candidates
 returns c = let a = c .before .before .before .before .args in unusable (a .limits .now) _ (a .k) _ _ (sym (c .before .is-usable .ensures) ∙ not-true _ (c .if1 .taken))
 
--- src/leak.rt:123:5
 candidates-holds : tie.Need-candidates-holds Inv-loop μ-loop Inv-candidates μ-candidates
 candidates-holds c = (refl, search needs)
 
--- src/leak.rt:124:9
 loop-holds : tie.Need-loop-holds Inv-loop μ-loop Inv-candidates μ-candidates
 loop-holds c = (refl, search needs, λ j h. absurd (omega arith))
 
--- src/leak.rt:125:17
 suspect-requires : tie.Need-suspect-requires Inv-loop μ-loop Inv-candidates μ-candidates
 suspect-requires c κs = ((search needs, search needs), (search needs, c .before .before .before .before .before .before .before .before .pre .1 .1 .1 .room))
 
--- src/leak.rt:127:21
 passes-requires : tie.Need-passes-requires Inv-loop μ-loop Inv-candidates μ-candidates
 passes-requires c κs = ((search needs, search needs), ((search needs, c .before .before .before .before .before .before .before .before .before .before .pre .1 .0 .1 .kind), search needs))
 
--- src/leak.rt:128:21
 add-k2 : tie.Need-add-k2 Inv-loop μ-loop Inv-candidates μ-candidates
 add-k2 c = search needs
 
--- src/leak.rt:123:5
 candidates-less : tie.Need-candidates-less Inv-loop μ-loop Inv-candidates μ-candidates
 candidates-less c = search needs
 
--- src/leak.rt:123:5
 candidates-again : tie.Need-candidates-again Inv-loop μ-loop Inv-candidates μ-candidates
 candidates-again c =
     let h = c .before .before .before .before .before .loop in
     let d = c .before .before .before .before .before .before .before .candidates in
     (candidate-fails _ _ _ _ _ _ _ (h .inv .0) (search needs) (d .inv .0) _ (search needs) (sym (c .before .passes .ensures) ∙ not-true _ (c .if3 .taken)), search needs)
 
--- src/leak.rt:124:13
 add-i : tie.Need-add-i Inv-loop μ-loop Inv-candidates μ-candidates
 add-i c = search needs
 
--- src/leak.rt:124:9
 loop-less : tie.Need-loop-less Inv-loop μ-loop Inv-candidates μ-candidates
 loop-less c = search needs
 
--- src/leak.rt:124:9
 loop-again : tie.Need-loop-again Inv-loop μ-loop Inv-candidates μ-candidates
 loop-again c =
     let h = c .before .before .before .loop in
     (h .inv .0, search needs, passing-next _ _ _ _ _ _ _ _ (c .before .suspect .ensures) (⊎-elim (λ w l. sym (w .1 .ensures) ∙ not-false _ (w .2 .left)) (λ w l. absurd (omega arith)) (c .if2 .came)) (h .inv .2))
 
--- src/leak.rt:132:9
 returns-2 : tie.Need-returns-2 Inv-loop μ-loop Inv-candidates μ-candidates
 returns-2 c =
     let a = c .before .before .before .before .before .before .before .before .args in
@@ -96,7 +79,6 @@ returns-2 c =
     let h = c .before .loop in
     covered (a .limits .now) _ (a .k) _ _ (used (c .before .before .before .before)) (candidate-covers _ _ _ _ _ _ _ (h .inv .0) (search needs) (c .before .before .before .candidates .inv .0) _ _ (p .1 .1 .1) (p .1 .0 .1) (search needs) (search needs) (search needs) (h .inv .2))
 
--- src/leak.rt:113:1
 returns-3 : tie.Need-returns-3 Inv-loop μ-loop Inv-candidates μ-candidates
 returns-3 c = let a = c .before .before .before .before .before .before .args in led-out (a .limits .now) _ (a .k) _ _ (used (c .before .before)) (c .before .candidates .inv .0 ∙ any-end _ _ _ (search needs))
 

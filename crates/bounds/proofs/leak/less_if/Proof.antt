@@ -5,22 +5,16 @@ use Rattle.bounds.proofs.Steps.{less-pass, less-fail}
 use borrow.Author.Needs.{needs}
 use Rattle.bounds.proofs.leak.less_if.Statement.{statement}
 use Rattle.bounds.proofs.leak.less_if.Tie as tie
-use Rattle.bounds.proofs.leak.less_if.Reads as reads
-use Rattle.bounds.proofs.leak.less_if.Lts as lts
 
--- src/leak.rt:35:36
 sub-result : tie.Need-sub-result
 sub-result c = search needs
 
--- src/leak.rt:31:1
 returns : tie.Need-returns
 returns c = let z : _≡_ {A = ℕ} 0 (c .before .before .args .count - 1) = omega arith in z ∙ less-pass _ _ (search needs)
 
--- src/leak.rt:31:1
 returns-2 : tie.Need-returns-2
 returns-2 c = less-pass _ _ (search needs)
 
--- src/leak.rt:31:1
 returns-3 : tie.Need-returns-3
 returns-3 c = less-fail _ _ (search needs)
 

@@ -1,18 +1,13 @@
-use borrow.Author.Needs.{needs}
 use borrow.Author.Tests.{eq-eqb, ne-eqb}
 use Rattle.bounds.specs.Steps.{takes-other}
 use Rattle.bounds.proofs.Steps.{and-first, and-second}
 use Rattle.bounds.proofs.leak.takes_other.Statement.{statement}
 use Rattle.bounds.proofs.leak.takes_other.Tie as tie
-use Rattle.bounds.proofs.leak.takes_other.Reads as reads
-use Rattle.bounds.proofs.leak.takes_other.Lts as lts
 
--- src/leak.rt:41:1
 returns : tie.Need-returns
 unfolding takes-other
 returns c = and-second _ _ (eq-eqb _ _ (c .before .if1 .taken))
 
--- src/leak.rt:41:1
 returns-2 : tie.Need-returns-2
 unfolding takes-other
 returns-2 c = and-first _ _ (ne-eqb _ _ (c .if1 .left))

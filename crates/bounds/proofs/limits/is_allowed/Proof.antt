@@ -1,18 +1,13 @@
-use borrow.Author.Needs.{needs}
 use borrow.Author.Tests.{eq-eqb, ne-eqb}
 use Rattle.model.specs.Bounds.{allowed}
 use Rattle.bounds.proofs.Steps.{or-first, or-second}
 use Rattle.bounds.proofs.limits.is_allowed.Statement.{statement}
 use Rattle.bounds.proofs.limits.is_allowed.Tie as tie
-use Rattle.bounds.proofs.limits.is_allowed.Reads as reads
-use Rattle.bounds.proofs.limits.is_allowed.Lts as lts
 
--- src/leak.rt:66:1
 returns : tie.Need-returns
 unfolding allowed
 returns c = or-first _ _ (eq-eqb _ _ (c .if1 .taken))
 
--- src/leak.rt:66:1
 returns-2 : tie.Need-returns-2
 unfolding allowed
 returns-2 c = or-second _ _ (ne-eqb _ _ (c .if1 .left))

@@ -3,30 +3,22 @@ use native.Mathlib.Omega.{arith}
 use borrow.Author.Needs.{needs}
 use Rattle.bounds.proofs.limits.limit.Statement.{statement}
 use Rattle.bounds.proofs.limits.limit.Tie as tie
-use Rattle.bounds.proofs.limits.limit.Reads as reads
-use Rattle.bounds.proofs.limits.limit.Lts as lts
 
--- src/limits.rt:24:14
 mul-at : tie.Need-mul-at
 mul-at c = search needs
 
--- src/limits.rt:24:14
 add-at : tie.Need-add-at
 add-at c = search needs
 
--- src/limits.rt:25:5
 mul-result : tie.Need-mul-result
 mul-result c = search needs
 
--- src/limits.rt:25:5
 shared-slice-read-result : tie.Need-shared-slice-read-result
 shared-slice-read-result c = search needs
 
--- src/limits.rt:25:5
 cast-result : tie.Need-cast-result
 cast-result c = let a = c .before .args in omega (arith, c .shared-slice-known .given (a .k * 512 + a .x))
 
--- src/limits.rt:19:1
 returns : tie.Need-returns
 returns c = let a = c .before .args in (search needs, omega (arith, c .shared-slice-known .given (a .k * 512 + a .x)))
 

@@ -3,91 +3,67 @@ use Rattle.bounds.proofs.PairTable.{pair-filled}
 use borrow.Author.Needs.{needs}
 use Rattle.bounds.proofs.pairs.fill_pair.Statement.{statement}
 use Rattle.bounds.proofs.pairs.fill_pair.Tie as tie
-use Rattle.bounds.proofs.pairs.fill_pair.Reads as reads
-use Rattle.bounds.proofs.pairs.fill_pair.Lts as lts
-use Rattle.bounds.proofs.pairs.next_exceeding.Reads as next-exceeding-reads
 
--- src/pairs.rt:55:9
 next-exceeding-requires : tie.Need-next-exceeding-requires
 next-exceeding-requires c κs = search needs
 
--- src/pairs.rt:56:46
 add-next-exceeding : tie.Need-add-next-exceeding
 add-next-exceeding c = search needs
 
--- src/pairs.rt:56:9
 next-exceeding-requires-2 : tie.Need-next-exceeding-requires-2
 next-exceeding-requires-2 c κs = search needs
 
--- src/pairs.rt:57:46
 add-next-exceeding-2 : tie.Need-add-next-exceeding-2
 add-next-exceeding-2 c = search needs
 
--- src/pairs.rt:57:9
 next-exceeding-requires-3 : tie.Need-next-exceeding-requires-3
 next-exceeding-requires-3 c κs = search needs
 
--- src/pairs.rt:58:15
 mul-at : tie.Need-mul-at
 mul-at c = search needs
 
--- src/pairs.rt:58:15
 add-at : tie.Need-add-at
 add-at c = search needs
 
--- src/pairs.rt:58:14
 mul-at-2 : tie.Need-mul-at-2
 mul-at-2 c = search needs
 
--- src/pairs.rt:59:18
 add-second : tie.Need-add-second
 add-second c = search needs
 
--- src/pairs.rt:60:17
 add-third : tie.Need-add-third
 add-third c = search needs
 
--- src/pairs.rt:61:17
 cast-pairs : tie.Need-cast-pairs
 cast-pairs c = search needs
 
--- src/pairs.rt:61:5
 mul-pairs : tie.Need-mul-pairs
 mul-pairs c = search needs
 
--- src/pairs.rt:61:5
 slice-write-pairs : tie.Need-slice-write-pairs
 slice-write-pairs c = search needs
 
--- src/pairs.rt:62:21
 cast-pairs-2 : tie.Need-cast-pairs-2
 cast-pairs-2 c = search needs
 
--- src/pairs.rt:62:5
 mul-pairs-2 : tie.Need-mul-pairs-2
 mul-pairs-2 c = search needs
 
--- src/pairs.rt:62:5
 slice-write-pairs-2 : tie.Need-slice-write-pairs-2
 slice-write-pairs-2 c = simp length-set (search needs)
 
--- src/pairs.rt:63:20
 cast-pairs-3 : tie.Need-cast-pairs-3
 cast-pairs-3 c = search needs
 
--- src/pairs.rt:63:5
 mul-pairs-3 : tie.Need-mul-pairs-3
 mul-pairs-3 c = search needs
 
--- src/pairs.rt:63:5
 slice-write-pairs-3 : tie.Need-slice-write-pairs-3
 slice-write-pairs-3 c = simp length-set (search needs)
 
--- src/pairs.rt:49:1
 same-length : tie.Need-same-length
 same-length c = search needs
 
--- src/pairs.rt:49:1
 returns : tie.Need-returns
 returns c = pair-filled _ _ _ _ _ _ _ _ _ (search needs) (search needs) (search needs) (search needs) (c .before .before .next-exceeding .ensures .0) (c .before .next-exceeding2 .ensures .0) (c .next-exceeding3 .ensures .0)
 

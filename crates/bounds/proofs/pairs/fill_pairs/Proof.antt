@@ -8,9 +8,6 @@ use Rattle.bounds.specs.Pairs.{pair, Pairs-before}
 use Rattle.bounds.proofs.PairTable.{pairs-none, pairs-next, pairs-row, pairs-all}
 use Rattle.bounds.proofs.pairs.fill_pairs.Statement.{statement}
 use Rattle.bounds.proofs.pairs.fill_pairs.Tie as tie
-use Rattle.bounds.proofs.pairs.fill_pairs.Reads as reads
-use Rattle.bounds.proofs.pairs.fill_pairs.Lts as lts
-use Rattle.bounds.proofs.pairs.fill_pair.Reads as fill-pair-reads
 
 abbrev Inv-loop2 : tie.InvT-loop2
 Inv-loop2 limits ceilings n pairs₀ k k2₀ pairs k2 = Pairs-before ceilings n limits pairs (pair k k2) × (length pairs ≡ length pairs₀) × (k2 ≤ ceilings)
@@ -24,50 +21,39 @@ Inv-loop limits ceilings n pairs₀ k₀ pairs k = Pairs-before ceilings n limit
 abbrev μ-loop : tie.MeasureT-loop
 μ-loop limits ceilings n pairs₀ k₀ pairs k = ceilings - k
 
--- src/pairs.rt:72:5
 loop-holds : tie.Need-loop-holds Inv-loop2 μ-loop2 Inv-loop μ-loop
 loop-holds c = (pairs-none _ _ _ _, refl, search needs)
 
--- src/pairs.rt:73:9
 loop2-holds : tie.Need-loop2-holds Inv-loop2 μ-loop2 Inv-loop μ-loop
 loop2-holds c = (c .before .loop .inv .0, refl, search needs)
 
--- src/pairs.rt:74:13
 fill-pair-requires : tie.Need-fill-pair-requires Inv-loop2 μ-loop2 Inv-loop μ-loop
 fill-pair-requires c κs = ((search needs, search needs), (search needs, (search needs, omega (arith, c .before .before .loop2 .inv .1, c .before .before .before .before .loop .inv .1))))
 
--- src/pairs.rt:73:13
 add-k2 : tie.Need-add-k2 Inv-loop2 μ-loop2 Inv-loop μ-loop
 add-k2 c = search needs
 
--- src/pairs.rt:73:9
 loop2-less : tie.Need-loop2-less Inv-loop2 μ-loop2 Inv-loop μ-loop
 loop2-less c = search needs
 
--- src/pairs.rt:73:9
 loop2-again : tie.Need-loop2-again Inv-loop2 μ-loop2 Inv-loop μ-loop
 loop2-again c =
     let h = c .before .before .before .before .before .loop2 in
     let f = c .before .before .fill-pair in
     (pairs-next _ _ _ _ _ _ _ (search needs) (search needs) (h .inv .0) (f .ensures), f .kept .1 .1 .1 .1 .0 ∙ h .inv .1, search needs)
 
--- src/pairs.rt:72:9
 add-k : tie.Need-add-k Inv-loop2 μ-loop2 Inv-loop μ-loop
 add-k c = search needs
 
--- src/pairs.rt:72:5
 loop-less : tie.Need-loop-less Inv-loop2 μ-loop2 Inv-loop μ-loop
 loop-less c = search needs
 
--- src/pairs.rt:72:5
 loop-again : tie.Need-loop-again Inv-loop2 μ-loop2 Inv-loop μ-loop
 loop-again c = (pairs-row _ _ _ _ _ _ (search needs) (search needs) (c .before .loop2 .inv .0), c .before .loop2 .inv .1 ∙ c .before .before .before .loop .inv .1, search needs)
 
--- src/pairs.rt:67:1
 same-length : tie.Need-same-length Inv-loop2 μ-loop2 Inv-loop μ-loop
 same-length c = search needs
 
--- src/pairs.rt:67:1
 returns : tie.Need-returns Inv-loop2 μ-loop2 Inv-loop μ-loop
 returns c = pairs-all _ _ _ _ _ (search needs) (search needs) (c .before .loop .inv .0)
 

@@ -6,9 +6,6 @@ use Rattle.model.proofs.Index.{first-end, first-hit, first-miss}
 use Rattle.bounds.specs.Pairs.{exceeds}
 use Rattle.bounds.proofs.pairs.next_exceeding.Statement.{statement}
 use Rattle.bounds.proofs.pairs.next_exceeding.Tie as tie
-use Rattle.bounds.proofs.pairs.next_exceeding.Reads as reads
-use Rattle.bounds.proofs.pairs.next_exceeding.Lts as lts
-use Rattle.bounds.proofs.pairs.exceeds.Reads as exceeds-reads
 
 abbrev Inv-loop : tie.InvT-loop
 Inv-loop limits n k k2 low x₀ x = (first low n (exceeds limits k k2) ≡ first x n (exceeds limits k k2)) × (low ≤ x) × (x ≤ low + n)
@@ -16,31 +13,24 @@ Inv-loop limits n k k2 low x₀ x = (first low n (exceeds limits k k2) ≡ first
 abbrev μ-loop : tie.MeasureT-loop
 μ-loop limits n k k2 low x₀ x = n - x
 
--- src/pairs.rt:39:5
 loop-holds : tie.Need-loop-holds Inv-loop μ-loop
 loop-holds c = (refl, search needs, search needs)
 
--- src/pairs.rt:40:12
 exceeds-requires : tie.Need-exceeds-requires Inv-loop μ-loop
 exceeds-requires c κs = ((search needs, search needs), (search needs, search needs))
 
--- src/pairs.rt:41:13
 returns : tie.Need-returns Inv-loop μ-loop
 returns c = let h = c .before .before .before .loop in (sym (h .inv .0 ∙ first-hit _ _ _ (search needs) (sym (c .before .exceeds .ensures) ∙ c .if1 .taken)), search needs)
 
--- src/pairs.rt:43:9
 add-x : tie.Need-add-x Inv-loop μ-loop
 add-x c = search needs
 
--- src/pairs.rt:39:5
 loop-less : tie.Need-loop-less Inv-loop μ-loop
 loop-less c = search needs
 
--- src/pairs.rt:39:5
 loop-again : tie.Need-loop-again Inv-loop μ-loop
 loop-again c = let h = c .before .before .before .loop in (h .inv .0 ∙ first-miss _ _ _ (search needs) (sym (c .before .exceeds .ensures) ∙ c .if1 .left), search needs, search needs)
 
--- src/pairs.rt:31:1
 returns-2 : tie.Need-returns-2 Inv-loop μ-loop
 returns-2 c = let h = c .before .loop in (sym (h .inv .0 ∙ first-end _ _ _ (search needs)), search needs)
 
