@@ -21,8 +21,8 @@ use Rattle.program.specs.Layout.{Layout}
 use Rattle.flow.specs.Branches.{Branches, value-code, name-code}
 use Rattle.entries.specs.Entries.{Ground}
 use Rattle.closed.specs.Parts.{code-closed, codes-closed, mail-entry}
-use Rattle.closed.proofs.Shapes.{case-spans, receive-spans}
-use Rattle.closed.proofs.Standing.{location, rows-size, tagged-below}
+use Rattle.constraints.proofs.Shapes.{case-spans, receive-spans}
+use Rattle.constraints.proofs.Standing.{location, rows-size, tagged-below}
 use Rattle.closed.proofs.Codes.{name-codes, value-codes}
 
 -- n branches are left, from row q on

@@ -9,7 +9,7 @@ use Rattle.model.specs.Words.{left, right}
 use Rattle.model.specs.Rows.{Program, tag, num, kind, Kind, other}
 use Rattle.model.specs.Scopes.{rest}
 use Rattle.model.specs.Heads.{call-at, branch-rows, head-at, innermost}
-use Rattle.model.specs.Tables.{Tables, each, State, state, state-at}
+use Rattle.model.specs.Tables.{Tables, has, each, state, state-at, has-state}
 use Rattle.model.specs.Closed.{branches-closed, call-closed, give-closed, send-closed, spawn-closed, state-closed}
 use Rattle.model.proofs.Heads.{by-kind, tag-is, head-give, head-build, head-function, head-call, head-send, head-spawn, head-self, head-case, head-receive, head-other}
 use Rattle.closed.specs.Parts.{named}
@@ -78,3 +78,13 @@ module _ (p : Program) (t : Tables) (i c r k : ℕ) (class : c ≡ left (t .stat
   pub at-nothing : (k ≡ 1 → ⊥) → ((k ≡ 2) ⊎ (k ≡ 3) → ⊥) → (k ≡ 4 → ⊥) → (k ≡ 5 → ⊥) → (k ≡ 6 → ⊥) → (k ≡ 7 → ⊥) → (k ≡ 8 → ⊥) → (k ≡ 9 → ⊥) → true ≡ state-closed p t (state-at t i)
   unfolding state-closed
   at-nothing a b d e f g h j = rw (head-other p r (ap kind (sym tagged) ∙ no-kind k a b d e f g h j), state-closed) refl ∙ at-hand
+
+-- a head that binds a name to v
+module _ (p : Program) (t : Tables) (c r v n : ℕ) (x : Bool) (name : n ≡ num p r) (held : x ≡ has (t .flow) n v) where
+  pub name-lacking : x ≡ false → false ≡ named p t c r v
+  unfolding named
+  name-lacking z = rw (← name, ← held, z)
+
+  pub name-leads : (q : ℕ) (b : Bool) → x ≡ true → q ≡ rest p r → b ≡ has-state t (state c q) → b ≡ named p t c r v
+  unfolding named
+  name-leads q b z e h = rw (← name, ← held, z, ← e) h

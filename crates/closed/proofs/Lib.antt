@@ -1,9 +1,3 @@
-pub mod Shapes
-pub mod Standing
-pub mod Passing
-pub mod Giving
-pub mod Flags
-pub mod Leads
 pub mod Codes
 pub mod Branching
 pub mod Openings

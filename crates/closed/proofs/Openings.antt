@@ -22,8 +22,8 @@ use Rattle.model.proofs.Parse.Functions.{form-body}
 use Rattle.program.specs.Layout.{Layout}
 use Rattle.entries.specs.Entries.{Ground}
 use Rattle.closed.specs.Parts.{opening-row}
-use Rattle.closed.proofs.Shapes.{rows-fit, leaves, constructor-leaf}
-use Rattle.closed.proofs.Standing.{form, rows-size}
+use Rattle.constraints.proofs.Shapes.{rows-fit, leaves, constructor-leaf}
+use Rattle.constraints.proofs.Standing.{form, rows-size}
 
 -- n functions stand from row q up to the start expression
 pub record Globals-left (p : Program) (n q : ℕ) : Type 0 where

@@ -80,16 +80,16 @@ fn mail_entry(
     if mail_class(ws, s, j) != c {
         return true;
     }
-    let mut left = num(ws, s, r);
+    let mut more = num(ws, s, r);
     let mut q = r + 1;
-    while left > 0 {
+    while more > 0 {
         let body = afters[q] as usize;
         let code = by_mail[q / 2 * s.mails + j];
         if !branch_closed(ws, s, c, code, body) {
             return false;
         }
         q = afters[body] as usize;
-        left -= 1;
+        more -= 1;
     }
     true
 }

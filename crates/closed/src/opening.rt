@@ -1,5 +1,5 @@
 // The opening entries: each tag 11 name holds its own row, and the start expression is a state of the starting process.
-use crate::heads::body;
+use constraints::heads::body;
 use entries::lists::flow_has;
 use entries::lists::has_state;
 use model::Sizes;

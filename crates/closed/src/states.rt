@@ -1,12 +1,12 @@
 // Each state in turn; and the verdict.
 use crate::branches::case_closed;
 use crate::branches::receive_closed;
-use crate::calls::call_closed;
-use crate::gives::give_closed;
-use crate::heads::rest;
 use crate::opening::opening_closed;
-use crate::sends::send_closed;
-use crate::spawns::spawn_closed;
+use constraints::calls::call_closed;
+use constraints::gives::give_closed;
+use constraints::heads::rest;
+use constraints::sends::send_closed;
+use constraints::spawns::spawn_closed;
 use entries::inclusion::fill;
 use entries::lists::flow_has;
 use entries::lists::has_state;
@@ -126,5 +126,6 @@ pub fn open_check(
     if i == s.states {
         return Verdict::Safe;
     }
-    Verdict::Open(base + 3 + s.flows + s.mails + i)
+    let place = base + 3 + s.flows + s.mails + i;
+    Verdict::Open(place)
 }

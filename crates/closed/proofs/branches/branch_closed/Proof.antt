@@ -2,9 +2,6 @@ use Rattle.closed.proofs.Codes.{code-none, code-holds, code-lacks}
 use borrow.Author.Needs.{needs}
 use Rattle.closed.proofs.branches.branch_closed.Statement.{statement}
 use Rattle.closed.proofs.branches.branch_closed.Tie as tie
-use Rattle.closed.proofs.branches.branch_closed.Reads as reads
-use Rattle.closed.proofs.branches.branch_closed.Lts as lts
-use Rattle.entries.proofs.lists.has_state.Reads as has-state-reads
 
 has-state-requires : tie.Need-has-state-requires
 has-state-requires c κs = search needs

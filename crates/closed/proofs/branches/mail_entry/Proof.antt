@@ -8,22 +8,17 @@ use borrow.Author.Tests.{not-true, not-false}
 use Rattle.model.specs.Rows.{program, num}
 use Rattle.model.specs.Heads.{branch-rows}
 use Rattle.model.specs.Tables.{tables}
-use Rattle.closed.proofs.Standing.{afters-hold}
+use Rattle.constraints.proofs.Standing.{afters-hold}
 use Rattle.closed.proofs.Branching.{Rows-left, row-here, row-among, body-here, branches-fails, branches-next, branches-over, receive-begin, receive-code, receive-each, mail-held, other-mail, this-mail}
 use borrow.Author.Needs.{needs}
 use Rattle.closed.proofs.branches.mail_entry.Statement.{statement}
 use Rattle.closed.proofs.branches.mail_entry.Tie as tie
-use Rattle.closed.proofs.branches.mail_entry.Reads as reads
-use Rattle.closed.proofs.branches.mail_entry.Lts as lts
-use Rattle.closed.proofs.branches.branch_closed.Reads as branch-closed-reads
-use Rattle.entries.proofs.lists.mail_class.Reads as mail-class-reads
-use Rattle.program.proofs.rows.num.Reads as num-reads
 
 abbrev Inv-loop : tie.InvT-loop
-Inv-loop ws s afters inners by-name by-mail c r j left₀ q₀ left q = Rows-left (program ws s) (tables ws s) c (λ x. value-code (program ws s) (tables ws s) x (right (tables ws s .mail) j)) (branch-rows (program ws s) (num (program ws s) r) (r + 1)) left q
+Inv-loop ws s afters inners by-name by-mail c r j more₀ q₀ more q = Rows-left (program ws s) (tables ws s) c (λ x. value-code (program ws s) (tables ws s) x (right (tables ws s .mail) j)) (branch-rows (program ws s) (num (program ws s) r) (r + 1)) more q
 
 abbrev μ-loop : tie.MeasureT-loop
-μ-loop ws s afters inners by-name by-mail c r j left₀ q₀ left q = left
+μ-loop ws s afters inners by-name by-mail c r j more₀ q₀ more q = more
 
 mail-class-requires : tie.Need-mail-class-requires Inv-loop μ-loop
 mail-class-requires c κs = search needs
@@ -73,8 +68,8 @@ shared-slice-read-q c = let g = c .before .before .before .before .before .befor
 cast-q : tie.Need-cast-q Inv-loop μ-loop
 cast-q c = omega (arith, c .shared-slice-known8 .given (getD (c .before .before .before .before .before .before .before .before .before .before .before .before .before .before .before .before .args .afters .now) (c .before .before .before .before .before .before .before .loop .q) 0))
 
-sub-left : tie.Need-sub-left Inv-loop μ-loop
-sub-left c = search needs
+sub-more : tie.Need-sub-more Inv-loop μ-loop
+sub-more c = search needs
 
 loop-less : tie.Need-loop-less Inv-loop μ-loop
 loop-less c = search needs
@@ -107,7 +102,7 @@ mail-entry-spec =
     mul-q
     shared-slice-read-q
     cast-q
-    sub-left
+    sub-more
     loop-less
     loop-again
     returns-3)

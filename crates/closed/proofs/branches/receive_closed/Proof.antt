@@ -12,9 +12,6 @@ use Rattle.closed.proofs.Branching.{mail-begin}
 use borrow.Author.Needs.{needs}
 use Rattle.closed.proofs.branches.receive_closed.Statement.{statement}
 use Rattle.closed.proofs.branches.receive_closed.Tie as tie
-use Rattle.closed.proofs.branches.receive_closed.Reads as reads
-use Rattle.closed.proofs.branches.receive_closed.Lts as lts
-use Rattle.closed.proofs.branches.mail_entry.Reads as mail-entry-reads
 
 abbrev Inv-loop : tie.InvT-loop
 Inv-loop ws s afters inners by-name by-mail c r j₀ j = each (tables ws s .mail) c (branches-closed (program ws s) (tables ws s) c (branch-rows (program ws s) (num (program ws s) r) (r + 1))) ≡ all j (s .mails) (mail-entry (program ws s) (tables ws s) c (branch-rows (program ws s) (num (program ws s) r) (r + 1)))

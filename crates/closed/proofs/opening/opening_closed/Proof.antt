@@ -4,11 +4,6 @@ use Rattle.closed.proofs.Openings.{Openings-from, openings-begin, openi
 use borrow.Author.Needs.{needs}
 use Rattle.closed.proofs.opening.opening_closed.Statement.{statement}
 use Rattle.closed.proofs.opening.opening_closed.Tie as tie
-use Rattle.closed.proofs.opening.opening_closed.Reads as reads
-use Rattle.closed.proofs.opening.opening_closed.Lts as lts
-use Rattle.closed.proofs.opening.opening_row.Reads as opening-row-reads
-use Rattle.closed.proofs.opening.start.Reads as start-reads
-use Rattle.entries.proofs.lists.has_state.Reads as has-state-reads
 
 abbrev Inv-loop : tie.InvT-loop
 Inv-loop ws s afters inners r₀ r = Openings-from ws s r

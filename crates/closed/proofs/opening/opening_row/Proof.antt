@@ -2,11 +2,6 @@ use Rattle.closed.proofs.Openings.{no-global, this-global}
 use borrow.Author.Needs.{needs}
 use Rattle.closed.proofs.opening.opening_row.Statement.{statement}
 use Rattle.closed.proofs.opening.opening_row.Tie as tie
-use Rattle.closed.proofs.opening.opening_row.Reads as reads
-use Rattle.closed.proofs.opening.opening_row.Lts as lts
-use Rattle.entries.proofs.lists.flow_has.Reads as flow-has-reads
-use Rattle.program.proofs.rows.num.Reads as num-reads
-use Rattle.program.proofs.rows.tag.Reads as tag-reads
 
 tag-requires : tie.Need-tag-requires
 tag-requires c κs = search needs

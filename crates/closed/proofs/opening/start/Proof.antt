@@ -1,13 +1,10 @@
 use native.Mathlib.Omega.{arith}
 use Rattle.model.specs.Rows.{program}
 use Rattle.closed.proofs.Openings.{Globals-left, globals-begin, globals-next, globals-over, global-here}
-use Rattle.closed.proofs.Standing.{afters-hold, function-below}
+use Rattle.constraints.proofs.Standing.{afters-hold, function-below}
 use borrow.Author.Needs.{needs}
 use Rattle.closed.proofs.opening.start.Statement.{statement}
 use Rattle.closed.proofs.opening.start.Tie as tie
-use Rattle.closed.proofs.opening.start.Reads as reads
-use Rattle.closed.proofs.opening.start.Lts as lts
-use Rattle.closed.proofs.heads.body.Reads as body-reads
 
 abbrev Inv-loop : tie.InvT-loop
 Inv-loop ws s afters inners left₀ q₀ left q = Globals-left (program ws s) left q

@@ -5,9 +5,6 @@ use Rattle.closed.proofs.Answers.{Open-from, open-begin, open-next, ope
 use borrow.Author.Needs.{needs}
 use Rattle.closed.proofs.states.first_open.Statement.{statement}
 use Rattle.closed.proofs.states.first_open.Tie as tie
-use Rattle.closed.proofs.states.first_open.Reads as reads
-use Rattle.closed.proofs.states.first_open.Lts as lts
-use Rattle.closed.proofs.states.state_closed.Reads as state-closed-reads
 
 abbrev Inv-loop : tie.InvT-loop
 Inv-loop ws s afters inners by-name by-mail table i₀ i = Open-from ws s i

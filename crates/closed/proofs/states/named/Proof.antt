@@ -1,14 +1,8 @@
 use borrow.Author.Tests.{not-true, not-false}
-use Rattle.closed.proofs.Leads.{name-lacking, name-leads}
+use Rattle.closed.proofs.Dispatch.{name-lacking, name-leads}
 use borrow.Author.Needs.{needs}
 use Rattle.closed.proofs.states.named.Statement.{statement}
 use Rattle.closed.proofs.states.named.Tie as tie
-use Rattle.closed.proofs.states.named.Reads as reads
-use Rattle.closed.proofs.states.named.Lts as lts
-use Rattle.closed.proofs.heads.rest.Reads as rest-reads
-use Rattle.entries.proofs.lists.flow_has.Reads as flow-has-reads
-use Rattle.entries.proofs.lists.has_state.Reads as has-state-reads
-use Rattle.program.proofs.rows.num.Reads as num-reads
 
 num-requires : tie.Need-num-requires
 num-requires c κs = search needs

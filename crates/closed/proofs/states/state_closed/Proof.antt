@@ -5,18 +5,6 @@ use Rattle.closed.proofs.Dispatch.{at-give, at-named, at-self, at-call,
 use borrow.Author.Needs.{needs}
 use Rattle.closed.proofs.states.state_closed.Statement.{statement}
 use Rattle.closed.proofs.states.state_closed.Tie as tie
-use Rattle.closed.proofs.states.state_closed.Reads as reads
-use Rattle.closed.proofs.states.state_closed.Lts as lts
-use Rattle.closed.proofs.branches.case_closed.Reads as case-closed-reads
-use Rattle.closed.proofs.branches.receive_closed.Reads as receive-closed-reads
-use Rattle.closed.proofs.calls.call_closed.Reads as call-closed-reads
-use Rattle.closed.proofs.gives.give_closed.Reads as give-closed-reads
-use Rattle.closed.proofs.sends.send_closed.Reads as send-closed-reads
-use Rattle.closed.proofs.spawns.spawn_closed.Reads as spawn-closed-reads
-use Rattle.closed.proofs.states.named.Reads as named-reads
-use Rattle.entries.proofs.lists.state_class.Reads as state-class-reads
-use Rattle.entries.proofs.lists.state_head.Reads as state-head-reads
-use Rattle.program.proofs.rows.tag.Reads as tag-reads
 
 state-class-requires : tie.Need-state-class-requires
 state-class-requires c κs = search needs

@@ -3,8 +3,6 @@ use Rattle.entries.specs.Entries.{bit}
 use borrow.Author.Needs.{needs}
 use Rattle.entries.proofs.inclusion.bit.Statement.{statement}
 use Rattle.entries.proofs.inclusion.bit.Tie as tie
-use Rattle.entries.proofs.inclusion.bit.Reads as reads
-use Rattle.entries.proofs.inclusion.bit.Lts as lts
 
 returns : tie.Need-returns
 unfolding bit

@@ -7,10 +7,6 @@ use Rattle.entries.proofs.Filled.{Filled, filled-none, filled-more, fil
 use borrow.Author.Needs.{needs}
 use Rattle.entries.proofs.inclusion.fill.Statement.{statement}
 use Rattle.entries.proofs.inclusion.fill.Tie as tie
-use Rattle.entries.proofs.inclusion.fill.Reads as reads
-use Rattle.entries.proofs.inclusion.fill.Lts as lts
-use Rattle.entries.proofs.inclusion.bit.Reads as bit-reads
-use Rattle.entries.proofs.inclusion.included.Reads as included-reads
 
 abbrev Inv-loop : tie.InvT-loop
 Inv-loop ws s table₀ k₀ table k = (length table ≡ length table₀) × Filled (tables ws s) table k

@@ -6,12 +6,6 @@ use Rattle.entries.proofs.Turns.{Turn, turn-begin, turn-over, turn-pass
 use borrow.Author.Needs.{needs}
 use Rattle.entries.proofs.inclusion.included.Statement.{statement}
 use Rattle.entries.proofs.inclusion.included.Tie as tie
-use Rattle.entries.proofs.inclusion.included.Reads as reads
-use Rattle.entries.proofs.inclusion.included.Lts as lts
-use Rattle.entries.proofs.lists.flow_from.Reads as flow-from-reads
-use Rattle.entries.proofs.lists.flow_has.Reads as flow-has-reads
-use Rattle.entries.proofs.lists.flow_name.Reads as flow-name-reads
-use Rattle.entries.proofs.lists.flow_value.Reads as flow-value-reads
 
 abbrev Inv-loop : tie.InvT-loop
 Inv-loop ws s a b i₀ i = Turn (tables ws s .flow) a (has (tables ws s .flow) b) i

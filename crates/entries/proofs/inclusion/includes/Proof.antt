@@ -3,8 +3,6 @@ use Rattle.entries.proofs.Filled.{look-up}
 use borrow.Author.Needs.{needs}
 use Rattle.entries.proofs.inclusion.includes.Statement.{statement}
 use Rattle.entries.proofs.inclusion.includes.Tie as tie
-use Rattle.entries.proofs.inclusion.includes.Reads as reads
-use Rattle.entries.proofs.inclusion.includes.Lts as lts
 
 mul-result : tie.Need-mul-result
 mul-result c = search needs

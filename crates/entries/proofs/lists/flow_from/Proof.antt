@@ -3,10 +3,6 @@ use Rattle.entries.proofs.Held.{flow-listed, listed-ascends, entries-li
 use borrow.Author.Needs.{needs}
 use Rattle.entries.proofs.lists.flow_from.Statement.{statement}
 use Rattle.entries.proofs.lists.flow_from.Tie as tie
-use Rattle.entries.proofs.lists.flow_from.Reads as reads
-use Rattle.entries.proofs.lists.flow_from.Lts as lts
-use Rattle.entries.proofs.lists.tables_at.Reads as tables-at-reads
-use Rattle.entries.proofs.members.lower.Reads as lower-reads
 
 tables-at-requires : tie.Need-tables-at-requires
 tables-at-requires c κs = search needs

@@ -2,9 +2,6 @@ use Rattle.model.specs.Tables.{tables}
 use borrow.Author.Needs.{needs}
 use Rattle.entries.proofs.lists.flow_value.Statement.{statement}
 use Rattle.entries.proofs.lists.flow_value.Tie as tie
-use Rattle.entries.proofs.lists.flow_value.Reads as reads
-use Rattle.entries.proofs.lists.flow_value.Lts as lts
-use Rattle.entries.proofs.lists.right.Reads as right-reads
 
 right-requires : tie.Need-right-requires
 right-requires c κs = search needs

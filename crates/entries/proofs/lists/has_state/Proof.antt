@@ -4,9 +4,6 @@ use Rattle.entries.proofs.Held.{states-listed, listed-ascends, state-pa
 use borrow.Author.Needs.{needs}
 use Rattle.entries.proofs.lists.has_state.Statement.{statement}
 use Rattle.entries.proofs.lists.has_state.Tie as tie
-use Rattle.entries.proofs.lists.has_state.Reads as reads
-use Rattle.entries.proofs.lists.has_state.Lts as lts
-use Rattle.entries.proofs.lists.pair.Reads as pair-reads
 
 add-before : tie.Need-add-before
 add-before c = search needs

@@ -2,10 +2,6 @@ use Rattle.entries.proofs.Held.{lefts-held, entry-left}
 use borrow.Author.Needs.{needs}
 use Rattle.entries.proofs.lists.left.Statement.{statement}
 use Rattle.entries.proofs.lists.left.Tie as tie
-use Rattle.entries.proofs.lists.left.Reads as reads
-use Rattle.entries.proofs.lists.left.Lts as lts
-use Rattle.entries.proofs.lists.tables_at.Reads as tables-at-reads
-use Rattle.entries.proofs.members.word.Reads as word-reads
 
 tables-at-requires : tie.Need-tables-at-requires
 tables-at-requires c κs = search needs

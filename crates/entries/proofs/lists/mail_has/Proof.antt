@@ -3,9 +3,6 @@ use Rattle.entries.proofs.Held.{mail-listed, listed-ascends}
 use borrow.Author.Needs.{needs}
 use Rattle.entries.proofs.lists.mail_has.Statement.{statement}
 use Rattle.entries.proofs.lists.mail_has.Tie as tie
-use Rattle.entries.proofs.lists.mail_has.Reads as reads
-use Rattle.entries.proofs.lists.mail_has.Lts as lts
-use Rattle.entries.proofs.lists.pair.Reads as pair-reads
 
 pair-requires : tie.Need-pair-requires
 unfolding tables

@@ -2,10 +2,6 @@ use Rattle.entries.proofs.Held.{entries-listing, entries-has}
 use borrow.Author.Needs.{needs}
 use Rattle.entries.proofs.lists.pair.Statement.{statement}
 use Rattle.entries.proofs.lists.pair.Tie as tie
-use Rattle.entries.proofs.lists.pair.Reads as reads
-use Rattle.entries.proofs.lists.pair.Lts as lts
-use Rattle.entries.proofs.lists.tables_at.Reads as tables-at-reads
-use Rattle.entries.proofs.members.has.Reads as has-reads
 
 tables-at-requires : tie.Need-tables-at-requires
 tables-at-requires c κs = search needs

@@ -2,9 +2,6 @@ use Rattle.model.specs.Tables.{tables}
 use borrow.Author.Needs.{needs}
 use Rattle.entries.proofs.lists.state_class.Statement.{statement}
 use Rattle.entries.proofs.lists.state_class.Tie as tie
-use Rattle.entries.proofs.lists.state_class.Reads as reads
-use Rattle.entries.proofs.lists.state_class.Lts as lts
-use Rattle.entries.proofs.lists.left.Reads as left-reads
 
 add-before : tie.Need-add-before
 add-before c = search needs

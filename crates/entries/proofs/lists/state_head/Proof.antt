@@ -2,9 +2,6 @@ use Rattle.model.specs.Tables.{tables}
 use borrow.Author.Needs.{needs}
 use Rattle.entries.proofs.lists.state_head.Statement.{statement}
 use Rattle.entries.proofs.lists.state_head.Tie as tie
-use Rattle.entries.proofs.lists.state_head.Reads as reads
-use Rattle.entries.proofs.lists.state_head.Lts as lts
-use Rattle.entries.proofs.lists.right.Reads as right-reads
 
 add-before : tie.Need-add-before
 add-before c = search needs

@@ -2,8 +2,6 @@ use Rattle.model.specs.Message.{tables-at}
 use borrow.Author.Needs.{needs}
 use Rattle.entries.proofs.lists.tables_at.Statement.{statement}
 use Rattle.entries.proofs.lists.tables_at.Tie as tie
-use Rattle.entries.proofs.lists.tables_at.Reads as reads
-use Rattle.entries.proofs.lists.tables_at.Lts as lts
 
 mul-result : tie.Need-mul-result
 mul-result c = search needs

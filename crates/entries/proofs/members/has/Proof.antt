@@ -7,9 +7,6 @@ use Rattle.model.specs.Tables.{has}
 use Rattle.entries.proofs.Narrow.{is-pair, pairs-begin, pairs-over, first-below, first-above, second-below, second-above, pair-found}
 use Rattle.entries.proofs.members.has.Statement.{statement}
 use Rattle.entries.proofs.members.has.Tie as tie
-use Rattle.entries.proofs.members.has.Reads as reads
-use Rattle.entries.proofs.members.has.Lts as lts
-use Rattle.entries.proofs.members.word.Reads as word-reads
 
 abbrev Inv-loop : tie.InvT-loop
 Inv-loop ws n at at2 a b low₀ high₀ low high = (high ≤ n) × (has (columns ws n at at2) a b ≡ any low high (is-pair (columns ws n at at2) a b))

@@ -5,9 +5,6 @@ use borrow.Author.Needs.{needs}
 use Rattle.entries.proofs.Narrow.{Around, around-begin, around-over, around-up, around-down}
 use Rattle.entries.proofs.members.lower.Statement.{statement}
 use Rattle.entries.proofs.members.lower.Tie as tie
-use Rattle.entries.proofs.members.lower.Reads as reads
-use Rattle.entries.proofs.members.lower.Lts as lts
-use Rattle.entries.proofs.members.word.Reads as word-reads
 
 abbrev Inv-loop : tie.InvT-loop
 Inv-loop ws n at at2 a low₀ high₀ low high = Around ws n at at2 a low high
