@@ -1,0 +1,4 @@
+pub mod Lined
+pub mod Few
+pub mod Putting
+pub mod Whole
