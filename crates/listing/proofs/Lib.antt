@@ -2,3 +2,4 @@ pub mod Lined
 pub mod Few
 pub mod Putting
 pub mod Whole
+pub mod Prepare
