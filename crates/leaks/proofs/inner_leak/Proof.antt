@@ -8,6 +8,7 @@ use Rattle.model.specs.Tables.{tables}
 use Rattle.model.specs.Bounds.{bounds}
 use Rattle.system.specs.Slots.{slot-rules, slot, inner-rules}
 use Rattle.bounds.specs.Steps.{Step-within}
+use Rattle.bounds.proofs.Ceilings.{room-all}
 use Rattle.leaks.specs.Leaks.{first-leak}
 use Rattle.leaks.proofs.Leaking.{leaks-by, leak-upto, leak-nothing, leak-turn, leak-done, inner-all, ceilings-all, ceilings-hit, ceilings-next, ceilings-end}
 use Rattle.leaks.proofs.Within.{no-rules, within-here, leaks-here}
@@ -61,7 +62,7 @@ ceilings-holds c = (refl, refl, ceilings-all _ _ _, omega arith)
 leads-out-requires : tie.Need-leads-out-requires Inv-ceilings μ-ceilings Inv-rules μ-rules
 leads-out-requires c κs =
     let p = c .before .before .before .before .before .before .before .before .before .before .before .before .before .before .before .before .before .pre in
-    ((p .0 .limits .bounds, omega (arith, c .ceilings-test .taken, c .before .before .before .before .before .before .before .rules .inv .1)), ((p .1 .1 .0 .few, within-here (p .0) _ _ _ (p .1 .1 .0) _ _ _ _ (p .1 .1 .1 .1 .0) _ _ (c .before .before .before .before .before .slot-at .ensures) (c .before .before .before .before .step-of .ensures) (c .before .before .if1 .left)), (p .1 .1 .0 .limits-table .room, p .1 .1 .0 .pairs-table)))
+    ((p .0 .limits .bounds, omega (arith, c .ceilings-test .taken, c .before .before .before .before .before .before .before .rules .inv .1)), ((p .1 .1 .0 .few, within-here (p .0) _ _ _ (p .1 .1 .0) _ _ _ _ (p .1 .1 .1 .1 .0) _ _ (c .before .before .before .before .before .slot-at .ensures) (c .before .before .before .before .step-of .ensures) (c .before .before .if1 .left)), (room-all _ _ _ _ (p .1 .1 .0 .limits-table), p .1 .1 .0 .pairs-table)))
 
 -- ceiling k leaks by the slot's rule exactly where the code says so
 leaks : (c : tie.After-leads-out Inv-ceilings μ-ceilings Inv-rules μ-rules) → let a = c .before .before .before .before .before .before .before .before .before .before .before .before .before .before .before .before .before .before .args in leaks-by (bounds (a .ws .now) (a .s) (a .n)) (slot-rules (slot (program (a .ws .now) (a .s)) (tables (a .ws .now) (a .s)) (a .i) (a .x) (a .j) (c .before .before .before .before .before .before .before .before .rules .l))) (c .before .before .ceilings .k) ≡ c .leads-out .result

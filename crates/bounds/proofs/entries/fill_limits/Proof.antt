@@ -28,7 +28,7 @@ slice-write-starts : tie.Need-slice-write-starts Inv-loop μ-loop
 slice-write-starts c = search needs
 
 fill-bound-requires : tie.Need-fill-bound-requires Inv-loop μ-loop
-fill-bound-requires c κs = let f = c .before .before .loop .inv .0 in (search needs, ((search needs, search needs), (stands _ _ _ _ _ (f .walked) (search needs), (f .blank _ (search needs), search needs))))
+fill-bound-requires c κs = let f = c .before .before .loop .inv .0 in (search needs, ((search needs, search needs), (stands _ _ _ _ _ (f .walked) (search needs), (f .blank _ (search needs) (search needs), search needs))))
 
 add-k : tie.Need-add-k Inv-loop μ-loop
 add-k c = search needs
