@@ -74,8 +74,8 @@ module _ (ws : List ℕ) (s : Sizes) (n k e : ℕ) (limits starts : List ℕ) (a
   unfolding bounds
   limits-table room = record { room = room; limit = λ j x b. f .filled j x (omega arith) }
 
-  pub starts-table : Starts-table n (bound-entries ws s) (s .bounds) starts
-  starts-table = record { start = λ j b. f .begun j (omega arith) }
+  pub starts-table : s .bounds ≤ length starts → Starts-table n (bound-entries ws s) (s .bounds) starts
+  starts-table room = record { room = room; start = λ j b. f .begun j (omega arith) }
 
 -- entries are as many as the message says
 pub entries-size : (ws : List ℕ) (s : Sizes) → bound-entries ws s .size ≡ s .limits

@@ -28,6 +28,7 @@ pub record Limits-table (bs : Bounds) (limits : List ℕ) : Type 0 where
 
 -- the first entries of the ceilings
 pub record Starts-table (n : ℕ) (entries : Columns) (ceilings : ℕ) (starts : List ℕ) : Type 0 where
+  pub room : ceilings ≤ length starts
   pub start : (k : ℕ) → k < ceilings → getD starts k 0 ≡ bound-entry n entries k
 
 -- the entry after the ceiling that stands at entry e

@@ -121,7 +121,7 @@ pub fn fill_limits(ws: &[u16], s: Sizes, n: usize, limits: &mut [u16], starts: &
     requires { ⌜ n ≤ maxCounters ⌝ }
     requires { ⌜ In-form (now ws) s n ⌝ }
     requires { ⌜ ((k : ℕ) → Blank (now limits) k) ⌝ }
-    requires { ⌜ (limit-cells ≤ length (now limits)) × (maxBounds ≤ length (now starts)) ⌝ }
+    requires { ⌜ (limit-cells ≤ length (now limits)) × (s .bounds ≤ length (now starts)) ⌝ }
     ensures { λ _. ⌜ Limits-table (bounds (now (ws .entry)) s n) (now (limits .exit)) ⌝ }
     ensures { λ _. ⌜ Starts-table n (bound-entries (now (ws .entry)) s) (s .bounds) (now (starts .exit)) ⌝ }
 {

@@ -53,7 +53,7 @@ same-length-2 : tie.Need-same-length-2 Inv-loop μ-loop
 same-length-2 c = search needs
 
 returns : tie.Need-returns Inv-loop μ-loop
-returns c = let h = c .before .loop in (limits-table _ _ _ _ _ _ _ (search needs) (h .inv .0) (search needs), starts-table _ _ _ _ _ _ _ (search needs) (h .inv .0))
+returns c = let h = c .before .loop in (limits-table _ _ _ _ _ _ _ (search needs) (h .inv .0) (search needs), starts-table _ _ _ _ _ _ _ (search needs) (h .inv .0) (search needs))
 
 pub fill-limits-spec : {M : Type 1} → statement M
 fill-limits-spec =
