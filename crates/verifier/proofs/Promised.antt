@@ -20,9 +20,9 @@ use Rattle.model.specs.Verify.{message, check, verdict, if-safe, lent-after, pa
 use Rattle.model.specs.Listing.{listed-rules}
 use Rattle.model.specs.Demands.{Bytes, All-runs-followed}
 use Rattle.model.proofs.Demands as demands
-use Rattle.verifier.specs.Stages.{is-safe}
+use Rattle.answers.specs.Safe.{is-safe}
 use Rattle.verifier.specs.Promises.{Refusal-changes-nothing, Safe-exactly-when-sound, System-is-written, Runs-are-followed}
-use Rattle.verifier.proofs.Passing.{safe-only, else-is}
+use Rattle.answers.proofs.Passing.{safe-only, else-is}
 
 -- only safe has the number 0
 zero-safe : (v : Verdict) → number v ≡ 0 → v ≡ Safe

@@ -1,18 +1,8 @@
 // The verifier: a message and lent words in; the verdict, the part handed on and the words written out.
-pub mod answers;
-pub mod ceilings;
-pub mod closes;
-pub mod counts;
-pub mod reads;
-pub mod scratch;
-pub mod space;
-pub mod stages;
-pub mod verdict;
-
-use crate::answers::is_safe;
-use crate::answers::number_of;
-use crate::answers::place_of;
-use crate::verdict::verdict_of;
+use answers::is_safe;
+use answers::number_of;
+use answers::places::place_of;
+use checks::verdict::verdict_of;
 use message::bads_at;
 use message::sizes_of;
 use model::Verdict;
