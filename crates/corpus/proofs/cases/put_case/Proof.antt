@@ -31,7 +31,7 @@ same-length-2 : tie.Need-same-length-2
 same-length-2 c = search needs
 
 returns : tie.Need-returns
-returns c = let v = c .before .before .before .before .before .before .before .before .before .verify .ensures in case-put _ _ _ _ _ _ (c .before .before .before .before .before .before .before .before .before .before .before .before .before .before .fill-marks .ensures) (c .before .before .before .before .before .before .before .before .before .before .before .before .before .before .fill-marks .kept .0) (v .1 .0) (v .1 .1) (v .0) _ _ _ _ _ (c .before .before .before .before .add-words .ensures) (c .before .before .before .before .before .before .add-bytes .ensures) (c .before .before .before .before .before .before .before .before .before .before .before .before .before .before .before .before .before .before .before .pre .1) (c .before .before .put-result .ensures)
+returns c = let v = c .before .before .before .before .before .before .before .before .before .verify .ensures in case-put _ _ _ _ _ _ (c .before .before .before .before .before .before .before .before .before .before .before .before .before .before .fill-marks .ensures) (c .before .before .before .before .before .before .before .before .before .before .before .before .before .before .fill-marks .kept .0) (v .0) (v .1 .1 .0) (v .1 .0) _ _ _ _ _ (c .before .before .before .before .add-words .ensures) (c .before .before .before .before .before .before .add-bytes .ensures) (c .before .before .before .before .before .before .before .before .before .before .before .before .before .before .before .before .before .before .before .pre .1) (c .before .before .put-result .ensures)
 
 pub put-case-spec : {M : Type 1} → statement M
 put-case-spec =

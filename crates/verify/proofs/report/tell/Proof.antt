@@ -25,19 +25,19 @@ same-length : tie.Need-same-length
 same-length c = search needs
 
 returns : tie.Need-returns
-returns c = tell-refused _ _ (c .before .before .before .before .before .before .before .before .before .blank-words .ensures) _ (c .before .before .before .before .before .before .verify .ensures .1 .0) _ _ _ (c .if1 .taken) (c .before .before .before .put-line .ensures) (c .before .before .before .before .before .before .before .before .before .before .before .before .pre)
+returns c = tell-refused _ _ (c .before .before .before .before .before .before .before .before .before .blank-words .ensures) _ (c .before .before .before .before .before .before .verify .ensures .0) _ _ _ (c .if1 .taken) (c .before .before .before .put-line .ensures) (c .before .before .before .before .before .before .before .before .before .before .before .before .pre)
 
 slice-aggregate-put-system : tie.Need-slice-aggregate-put-system
 slice-aggregate-put-system c = search needs
 
 put-system-requires : tie.Need-put-system-requires
-put-system-requires c κs = (system-room _ _ (c .before .before .before .before .before .before .before .before .before .before .before .blank-words .ensures) _ (c .before .before .before .before .before .before .before .before .verify .ensures .1 .0) (c .before .before .if1 .left) _ (c .before .before .before .before .before .before .before .before .verify .ensures .1 .1) _ _ _ (c .before .before .before .before .before .put-line .ensures) (c .before .before .before .before .before .before .before .before .before .before .before .before .before .before .pre), system-inside _ _ (c .before .before .before .before .before .before .before .before .before .before .before .blank-words .ensures) _ (c .before .before .before .before .before .before .before .before .verify .ensures .1 .0) (c .before .before .if1 .left) _ (c .before .before .before .before .before .before .before .before .verify .ensures .1 .1))
+put-system-requires c κs = (system-room _ _ (c .before .before .before .before .before .before .before .before .before .before .before .blank-words .ensures) _ (c .before .before .before .before .before .before .before .before .verify .ensures .0) (c .before .before .if1 .left) _ (c .before .before .before .before .before .before .before .before .verify .ensures .1 .1 .0) _ _ _ (c .before .before .before .before .before .put-line .ensures) (c .before .before .before .before .before .before .before .before .before .before .before .before .before .before .pre), system-inside _ _ (c .before .before .before .before .before .before .before .before .before .before .before .blank-words .ensures) _ (c .before .before .before .before .before .before .before .before .verify .ensures .0) (c .before .before .if1 .left) _ (c .before .before .before .before .before .before .before .before .verify .ensures .1 .1 .0))
 
 same-length-2 : tie.Need-same-length-2
 same-length-2 c = search needs
 
 returns-2 : tie.Need-returns-2
-returns-2 c = tell-safe _ _ (c .before .before .before .before .before .before .before .before .before .before .before .before .before .before .blank-words .ensures) _ (c .before .before .before .before .before .before .before .before .before .before .before .verify .ensures .1 .0) (c .before .before .before .before .before .if1 .left) _ (c .before .before .before .before .before .before .before .before .before .before .before .verify .ensures .1 .1) _ _ _ _ _ (c .before .before .before .before .before .before .before .before .put-line .ensures) (c .before .before .put-system .ensures) (c .before .before .before .before .before .before .before .before .before .before .before .before .before .before .before .before .before .pre)
+returns-2 c = tell-safe _ _ (c .before .before .before .before .before .before .before .before .before .before .before .before .before .before .blank-words .ensures) _ (c .before .before .before .before .before .before .before .before .before .before .before .verify .ensures .0) (c .before .before .before .before .before .if1 .left) _ (c .before .before .before .before .before .before .before .before .before .before .before .verify .ensures .1 .1 .0) _ _ _ _ _ (c .before .before .before .before .before .before .before .before .put-line .ensures) (c .before .before .put-system .ensures) (c .before .before .before .before .before .before .before .before .before .before .before .before .before .before .before .before .before .pre)
 
 pub tell-spec : {M : Type 1} → statement M
 tell-spec =
