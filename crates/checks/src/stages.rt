@@ -1,8 +1,8 @@
 // The checks behind the program's, one after the other.
-use answers::is_safe;
 use crate::ceilings::bounds_verdict;
 use crate::closes::tables_verdict;
 use crate::counts::counters_verdict;
+use answers::is_safe;
 use listing::space::space_verdict;
 use model::Sizes;
 use model::Verdict;

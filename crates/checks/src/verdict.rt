@@ -1,7 +1,7 @@
 // The verdict on a message, and the lent words.
-use answers::is_safe;
 use crate::reads::program_verdict;
 use crate::scratch::evidence_verdict;
+use answers::is_safe;
 use message::MAX_WORDS;
 use message::Parts;
 use message::decode;
