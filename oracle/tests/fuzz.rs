@@ -27,7 +27,7 @@ fn a_wrong_verifier_is_found_out() {
 fn a_corpus_comes_back_with_every_verdict() {
     let made = corpus::collect(11, 150, &verify::verify).unwrap();
     assert!(made.verdicts.iter().all(|&kept| kept > 0), "{:?}", made.verdicts);
-    let read = corpus::read(&corpus::container(&made.cases)).unwrap();
+    let read = corpus::read(&corpus::stream(&made.cases)).unwrap();
     assert_eq!(read.len(), made.cases.len());
     for (case, line) in read.iter().zip(made.lines.lines()) {
         let seen = compare::see(&naive::verify, case).unwrap();

@@ -8,7 +8,7 @@ pub fn command(args: &[String]) -> Answer {
     let [seed, count, out] = args else { return Err("corpus: SEED, COUNT and OUT are wanted".to_string()) };
     let made = corpus::collect(number(seed)?, number(count)?, &verify::verify)?;
     let io = |e: std::io::Error| format!("{out}: {e}");
-    std::fs::write(format!("{out}.bin"), corpus::container(&made.cases)).map_err(io)?;
+    std::fs::write(format!("{out}.bin"), corpus::stream(&made.cases)).map_err(io)?;
     std::fs::write(format!("{out}.txt"), &made.lines).map_err(io)?;
     Ok(format!("{} cases, by verdict from 0 to 14: {:?}\n", made.cases.len(), made.verdicts))
 }
