@@ -11,7 +11,8 @@ oracle explain [--lend N] FILE          the verdict in words
 oracle run FILE NUMBERS...             a station run step by step beside its counters (N*K repeats)
 oracle assemble FILE [OUT]             text to message, with tables and ceilings
 oracle disassemble FILE                message to text
-oracle fuzz SEED COUNT                 random messages, two verifiers, the tally
+oracle fuzz SEED COUNT                 random messages through the proved code and `verify` (feature `proved`)
+oracle fuzz-naive SEED COUNT           the same messages through `verify` and a second, naive reading
 oracle against PROGRAM SEED COUNT      the same messages through a program that prints the listing
 oracle time FILE...                    how long the verifier takes
 oracle corpus SEED COUNT OUT           OUT.bin and OUT.txt: messages of every verdict, what is expected
@@ -23,6 +24,7 @@ fn answer(command: &str, args: &[String]) -> Answer {
         "verify" => verify::command(args),
         "run" => run::command(args),
         "fuzz" => fuzz::command(args),
+        "fuzz-naive" => fuzz::naive(args),
         "against" => against::command(args),
         "time" => time::command(args),
         "corpus" => corpus::command(args),

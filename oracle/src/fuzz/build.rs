@@ -6,7 +6,7 @@ use crate::bads::Bad;
 use crate::evidence;
 use crate::explore::Limits;
 use crate::least;
-use crate::limits::UNBOUNDED;
+use crate::limits::{self, UNBOUNDED};
 use crate::message::Message;
 use crate::program::Program;
 use crate::system::System;
@@ -34,7 +34,7 @@ fn size(rng: &mut Rng) -> usize {
 /// A random station; tries until the limits are kept.
 pub fn station(rng: &mut Rng) -> Station {
     loop {
-        let crowded = rng.chance(1, 40);
+        let crowded = rng.chance(1, 20);
         let size = size(rng);
         let rows = if crowded { generate::crowded(rng) } else { generate::program(rng, size) };
         if let Some(station) = finish(rng, &rows, crowded) {
@@ -69,10 +69,28 @@ fn finish(rng: &mut Rng, rows: &Rows, crowded: bool) -> Option<Station> {
         }
     };
     if rng.chance(1, 4) {
+        add_lower(rng, &mut limits);
+    }
+    if rng.chance(1, 4) {
         rng.shuffle(&mut limits);
     }
     evidence::put_bounds(&mut m, &limits);
     Some(Station { message: m, words: system.words(), counters: system.counters() })
+}
+
+/// Bounds under those that are there: no rule leads out of them that does not lead out of these.
+fn add_lower(rng: &mut Rng, limits: &mut Vec<Limits>) {
+    let width = limits.iter().map(|l| 1 + l.iter().filter(|&&limit| limit > 0).count()).max().unwrap_or(1);
+    let room = (limits::BOUNDS.1 as usize).min(limits::BOUND_ENTRIES.1 as usize / width).saturating_sub(limits.len());
+    let most = if rng.chance(1, 10) { room } else { room.min(6) };
+    for _ in 0..rng.range(0, most) {
+        let mut lower = limits[rng.below(limits.len())].clone();
+        for _ in 0..rng.range(0, 3) {
+            let i = rng.below(lower.len());
+            lower[i] = [0, lower[i] / 2, lower[i].saturating_sub(1)][rng.below(3)];
+        }
+        limits.push(lower);
+    }
 }
 
 /// Too many counters: some bound that no one reads.
@@ -86,7 +104,8 @@ fn with_extra(rng: &mut Rng, program: &Program, tables: Tables) -> Tables {
     let values: Vec<usize> = (0..=program.rows).filter(|&v| program.is_value(v)).collect();
     let heads: Vec<usize> = (0..program.rows).filter(|&r| program.is_head(r)).collect();
     let mut more = tables.clone();
-    for _ in 0..rng.range(1, 3) {
+    let most = if rng.chance(1, 12) { 150 } else { 3 };
+    for _ in 0..rng.range(1, most) {
         let (Some(&value), Some(&head)) = (rng.pick(&values), rng.pick(&heads)) else { break };
         let class = rng.below(more.mail.len());
         match rng.below(3) {
@@ -207,8 +226,9 @@ fn random_item(rng: &mut Rng, program: &Program, tables: &Tables, system: &Syste
     }
 }
 
+/// Sets of counts that are tried: seldom many, as this takes most of a fuzz run's time.
 fn budget(rng: &mut Rng) -> usize {
-    if rng.chance(1, 10) { 8000 } else { 1200 }
+    if rng.chance(1, 30) { 3000 } else { 400 }
 }
 
 /// Bounds with the bads left aside; at worst everything unbounded.

@@ -15,34 +15,48 @@ fn bytes(m: &Message) -> Vec<u8> {
     message::to_bytes(&message::write(m))
 }
 
-/// The message as it is, with enough words lent: just enough, some more, or many.
-pub fn whole(rng: &mut Rng, station: &Station) -> Case {
-    let lent = match rng.below(4) {
-        0 => station.words,
-        1 => station.words + rng.below(9),
+/// Enough words: just as many as are needed, some more, or many.
+fn enough(rng: &mut Rng, station: &Station) -> usize {
+    match rng.below(6) {
+        0..=1 => station.words,
+        2..=3 => station.words + rng.below(9),
+        4 => station.words + rng.below(2000),
         _ => station.words.max(16_384),
-    };
-    Case { message: bytes(&station.message), lent }
+    }
 }
 
-/// The message with some damage.
+/// Too few words: one less, none, fewer than the four sizes, or any number.
+fn too_few(rng: &mut Rng, station: &Station) -> usize {
+    let below = station.words.saturating_sub(1);
+    match rng.below(5) {
+        0..=1 => below,
+        2 => 0,
+        3 => rng.below(5).min(below),
+        _ => rng.range(0, below),
+    }
+}
+
+/// The message as it is, with enough words.
+pub fn whole(rng: &mut Rng, station: &Station) -> Case {
+    Case { message: bytes(&station.message), lent: enough(rng, station) }
+}
+
+/// The message with some damage, or with too few words, or both.
 pub fn damaged(rng: &mut Rng, station: &Station) -> Case {
-    let mut case = Case { message: Vec::new(), lent: station.words.max(16_384) };
     let mut m = station.message.clone();
     let times = if rng.chance(1, 8) { 2 } else { 1 };
     for _ in 0..times {
         structured(rng, &mut m, station);
     }
-    case.message = bytes(&m);
+    let few = rng.chance(1, 10);
+    let lent = if few { too_few(rng, station) } else { enough(rng, station) };
+    let mut case = Case { message: bytes(&m), lent };
     match rng.below(100) {
         0..=6 => words(rng, &mut case.message),
         7..=12 => length(rng, &mut case.message),
-        13..=18 => size(rng, &station.message, &mut case.message),
-        19..=23 => {
-            case.message = bytes(&station.message);
-            case.lent = if rng.chance(1, 2) { station.words.saturating_sub(1) } else { rng.below(station.words.max(1)) };
-        }
-        24..=27 => {
+        13..=20 => size(rng, &station.message, &mut case.message),
+        21..=25 => case = Case { message: bytes(&station.message), lent: too_few(rng, station) },
+        26..=29 => {
             case.message = bytes(&station.message);
             words(rng, &mut case.message);
         }
@@ -109,11 +123,11 @@ fn size(rng: &mut Rng, original: &Message, bytes: &mut Vec<u8>) {
     let sizes = size_words(original);
     let (at, most) = sizes[rng.below(sizes.len())];
     if let Some(word) = words.get_mut(at) {
-        *word = match rng.below(5) {
-            0 => most + 1,
-            1 => 0,
-            2 => odd_word(rng, *word),
-            3 => most,
+        *word = match rng.below(8) {
+            0..=2 => most + 1,
+            3 => 0,
+            4 => odd_word(rng, *word),
+            5 => most,
             _ => odd_word(rng, most),
         };
     }
