@@ -17,13 +17,19 @@ oracle against PROGRAM SEED COUNT      the same messages through a program that 
 oracle time FILE...                    how long the verifier takes
 oracle corpus SEED COUNT OUT           OUT.bin and OUT.txt: messages of every verdict, what is expected
 oracle check-corpus OUT                verifies a stored corpus anew
-oracle hostile DIR                     writes worst-case messages for a benchmark";
+oracle hostile DIR                     writes worst-case messages
+oracle bench                           times of the proved code and of `verify`, as Markdown (feature `proved`)";
 
 fn answer(command: &str, args: &[String]) -> Answer {
     match command {
         "verify" => verify::command(args),
         "run" => run::command(args),
+        #[cfg(feature = "proved")]
         "fuzz" => fuzz::command(args),
+        #[cfg(feature = "proved")]
+        "bench" => commands::bench::command(args),
+        #[cfg(not(feature = "proved"))]
+        "fuzz" | "bench" => Err(commands::WITHOUT_PROVED.to_string()),
         "fuzz-naive" => fuzz::naive(args),
         "against" => against::command(args),
         "time" => time::command(args),

@@ -15,11 +15,6 @@ pub fn command(args: &[String]) -> Answer {
     oracle::stack::with_stack(oracle::proved::STACK, || fuzz(args, &oracle::proved::verify, &verify::verify))?
 }
 
-#[cfg(not(feature = "proved"))]
-pub fn command(_: &[String]) -> Answer {
-    Err(super::WITHOUT_PROVED.to_string())
-}
-
 /// The second reading beside `verify`.
 pub fn naive(args: &[String]) -> Answer {
     fuzz(args, &naive::verify, &verify::verify)

@@ -2,6 +2,8 @@
 
 pub mod against;
 pub mod assemble;
+#[cfg(feature = "proved")]
+pub mod bench;
 pub mod corpus;
 pub mod disassemble;
 pub mod explain;

@@ -4,7 +4,7 @@ use super::build;
 use super::damage::{self, Case};
 use super::rng::Rng;
 use crate::counters::check_demand_3;
-use crate::message;
+use crate::stress::sizes;
 use crate::verify::Outcome;
 
 /// A verifier to be compared.
@@ -90,9 +90,7 @@ impl Tally {
 
     /// A safe message seen.
     fn measure(&mut self, message: &[u8]) {
-        let Ok(m) = message::read(message) else { return };
-        let sizes = [m.rows, m.flow, m.mail, m.states, m.bounds, m.entries.len()];
-        self.largest.iter_mut().zip(sizes).for_each(|(largest, size)| *largest = size.max(*largest));
+        self.largest.iter_mut().zip(sizes(message)).for_each(|(largest, size)| *largest = size.max(*largest));
     }
 
     pub fn words(&self) -> String {
