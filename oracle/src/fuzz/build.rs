@@ -9,8 +9,10 @@ use crate::least;
 use crate::limits::{self, UNBOUNDED};
 use crate::message::Message;
 use crate::program::Program;
+use crate::stress::{flow, honest};
 use crate::system::System;
 use crate::tables::Tables;
+use crate::verify::{self, Read};
 
 /// A message, the words its system needs if it is safe, and the numbers of its bounds.
 #[derive(Clone, Debug)]
@@ -29,6 +31,20 @@ fn size(rng: &mut Rng) -> usize {
         97..=98 => rng.range(150, 500),
         _ => rng.range(400, 1000),
     }
+}
+
+/// Stations near the limits, which chance does not reach: honest ones and those with the most flow.
+pub fn large() -> Result<Vec<Station>, String> {
+    let samples = honest::honest()?.into_iter().chain(flow::hostile()?);
+    samples.filter(|sample| sample.verdict == 0).map(|sample| known(&sample.message)).collect()
+}
+
+/// The station of a message that is safe.
+fn known(message: &[u8]) -> Result<Station, String> {
+    let mut read = Read::default();
+    verify::inspect(message, &mut read).map_err(|r| format!("refused {} at {}", r.number, r.position))?;
+    let (message, system) = read.message.zip(read.system).ok_or("not all parts were read")?;
+    Ok(Station { message, words: system.words(), counters: system.counters() })
 }
 
 /// A random station; tries until the limits are kept.
@@ -102,28 +118,35 @@ fn uncounted(mut m: Message) -> Message {
 /// Some entries more than are needed, and what they want.
 fn with_extra(rng: &mut Rng, program: &Program, tables: Tables) -> Tables {
     let values: Vec<usize> = (0..=program.rows).filter(|&v| program.is_value(v)).collect();
-    let heads: Vec<usize> = (0..program.rows).filter(|&r| program.is_head(r)).collect();
     let mut more = tables.clone();
-    let most = if rng.chance(1, 12) { 150 } else { 3 };
+    let most = if rng.chance(1, 8) { 150 } else { 3 };
     for _ in 0..rng.range(1, most) {
-        let (Some(&value), Some(&head)) = (rng.pick(&values), rng.pick(&heads)) else { break };
-        let class = rng.below(more.mail.len());
-        match rng.below(3) {
-            0 => {
-                more.flow[rng.below(program.names)].insert(value);
-            }
-            1 => {
-                more.mail[class].insert(value);
-            }
-            _ => {
-                let class = program.classes().nth(class).unwrap_or(program.rows);
-                if let Err(i) = more.states.binary_search(&(class, head)) {
-                    more.states.insert(i, (class, head));
-                }
-            }
-        }
+        add_entry(rng, program, &values, &mut more);
+    }
+    if rng.chance(1, 10) {
+        let full = if rng.chance(1, 2) { rng.pick_mut(&mut more.flow) } else { rng.pick_mut(&mut more.mail) };
+        full.into_iter().for_each(|set| values.iter().for_each(|&v| { set.insert(v); }));
     }
     least::close(program, more)
+}
+
+/// One entry in one of the lists.
+fn add_entry(rng: &mut Rng, program: &Program, values: &[usize], tables: &mut Tables) {
+    let value = rng.pick(values).copied().unwrap_or(program.rows);
+    match rng.below(3) {
+        0 => rng.pick_mut(&mut tables.flow).into_iter().for_each(|set| { set.insert(value); }),
+        1 => rng.pick_mut(&mut tables.mail).into_iter().for_each(|set| { set.insert(value); }),
+        _ => add_state(rng, program, tables),
+    }
+}
+
+fn add_state(rng: &mut Rng, program: &Program, tables: &mut Tables) {
+    let classes: Vec<usize> = program.classes().collect();
+    let heads: Vec<usize> = (0..program.rows).filter(|&r| program.is_head(r)).collect();
+    let (Some(&class), Some(&head)) = (rng.pick(&classes), rng.pick(&heads)) else { return };
+    if let Err(i) = tables.states.binary_search(&(class, head)) {
+        tables.states.insert(i, (class, head));
+    }
 }
 
 /// Items of each bad: class, then place as a row, then minimum.

@@ -115,30 +115,47 @@ fn numbers(rng: &mut Rng) -> Vec<usize> {
     (0..rng.range(1, length)).map(|_| rng.below(most + 1)).collect()
 }
 
-/// The next case of a fuzz run; a station is used for several.
+/// The cases of a fuzz run; a station is used for several.
 pub struct Cases {
     rng: Rng,
     station: build::Station,
     left: usize,
+    /// Stations near the limits, made when first used.
+    large: Vec<build::Station>,
 }
+
+/// Cases of one station.
+const EACH: usize = 6;
 
 impl Cases {
     pub fn new(seed: u64) -> Cases {
         let mut rng = Rng::new(seed);
         let station = build::station(&mut rng);
-        Cases { rng, station, left: 6 }
+        Cases { rng, station, left: EACH, large: Vec::new() }
     }
 
     pub fn next_case(&mut self) -> Case {
         if self.left == 0 {
-            self.station = build::station(&mut self.rng);
-            self.left = 6;
+            self.station = self.next_station();
+            self.left = EACH;
         }
         self.left -= 1;
         match self.rng.chance(2, 5) {
             true => damage::whole(&mut self.rng, &self.station),
             false => damage::damaged(&mut self.rng, &self.station),
         }
+    }
+
+    /// Mostly a random one, seldom a large one.
+    fn next_station(&mut self) -> build::Station {
+        if !self.rng.chance(1, 200) {
+            return build::station(&mut self.rng);
+        }
+        if self.large.is_empty() {
+            self.large = build::large().unwrap_or_default();
+        }
+        let large = self.rng.pick(&self.large).cloned();
+        large.unwrap_or_else(|| build::station(&mut self.rng))
     }
 }
 
