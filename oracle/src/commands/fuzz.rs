@@ -6,7 +6,7 @@ use oracle::{naive, verify};
 
 /// Where the message of a difference is kept.
 const KEPT: &str = "difference.msg";
-/// A run of so many messages fails if a verdict is missing.
+/// A run of so many messages fails if a verdict is missing, or if less than a third is safe.
 const MANY: usize = 20_000;
 
 /// The proved code beside `verify`.
@@ -32,8 +32,11 @@ fn fuzz(args: &[String], first: Verifier, second: Verifier) -> Answer {
 }
 
 fn complete(tally: &Tally) -> Answer {
-    match tally.verdicts.iter().position(|&seen| seen == 0) {
-        Some(number) if tally.total() >= MANY => Err(format!("{}verdict {number} did not come", tally.words())),
-        _ => Ok(tally.words()),
+    let missing = tally.verdicts.iter().position(|&seen| seen == 0);
+    match missing {
+        _ if tally.total() < MANY => Ok(tally.words()),
+        Some(number) => Err(format!("{}verdict {number} did not come", tally.words())),
+        None if 3 * tally.verdicts[0] < tally.total() => Err(format!("{}less than a third is safe", tally.words())),
+        None => Ok(tally.words()),
     }
 }
