@@ -16,7 +16,7 @@ oracle fuzz-naive SEED COUNT           the same messages through `verify` and a 
 oracle against PROGRAM SEED COUNT      the same messages through a program that prints the listing
 oracle time FILE...                    how long the verifier takes
 oracle corpus SEED COUNT OUT           OUT.bin and OUT.txt: messages of every verdict, what is expected
-oracle check-corpus OUT                verifies a stored corpus anew
+oracle check-corpus BIN TXT            verifies a stored corpus anew
 oracle hostile DIR                     writes worst-case messages
 oracle bench                           times of the proved code and of `verify`, as Markdown (feature `proved`)";
 

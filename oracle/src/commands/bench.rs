@@ -129,7 +129,7 @@ fn machine() -> String {
 fn report() -> Answer {
     let mut lent = vec![0; PLENTY];
     let mut text = format!(
-        "The middle time of one call, the proved code and `oracle verify` in turn in one process, on {}.\n\n",
+        "# Performance\n\nThe middle time of one call, the proved code and `oracle verify` in turn in one process, on {}.\n\n",
         machine()
     );
     text.push_str(&table("Examples", &examples()?, &mut lent)?);

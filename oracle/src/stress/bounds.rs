@@ -49,6 +49,20 @@ pub fn apart(system: &System) -> Vec<Limits> {
     bounds
 }
 
+/// 256 bounds: 255 of the busiest states with up to as many letters, and last the one that holds everything.
+pub fn busy(system: &System) -> Vec<Limits> {
+    let n = system.counters();
+    let held = (ENTRIES - n - 1) / (MOST - 1) - 1;
+    let letters = system.letters.len().min(held / 2);
+    let ranges = system.by_state();
+    let mut states: Vec<usize> = (0..system.states).collect();
+    states.sort_by_key(|&state| std::cmp::Reverse(ranges[state].len()));
+    let mut limits = vec![0; n];
+    states.iter().take(held - letters).for_each(|&state| limits[state] = UNBOUNDED);
+    limits[n - letters..].fill(UNBOUNDED);
+    vec![limits; MOST - 1].into_iter().chain(one(system)).collect()
+}
+
 /// As `alike`, but the last bound leaks: its last counter is finite.
 pub fn leaking(system: &System) -> Vec<Limits> {
     let mut bounds = alike(system);
