@@ -44,10 +44,10 @@ module _ (n : ℕ) (entries : Columns) (ceilings : ℕ) where
   pub record Filled (k e : ℕ) (limits starts : List ℕ) : Type 0 where
     pub walked : Walks k e
     pub filled : (j x : ℕ) → j < k → x < n → getD limits (cell j x) 0 ≡ limit-from n entries (entries .size - bound-entry n entries j) (bound-entry n entries j) x
-    pub blank : (j : ℕ) → k ≤ j → Blank limits j
+    pub blank : (j : ℕ) → k ≤ j → j < ceilings → Blank limits j
     pub begun : (j : ℕ) → j < k → getD starts j 0 ≡ bound-entry n entries j
 
-  pub filled-start : first-wrong (bound-step n) entries (bounds-of ceilings) ≡ none → (limits starts : List ℕ) → ((j : ℕ) → Blank limits j) → Filled 0 0 limits starts
+  pub filled-start : first-wrong (bound-step n) entries (bounds-of ceilings) ≡ none → (limits starts : List ℕ) → ((j : ℕ) → j < ceilings → Blank limits j) → Filled 0 0 limits starts
   filled-start h limits starts blank =
       record { walked = walked-start (bound-step n) entries (from-counter 0) ceilings h; filled = λ j x b. absurd (omega arith); blank = λ j b. blank j; begun = λ j b. absurd (omega arith) }
 
@@ -61,7 +61,7 @@ module _ (n : ℕ) (entries : Columns) (ceilings : ℕ) where
           | yes z ↦ rw (z, at) (b .here x y)
           | no z ↦ b .others j x (omega arith) z ∙ f .filled j x (omega arith) y
         ];
-        blank = λ j h x y. b .others j x y (λ z. omega arith) ∙ f .blank j (omega arith) x y;
+        blank = λ j h l x y. b .others j x y (λ z. omega arith) ∙ f .blank j (omega arith) l x y;
         begun = λ j h. elim (ℕ-discrete j k) [
           | yes z ↦ rw (z, at) (getD-set-same starts k e 0 room)
           | no z ↦ getD-set-other starts k j e 0 z ∙ f .begun j (omega arith)
@@ -70,12 +70,20 @@ module _ (n : ℕ) (entries : Columns) (ceilings : ℕ) where
 
 -- all ceilings of a message
 module _ (ws : List ℕ) (s : Sizes) (n k e : ℕ) (limits starts : List ℕ) (all : k ≡ s .bounds) (f : Filled n (bound-entries ws s) (s .bounds) k e limits starts) where
-  pub limits-table : limit-cells ≤ length limits → Limits-table (bounds ws s n) limits
+  pub limits-table : limit-cells (s .bounds) ≤ length limits → Limits-table (bounds ws s n) limits
   unfolding bounds
   limits-table room = record { room = room; limit = λ j x b. f .filled j x (omega arith) }
 
-  pub starts-table : Starts-table n (bound-entries ws s) (s .bounds) starts
-  starts-table = record { start = λ j b. f .begun j (omega arith) }
+  pub starts-table : s .bounds ≤ length starts → Starts-table n (bound-entries ws s) (s .bounds) starts
+  starts-table room = record { room = room; start = λ j b. f .begun j (omega arith) }
+
+-- the ceilings lie in the table, and the part of ceiling k does
+pub room-all : (ws : List ℕ) (s : Sizes) (n : ℕ) (limits : List ℕ) → Limits-table (bounds ws s n) limits → limit-cells (s .bounds) ≤ length limits
+unfolding bounds
+room-all ws s n limits h = h .room
+
+pub room-at : (ws : List ℕ) (s : Sizes) (n k : ℕ) (limits : List ℕ) → Limits-table (bounds ws s n) limits → k < s .bounds → limit-cells (k + 1) ≤ length limits
+room-at ws s n k limits h below = omega (arith, room-all ws s n limits h)
 
 -- entries are as many as the message says
 pub entries-size : (ws : List ℕ) (s : Sizes) → bound-entries ws s .size ≡ s .limits

@@ -20,7 +20,7 @@ use Rattle.bounds.proofs.Suspects.{few}
 
 -- a step within fewer counters is within more
 pub within-more : (n m : ℕ) (σ : Step) → n ≤ m → Step-within n σ → Step-within m σ
-within-more n m σ h w = record { from = omega (arith, w .from); to = omega (arith, w .to); other = omega (arith, w .other); kind = w .kind }
+within-more n m σ h w = record { from = omega (arith, w .from); read = λ e. let z = w .read e in omega arith; kind = w .kind }
 
 pub passes-is : (limits : List ℕ) (k k′ : ℕ) (σ : Step) (y h count l : ℕ) (b : Bool) → σ .kind ≤ 3 → h ≡ highest (row limits k) y → count ≡ fire (rule-of-step σ) (λ _. h) y → l ≡ row limits k′ y → b ≡ allowed l count → b ≡ passes limits k k′ σ y
 unfolding passes
@@ -62,9 +62,9 @@ module _ (limits : List ℕ) (n k : ℕ) (σ : Step) where
     all-pass =
         few limits n k k′ σ (within .kind)
         (λ i l below. let (j, inside, e) = kept-suspect pairs k k′ σ i l in passing j _ inside below (sym (table .all .kept-at k k′ i b l (omega arith)) ∙ e))
-        (passing 3 (σ .from) (omega arith) (within .from) refl)
-        (passing 2 (σ .to) (omega arith) (within .to) refl)
-        (passing 1 (σ .other) (omega arith) (within .other) refl)
+        (λ below. passing 3 (σ .from) (omega arith) below refl)
+        (λ below. passing 2 (σ .to) (omega arith) below refl)
+        (λ below. passing 1 (σ .other) (omega arith) below refl)
 
     pub covers-all : covers k′ ≡ true
     unfolding covers under passes

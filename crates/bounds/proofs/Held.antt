@@ -36,15 +36,15 @@ any-same e f g h =
     (λ t. let (k, w, p) = any-elim 0 e f t in any-intro 0 e k g (w .0) (w .1) (sym (h k (w .1)) ∙ p))
     (λ t. let (k, w, p) = any-elim 0 e g t in any-intro 0 e k f (w .0) (w .1) (h k (w .1) ∙ p))
 
-readable-same : (kind other : ℕ) (m m′ : Marking) → kind ≤ 3 → m other ≡ m′ other → readable (effect-of kind other) m ≡ readable (effect-of kind other) m′
+readable-same : (kind other : ℕ) (m m′ : Marking) → kind ≤ 3 → (kind ≡ 1 → m other ≡ m′ other) → readable (effect-of kind other) m ≡ readable (effect-of kind other) m′
 unfolding readable effect-of
 readable-same zero other m m′ h e = refl
-readable-same (suc zero) other m m′ h e = ap (leb 1) e
+readable-same (suc zero) other m m′ h e = ap (leb 1) (e refl)
 readable-same (suc (suc zero)) other m m′ h e = refl
 readable-same (suc (suc (suc zero))) other m m′ h e = refl
 readable-same (suc (suc (suc (suc kind)))) other m m′ h e = absurd (omega arith)
 
-usable-same : (σ : Step) (m m′ : Marking) → σ .kind ≤ 3 → m (σ .from) ≡ m′ (σ .from) → m (σ .other) ≡ m′ (σ .other) → usable (rule-of-step σ) m ≡ usable (rule-of-step σ) m′
+usable-same : (σ : Step) (m m′ : Marking) → σ .kind ≤ 3 → m (σ .from) ≡ m′ (σ .from) → (σ .kind ≡ 1 → m (σ .other) ≡ m′ (σ .other)) → usable (rule-of-step σ) m ≡ usable (rule-of-step σ) m′
 unfolding usable rule-of-step
 usable-same σ m m′ h e f = ap₂ (λ a b. leb 1 a && b) e (readable-same (σ .kind) (σ .other) m m′ h f)
 
@@ -73,7 +73,7 @@ module _ (bs : Bounds) (limits : List ℕ) (table : Limits-table bs limits) (k :
   unfolding escapes under-some
   escapes-same =
       ap₂ (λ a b. a && not b)
-      (usable-same σ ours theirs (within .kind) (counts-same (σ .from) (within .from)) (counts-same (σ .other) (within .other)))
+      (usable-same σ ours theirs (within .kind) (counts-same (σ .from) (within .from)) (λ e. counts-same (σ .other) (within .read e)))
       (any-same (bs .size) _ _ under-same)
 
 -- the ceilings of a message: how many, over how many counters

@@ -43,7 +43,7 @@ module _ (n : ℕ) (limits : List ℕ) (k k′ : ℕ) (before : List ℕ) (a b c
     three-at (suc (suc (suc i))) f h x y z = absurd (omega arith)
 
   -- one pair
-  pub pair-filled : k < maxBounds → k′ < maxBounds → pair-cells ≤ length before → at ≡ pair k k′ * kept → a ≡ first 0 n (exceeds limits k k′) → b ≡ first (a + 1) n (exceeds limits k k′) → c ≡ first (b + 1) n (exceeds limits k k′) → Pair-filled n limits k k′ before three
+  pub pair-filled : k < maxBounds → k′ < maxBounds → pair-cells (k + 1) ≤ length before → at ≡ pair k k′ * kept → a ≡ first 0 n (exceeds limits k k′) → b ≡ first (a + 1) n (exceeds limits k k′) → c ≡ first (b + 1) n (exceeds limits k k′) → Pair-filled n limits k k′ before three
   unfolding exceeding
   pair-filled h h′ room e x y z =
       record {
@@ -69,5 +69,5 @@ module _ (ceilings n : ℕ) (limits : List ℕ) where
   pub pairs-row : (k k′ : ℕ) (pairs : List ℕ) → ceilings ≤ maxBounds → ceilings ≤ k′ → Pairs-before ceilings n limits pairs (pair k k′) → Pairs-before ceilings n limits pairs (pair (k + 1) 0)
   pairs-row k k′ pairs small h p = record { kept-at = λ j j′ i a b l. p .kept-at j j′ i a b (omega arith) }
 
-  pub pairs-all : (k : ℕ) (pairs : List ℕ) → ceilings ≤ k → pair-cells ≤ length pairs → Pairs-before ceilings n limits pairs (pair k 0) → Pairs-table ceilings n limits pairs
+  pub pairs-all : (k : ℕ) (pairs : List ℕ) → ceilings ≤ k → pair-cells ceilings ≤ length pairs → Pairs-before ceilings n limits pairs (pair k 0) → Pairs-table ceilings n limits pairs
   pairs-all k pairs h room p = record { room = room; all = record { kept-at = λ j j′ i a b l. p .kept-at j j′ i a b (omega arith) } }

@@ -103,13 +103,13 @@ module _ (limits : List ℕ) (n k k′ : ℕ) (σ : Step) (small : σ .kind ≤ 
         ]
 
   -- where none of these few exceeds, none does
-  pub few : ((i : ℕ) → i < 3 → exceeding limits n k k′ i < n → pass (exceeding limits n k k′ i) ≡ true) → pass (σ .from) ≡ true → pass (σ .to) ≡ true → pass (σ .other) ≡ true → (x : ℕ) → x < n → pass x ≡ true
+  pub few : ((i : ℕ) → i < 3 → exceeding limits n k k′ i < n → pass (exceeding limits n k k′ i) ≡ true) → (σ .from < n → pass (σ .from) ≡ true) → (σ .to < n → pass (σ .to) ≡ true) → (σ .other < n → pass (σ .other) ≡ true) → (x : ℕ) → x < n → pass x ≡ true
   few kept from to other x below = elim (ℕ-discrete x (σ .from)) [
-    | yes e ↦ rw e from
+    | yes e ↦ rw e (from (omega arith))
     | no a ↦ elim (ℕ-discrete x (σ .to)) [
-      | yes e ↦ rw e to
+      | yes e ↦ rw e (to (omega arith))
       | no b ↦ elim (ℕ-discrete x (σ .other)) [
-        | yes e ↦ rw e other
+        | yes e ↦ rw e (other (omega arith))
         | no c ↦ test (exceeds limits k k′ x) (exceeded kept x below) (untouched x a b c)
       ]
     ]

@@ -5,7 +5,7 @@ use mathlib.Core.List.{List}
 use mathlib.Core.Option.{none}
 use lib.ListN.{length, getD}
 use Rattle.model.specs.declared.Sizes.{Sizes}
-use Rattle.model.specs.Limits.{maxBounds, maxCounters}
+use Rattle.model.specs.Limits.{maxCounters}
 use Rattle.model.specs.Words.{Columns}
 use Rattle.model.specs.Reader.{past, read, after, first-wrong}
 use Rattle.model.specs.Bounds.{Bounds, bound-entries, bound-step, bounds-of, bound-entry, limit-from}
@@ -18,16 +18,17 @@ In-form ws s n = first-wrong (bound-step n) (bound-entries ws s) (bounds-of (s .
 abbrev pub cell : ℕ → ℕ → ℕ
 cell k x = k * maxCounters + x
 
--- one for each counter under each ceiling
-abbrev pub limit-cells : ℕ
-limit-cells = maxBounds * maxCounters
+-- so many ceilings take one for each counter
+abbrev pub limit-cells : ℕ → ℕ
+limit-cells ceilings = ceilings * maxCounters
 
 pub record Limits-table (bs : Bounds) (limits : List ℕ) : Type 0 where
-  pub room : limit-cells ≤ length limits
+  pub room : limit-cells (bs .size) ≤ length limits
   pub limit : (k x : ℕ) → k < bs .size → x < bs .counters → getD limits (cell k x) 0 ≡ bs .limit k x
 
 -- the first entries of the ceilings
 pub record Starts-table (n : ℕ) (entries : Columns) (ceilings : ℕ) (starts : List ℕ) : Type 0 where
+  pub room : ceilings ≤ length starts
   pub start : (k : ℕ) → k < ceilings → getD starts k 0 ≡ bound-entry n entries k
 
 -- the entry after the ceiling that stands at entry e

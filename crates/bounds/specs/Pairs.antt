@@ -35,15 +35,16 @@ kept = 3
 abbrev pub pair : ℕ → ℕ → ℕ
 pair k k′ = k * maxBounds + k′
 
-abbrev pub pair-cells : ℕ
-pair-cells = maxBounds * maxBounds * kept
+-- so many ceilings take three for each ceiling that there may be
+abbrev pub pair-cells : ℕ → ℕ
+pair-cells ceilings = ceilings * maxBounds * kept
 
 -- the pairs before number m are in the table
 pub record Pairs-before (ceilings n : ℕ) (limits pairs : List ℕ) (m : ℕ) : Type 0 where
   pub kept-at : (k k′ i : ℕ) → k′ < ceilings → i < kept → pair k k′ < m → getD pairs (pair k k′ * kept + i) 0 ≡ exceeding limits n k k′ i
 
 pub record Pairs-table (ceilings n : ℕ) (limits pairs : List ℕ) : Type 0 where
-  pub room : pair-cells ≤ length pairs
+  pub room : pair-cells ceilings ≤ length pairs
   pub all : Pairs-before ceilings n limits pairs (ceilings * maxBounds)
 
 -- one pair is in the table, and the others are as before

@@ -1,5 +1,6 @@
 -- A rule as the code hands it on, one by one.
 use Prim.Native.Nat.{ℕ, _-_, _+_, _≤_, _<_}
+use mathlib.Core.Path.{_≡_}
 use mathlib.Core.Bool.{Bool, true, false, not, _&&_}
 use mathlib.Core.List.{[], _∷_}
 use lib.ListN.{getD}
@@ -16,11 +17,10 @@ effect-of kind x = getD (quiet ∷ reads x ∷ puts x ∷ starts x ∷ []) kind 
 unfoldable pub rule-of-step : Step → Rule
 rule-of-step σ = rule (σ .from) (σ .to) (effect-of (σ .kind) (σ .other))
 
--- its counters are three of the n (a quiet step names any as the other), its kind is one of the four
+-- what it takes from are counters of the n, its kind is one of the four
 pub record Step-within (n : ℕ) (σ : Step) : Type 0 where
   pub from : σ .from < n
-  pub to : σ .to < n
-  pub other : σ .other < n
+  pub read : σ .kind ≡ 1 → σ .other < n
   pub kind : σ .kind ≤ 3
 
 -- counter y is the other, from which the step takes, or to which it adds

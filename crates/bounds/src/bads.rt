@@ -15,7 +15,7 @@ ghost use Rattle.bounds.specs.Items.{Ready, most, Bads-in-form, Bad-stan
 ghost use Rattle.bounds.specs.Parts.{Whole};
 
 // The tag of a row of the bads, and 0 past the last row.
-fn bad_tag(ws: &[u16], s: Sizes, r: usize) -> usize
+pub fn bad_tag(ws: &[u16], s: Sizes, r: usize) -> usize
     requires { ⌜ Whole (now ws) s ⌝ }
     ensures { λ t. ⌜ t ≡ left (bad-rows (now (ws .entry)) s) r ⌝ }
 {
@@ -23,7 +23,7 @@ fn bad_tag(ws: &[u16], s: Sizes, r: usize) -> usize
 }
 
 // The number of a row of the bads, and 0 past the last row.
-fn bad_number(ws: &[u16], s: Sizes, r: usize) -> usize
+pub fn bad_number(ws: &[u16], s: Sizes, r: usize) -> usize
     requires { ⌜ Whole (now ws) s ⌝ }
     ensures { λ t. ⌜ t ≡ right (bad-rows (now (ws .entry)) s) r ⌝ }
 {

@@ -99,7 +99,7 @@ fn fill_bound(ws: &[u16], s: Sizes, n: usize, k: usize, e: usize, limits: &mut [
     requires { ⌜ (n ≤ maxCounters) × (k < maxBounds) ⌝ }
     requires { ⌜ Stands n (bound-entries (now ws) s) e ⌝ }
     requires { ⌜ Blank (now limits) k ⌝ }
-    requires { ⌜ limit-cells ≤ length (now limits) ⌝ }
+    requires { ⌜ limit-cells (k + 1) ≤ length (now limits) ⌝ }
     ensures { λ r. ⌜ r ≡ bound-end n (bound-entries (now (ws .entry)) s) e ⌝ }
     ensures { λ r. ⌜ Bound-filled n (bound-entries (now (ws .entry)) s) k e (now (limits .entry)) (now (limits .exit)) ⌝ }
 {
@@ -115,13 +115,13 @@ fn fill_bound(ws: &[u16], s: Sizes, n: usize, k: usize, e: usize, limits: &mut [
     }
 }
 
-// The limits of all ceilings, and where each begins. The table is lent blank.
+// The limits of all ceilings, and where each begins. The parts of these ceilings are lent blank.
 pub fn fill_limits(ws: &[u16], s: Sizes, n: usize, limits: &mut [u16], starts: &mut [u16])
     requires { ⌜ Whole (now ws) s ⌝ }
     requires { ⌜ n ≤ maxCounters ⌝ }
     requires { ⌜ In-form (now ws) s n ⌝ }
-    requires { ⌜ ((k : ℕ) → Blank (now limits) k) ⌝ }
-    requires { ⌜ (limit-cells ≤ length (now limits)) × (maxBounds ≤ length (now starts)) ⌝ }
+    requires { ⌜ ((k : ℕ) → k < s .bounds → Blank (now limits) k) ⌝ }
+    requires { ⌜ (limit-cells (s .bounds) ≤ length (now limits)) × (s .bounds ≤ length (now starts)) ⌝ }
     ensures { λ _. ⌜ Limits-table (bounds (now (ws .entry)) s n) (now (limits .exit)) ⌝ }
     ensures { λ _. ⌜ Starts-table n (bound-entries (now (ws .entry)) s) (s .bounds) (now (starts .exit)) ⌝ }
 {

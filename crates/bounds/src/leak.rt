@@ -71,7 +71,7 @@ fn count_after(count: usize, step: Step, y: usize) -> usize
 fn is_usable(limits: &[u16], k: usize, step: Step) -> bool
     requires { ⌜ k < maxBounds ⌝ }
     requires { ⌜ Step-within maxCounters step ⌝ }
-    requires { ⌜ limit-cells ≤ length (now limits) ⌝ }
+    requires { ⌜ limit-cells (k + 1) ≤ length (now limits) ⌝ }
     ensures { λ r. ⌜ r ≡ usable (rule-of-step step) (highest (row (now (limits .entry)) k)) ⌝ }
 {
     if highest(limits, k, step.from) == 0 {
@@ -87,7 +87,7 @@ fn is_usable(limits: &[u16], k: usize, step: Step) -> bool
 fn passes(limits: &[u16], k: usize, k2: usize, step: Step, y: usize) -> bool
     requires { ⌜ (k < maxBounds) × (k2 < maxBounds) ⌝ }
     requires { ⌜ (y < maxCounters) × (step .kind ≤ 3) ⌝ }
-    requires { ⌜ limit-cells ≤ length (now limits) ⌝ }
+    requires { ⌜ (limit-cells (k + 1) ≤ length (now limits)) × (limit-cells (k2 + 1) ≤ length (now limits)) ⌝ }
     ensures { λ r. ⌜ r ≡ passes (now (limits .entry)) k k2 step y ⌝ }
 {
     let count = count_after(highest(limits, k, y), step, y);
@@ -98,7 +98,7 @@ fn passes(limits: &[u16], k: usize, k2: usize, step: Step, y: usize) -> bool
 fn suspect(pairs: &[u16], k: usize, k2: usize, step: Step, i: usize) -> usize
     requires { ⌜ (k < maxBounds) × (k2 < maxBounds) ⌝ }
     requires { ⌜ i < suspects ⌝ }
-    requires { ⌜ pair-cells ≤ length (now pairs) ⌝ }
+    requires { ⌜ pair-cells (k + 1) ≤ length (now pairs) ⌝ }
     ensures { λ r. ⌜ r ≡ suspect (now (pairs .entry)) k k2 step i ⌝ }
 {
     match i {
@@ -122,7 +122,7 @@ pub fn leads_out(
 ) -> bool
     requires { ⌜ (ceilings ≤ maxBounds) × (k < ceilings) ⌝ }
     requires { ⌜ (n ≤ maxCounters) × Step-within n step ⌝ }
-    requires { ⌜ limit-cells ≤ length (now limits) ⌝ }
+    requires { ⌜ limit-cells ceilings ≤ length (now limits) ⌝ }
     requires { ⌜ Pairs-table ceilings n (now limits) (now pairs) ⌝ }
     ensures { λ r. ⌜ r ≡ escapes (held ceilings n (now (limits .entry))) (rule-of-step step) (highest (row (now (limits .entry)) k)) ⌝ }
 {

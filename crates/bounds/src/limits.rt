@@ -20,7 +20,7 @@ ghost use Rattle.bounds.specs.Parts.{Whole};
 // The limit of counter x under ceiling k.
 pub fn limit(limits: &[u16], k: usize, x: usize) -> usize
     requires { ⌜ (k < maxBounds) × (x < maxCounters) ⌝ }
-    requires { ⌜ limit-cells ≤ length (now limits) ⌝ }
+    requires { ⌜ limit-cells (k + 1) ≤ length (now limits) ⌝ }
     ensures { λ r. ⌜ r ≡ getD (now (limits .entry)) (cell k x) 0 ⌝ }
     ensures { λ r. ⌜ r ≤ omega-limit ⌝ }
 {
@@ -38,7 +38,7 @@ pub fn is_allowed(limit: usize, count: usize) -> bool
 // The highest count of counter x under ceiling k; past every limit where it is unbounded.
 pub fn highest(limits: &[u16], k: usize, x: usize) -> usize
     requires { ⌜ (k < maxBounds) × (x < maxCounters) ⌝ }
-    requires { ⌜ limit-cells ≤ length (now limits) ⌝ }
+    requires { ⌜ limit-cells (k + 1) ≤ length (now limits) ⌝ }
     ensures { λ r. ⌜ r ≡ highest (row (now (limits .entry)) k) x ⌝ }
     ensures { λ r. ⌜ r ≤ omega-limit + 1 ⌝ }
 {

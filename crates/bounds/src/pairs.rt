@@ -21,7 +21,7 @@ pub const PAIRS: usize = MAX_BOUNDS * MAX_BOUNDS * KEPT;
 fn exceeds(limits: &[u16], k: usize, k2: usize, x: usize) -> bool
     requires { ⌜ (k < maxBounds) × (k2 < maxBounds) ⌝ }
     requires { ⌜ x < maxCounters ⌝ }
-    requires { ⌜ limit-cells ≤ length (now limits) ⌝ }
+    requires { ⌜ (limit-cells (k + 1) ≤ length (now limits)) × (limit-cells (k2 + 1) ≤ length (now limits)) ⌝ }
     ensures { λ r. ⌜ r ≡ exceeds (now (limits .entry)) k k2 x ⌝ }
 {
     !is_allowed(limit(limits, k2, x), highest(limits, k, x))
@@ -31,7 +31,7 @@ fn exceeds(limits: &[u16], k: usize, k2: usize, x: usize) -> bool
 fn next_exceeding(limits: &[u16], n: usize, k: usize, k2: usize, low: usize) -> usize
     requires { ⌜ (k < maxBounds) × (k2 < maxBounds) ⌝ }
     requires { ⌜ (n ≤ maxCounters) × (low ≤ 2 * maxCounters + 2) ⌝ }
-    requires { ⌜ limit-cells ≤ length (now limits) ⌝ }
+    requires { ⌜ (limit-cells (k + 1) ≤ length (now limits)) × (limit-cells (k2 + 1) ≤ length (now limits)) ⌝ }
     ensures { λ r. ⌜ r ≡ first low n (exceeds (now (limits .entry)) k k2) ⌝ }
     ensures { λ r. ⌜ r ≤ low + n ⌝ }
 {
@@ -49,7 +49,8 @@ fn next_exceeding(limits: &[u16], n: usize, k: usize, k2: usize, low: usize) -> 
 fn fill_pair(limits: &[u16], n: usize, k: usize, k2: usize, pairs: &mut [u16])
     requires { ⌜ (k < maxBounds) × (k2 < maxBounds) ⌝ }
     requires { ⌜ n ≤ maxCounters ⌝ }
-    requires { ⌜ (limit-cells ≤ length (now limits)) × (pair-cells ≤ length (now pairs)) ⌝ }
+    requires { ⌜ (limit-cells (k + 1) ≤ length (now limits)) × (limit-cells (k2 + 1) ≤ length (now limits)) ⌝ }
+    requires { ⌜ pair-cells (k + 1) ≤ length (now pairs) ⌝ }
     ensures { λ _. ⌜ Pair-filled n (now (limits .entry)) k k2 (now (pairs .entry)) (now (pairs .exit)) ⌝ }
 {
     let a = next_exceeding(limits, n, k, k2, 0);
@@ -66,7 +67,7 @@ fn fill_pair(limits: &[u16], n: usize, k: usize, k2: usize, pairs: &mut [u16])
 // All pairs of ceilings.
 pub fn fill_pairs(limits: &[u16], ceilings: usize, n: usize, pairs: &mut [u16])
     requires { ⌜ (ceilings ≤ maxBounds) × (n ≤ maxCounters) ⌝ }
-    requires { ⌜ (limit-cells ≤ length (now limits)) × (pair-cells ≤ length (now pairs)) ⌝ }
+    requires { ⌜ (limit-cells ceilings ≤ length (now limits)) × (pair-cells ceilings ≤ length (now pairs)) ⌝ }
     ensures { λ _. ⌜ Pairs-table ceilings n (now (limits .entry)) (now (pairs .exit)) ⌝ }
 {
     for k in 0..ceilings {
@@ -80,7 +81,7 @@ pub fn fill_pairs(limits: &[u16], ceilings: usize, n: usize, pairs: &mut [u16])
 pub fn kept_at(pairs: &[u16], k: usize, k2: usize, i: usize) -> usize
     requires { ⌜ (k < maxBounds) × (k2 < maxBounds) ⌝ }
     requires { ⌜ i < kept ⌝ }
-    requires { ⌜ pair-cells ≤ length (now pairs) ⌝ }
+    requires { ⌜ pair-cells (k + 1) ≤ length (now pairs) ⌝ }
     ensures { λ r. ⌜ r ≡ getD (now (pairs .entry)) (pair k k2 * kept + i) 0 ⌝ }
 {
     let at = (k * MAX_BOUNDS + k2) * KEPT + i;

@@ -18,7 +18,8 @@ use model::Verdict;
 use program::rows::num;
 use program::rows::tag;
 ghost use mathlib.Core.Path.{_≡_};
-ghost use Prim.Native.Nat.{_≤_, _<_};
+ghost use Prim.Native.Nat.{_*_, _≤_, _<_};
+ghost use lib.ListN.{length};
 ghost use Rattle.model.specs.Rows.{program};
 ghost use Rattle.model.specs.Tables.{tables, state-at};
 ghost use Rattle.model.specs.Closed.{state-closed, open-check};
@@ -57,7 +58,7 @@ fn state_closed(
     requires { ⌜ Ground (now ws) s ⌝ }
     requires { ⌜ Layout (program (now ws) s) (now afters) (now inners) ⌝ }
     requires { ⌜ Branches (program (now ws) s) (tables (now ws) s) (now «by_name») (now «by_mail») ⌝ }
-    requires { ⌜ Inclusions (tables (now ws) s) (now table) ⌝ }
+    requires { ⌜ Inclusions (s .names) (tables (now ws) s) (now table) ⌝ }
     requires { ⌜ i < s .states ⌝ }
     ensures { λ b. ⌜ b ≡ state-closed (program (now (ws .entry)) s) (tables (now (ws .entry)) s) (state-at (tables (now (ws .entry)) s) i) ⌝ }
 {
@@ -89,7 +90,7 @@ fn first_open(
     requires { ⌜ Ground (now ws) s ⌝ }
     requires { ⌜ Layout (program (now ws) s) (now afters) (now inners) ⌝ }
     requires { ⌜ Branches (program (now ws) s) (tables (now ws) s) (now «by_name») (now «by_mail») ⌝ }
-    requires { ⌜ Inclusions (tables (now ws) s) (now table) ⌝ }
+    requires { ⌜ Inclusions (s .names) (tables (now ws) s) (now table) ⌝ }
     ensures { λ i. ⌜ (i ≡ first-open (program (now (ws .entry)) s) (tables (now (ws .entry)) s)) × (i ≤ s .states) ⌝ }
 {
     let mut i = 0;
@@ -102,7 +103,7 @@ fn first_open(
     i
 }
 
-// Refusal 8.
+// Refusal 8. The table of inclusions is lent.
 pub fn open_check(
     ws: &[u16],
     s: Sizes,
@@ -110,19 +111,20 @@ pub fn open_check(
     inners: &[u16],
     by_name: &[u8],
     by_mail: &[u8],
+    table: &mut [u8],
 ) -> Verdict
     requires { ⌜ Ground (now ws) s ⌝ }
     requires { ⌜ Layout (program (now ws) s) (now afters) (now inners) ⌝ }
     requires { ⌜ Branches (program (now ws) s) (tables (now ws) s) (now «by_name») (now «by_mail») ⌝ }
+    requires { ⌜ s .names * 512 ≤ length (now table) ⌝ }
     ensures { λ v. ⌜ v ≡ answer (open-check s (program (now (ws .entry)) s) (tables (now (ws .entry)) s)) ⌝ }
 {
     let base = tables_at(ws, s);
     if !opening_closed(ws, s, afters, inners) {
         return Verdict::Open(base);
     }
-    let mut table = [0u8; 262144];
-    fill(ws, s, &mut table);
-    let i = first_open(ws, s, afters, inners, by_name, by_mail, &table);
+    fill(ws, s, table);
+    let i = first_open(ws, s, afters, inners, by_name, by_mail, table);
     if i == s.states {
         return Verdict::Safe;
     }

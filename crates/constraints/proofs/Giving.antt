@@ -114,10 +114,10 @@ module _ {ws : List ℕ} {s : Sizes} {afters inners : List ℕ} (g : Ground ws s
 
 -- a name below V, as the table of inclusions has it
 module _ {ws : List ℕ} {s : Sizes} (g : Ground ws s) where
-  pub given-below : (r n : ℕ) → tag (program ws s) r ≡ 1 → n ≡ num (program ws s) r → n < 512
+  pub given-below : (r n : ℕ) → tag (program ws s) r ≡ 1 → n ≡ num (program ws s) r → n < s .names
   unfolding program
-  given-below r n t e = omega (arith, give-name (program ws s) (location g r (omega arith) (omega arith)) t, g .limits .names .1)
+  given-below r n t e = omega (arith, give-name (program ws s) (location g r (omega arith) (omega arith)) t)
 
-  pub called-below : (r n : ℕ) → tag (program ws s) r ≡ 4 → n ≡ num (program ws s) r → n < 512
+  pub called-below : (r n : ℕ) → tag (program ws s) r ≡ 4 → n ≡ num (program ws s) r → n < s .names
   unfolding program
-  called-below r n t e = omega (arith, call-name (program ws s) (location g r (omega arith) (omega arith)) t, g .limits .names .1)
+  called-below r n t e = omega (arith, call-name (program ws s) (location g r (omega arith) (omega arith)) t)

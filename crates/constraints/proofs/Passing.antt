@@ -77,18 +77,18 @@ call-each p t r c n x e h = h ∙ ap (λ m. each (t .flow) m (call-value p t c (
 
 -- the names there are names
 module _ {ws : List ℕ} {s : Sizes} (g : Ground ws s) where
-  pub argument-below : (r n i a : ℕ) → tag (program ws s) r ≡ 4 → n ≡ num (program ws s) (r + 2) → i < n → a ≡ num (program ws s) (r + 3 + i) → a < 512
+  pub argument-below : (r n i a : ℕ) → tag (program ws s) r ≡ 4 → n ≡ num (program ws s) (r + 2) → i < n → a ≡ num (program ws s) (r + 3 + i) → a < s .names
   unfolding program
   argument-below r n i a t e l h =
       let (y, below, names) = call-rest (program ws s) (location g r (omega arith) (omega arith)) t in
-      omega (arith, names i (omega arith), g .limits .names .1)
+      omega (arith, names i (omega arith))
 
-  pub parameter-below : (r f n i b : ℕ) → takes (program ws s) f (num (program ws s) (r + 2)) ≡ true → n ≡ num (program ws s) (r + 2) → i < n → b ≡ num (program ws s) (f + 2 + i) → b < 512
+  pub parameter-below : (r f n i b : ℕ) → takes (program ws s) f (num (program ws s) (r + 2)) ≡ true → n ≡ num (program ws s) (r + 2) → i < n → b ≡ num (program ws s) (f + 2 + i) → b < s .names
   unfolding program
   parameter-below r f n i b t e l h =
       let k = takes-count (program ws s) f (num (program ws s) (r + 2)) t in
       let (y, below, names) = function-body (program ws s) (form g f (k .0)) in
-      omega (arith, names i (omega arith), g .limits .names .1)
+      omega (arith, names i (omega arith))
 
   -- a call's count is small
   pub count-below : (r n : ℕ) → tag (program ws s) r ≡ 4 → n ≡ num (program ws s) (r + 2) → n < 1024

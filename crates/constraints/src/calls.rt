@@ -21,7 +21,7 @@ ghost use Rattle.constraints.specs.Parts.{call-value};
 // Whether the parameters of f hold the values of the arguments of the call at row r.
 fn passes(ws: &[u16], s: Sizes, table: &[u8], r: usize, f: usize) -> bool
     requires { ⌜ Ground (now ws) s ⌝ }
-    requires { ⌜ Inclusions (tables (now ws) s) (now table) ⌝ }
+    requires { ⌜ Inclusions (s .names) (tables (now ws) s) (now table) ⌝ }
     requires { ⌜ tag (program (now ws) s) r ≡ 4 ⌝ }
     requires { ⌜ (r < 65536) × (f < 65536) ⌝ }
     requires { ⌜ takes (program (now ws) s) f (num (program (now ws) s) (r + 2)) ≡ true ⌝ }
@@ -43,7 +43,7 @@ fn passes(ws: &[u16], s: Sizes, table: &[u8], r: usize, f: usize) -> bool
 // What is asked where the callee may be f.
 fn call_value(ws: &[u16], s: Sizes, table: &[u8], c: usize, r: usize, f: usize) -> bool
     requires { ⌜ Ground (now ws) s ⌝ }
-    requires { ⌜ Inclusions (tables (now ws) s) (now table) ⌝ }
+    requires { ⌜ Inclusions (s .names) (tables (now ws) s) (now table) ⌝ }
     requires { ⌜ tag (program (now ws) s) r ≡ 4 ⌝ }
     requires { ⌜ (r < 65536) × (f < 65536) ⌝ }
     ensures { λ b. ⌜ b ≡ call-value (program (now (ws .entry)) s) (tables (now (ws .entry)) s) c (call-at (program (now (ws .entry)) s) r) f ⌝ }
@@ -62,7 +62,7 @@ fn call_value(ws: &[u16], s: Sizes, table: &[u8], c: usize, r: usize, f: usize) 
 // Whether all that the call at row r asks for in class c is there.
 pub fn call_closed(ws: &[u16], s: Sizes, table: &[u8], c: usize, r: usize) -> bool
     requires { ⌜ Ground (now ws) s ⌝ }
-    requires { ⌜ Inclusions (tables (now ws) s) (now table) ⌝ }
+    requires { ⌜ Inclusions (s .names) (tables (now ws) s) (now table) ⌝ }
     requires { ⌜ tag (program (now ws) s) r ≡ 4 ⌝ }
     requires { ⌜ r < 65536 ⌝ }
     ensures { λ b. ⌜ b ≡ call-closed (program (now (ws .entry)) s) (tables (now (ws .entry)) s) c (call-at (program (now (ws .entry)) s) r) ⌝ }

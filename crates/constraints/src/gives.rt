@@ -54,8 +54,8 @@ fn give_state(
 ) -> bool
     requires { ⌜ Ground (now ws) s ⌝ }
     requires { ⌜ Layout (program (now ws) s) (now afters) (now inners) ⌝ }
-    requires { ⌜ Inclusions (tables (now ws) s) (now table) ⌝ }
-    requires { ⌜ (n < 512) × ((f < 65536) × (i < s .states)) ⌝ }
+    requires { ⌜ Inclusions (s .names) (tables (now ws) s) (now table) ⌝ }
+    requires { ⌜ (n < s .names) × ((f < 65536) × (i < s .states)) ⌝ }
     ensures { λ b. ⌜ b ≡ give-state (program (now (ws .entry)) s) (tables (now (ws .entry)) s) c n f i ⌝ }
 {
     if !returns_to(ws, s, c, f, i) {
@@ -82,7 +82,7 @@ pub fn give_closed(
 ) -> bool
     requires { ⌜ Ground (now ws) s ⌝ }
     requires { ⌜ Layout (program (now ws) s) (now afters) (now inners) ⌝ }
-    requires { ⌜ Inclusions (tables (now ws) s) (now table) ⌝ }
+    requires { ⌜ Inclusions (s .names) (tables (now ws) s) (now table) ⌝ }
     requires { ⌜ tag (program (now ws) s) r ≡ 1 ⌝ }
     ensures { λ b. ⌜ b ≡ give-closed (program (now (ws .entry)) s) (tables (now (ws .entry)) s) c (num (program (now (ws .entry)) s) r) (innermost (program (now (ws .entry)) s) r) ⌝ }
 {

@@ -2,3 +2,4 @@ pub mod Narrow
 pub mod Held
 pub mod Turns
 pub mod Filled
+pub mod Hints

@@ -1,11 +1,11 @@
 -- What the readers of the tables ask: whole lists that ascend.
-use Prim.Native.Nat.{ℕ, _+_, _/_, _%_, _≤_, _<_}
+use Prim.Native.Nat.{ℕ, _+_, _*_, _≤_, _<_}
 use mathlib.Core.Path.{_≡_}
-use mathlib.Core.Bool.{Bool, true, false}
+use mathlib.Core.Bool.{Bool, true, false, _&&_}
 use mathlib.Core.List.{List}
 use mathlib.Core.Option.{none}
 use lib.ListN.{length, getD}
-use lib.Dec.{leb}
+use lib.Dec.{leb, ltb, eqb}
 use Rattle.model.specs.declared.Sizes.{Sizes}
 use Rattle.model.specs.Index.{first}
 use Rattle.model.specs.Words.{Columns, left, right, columns}
@@ -38,15 +38,21 @@ pub record Ground (ws : List ℕ) (s : Sizes) : Type 0 where
 unfoldable pub lower : Columns → ℕ → ℕ
 lower c a = first 0 (c .size) (λ i. leb a (left c i))
 
+-- entry j is the pair (a, b)
+unfoldable pub stands-at : Columns → ℕ → ℕ → ℕ → Bool
+stands-at c a b j = ltb j (c .size) && (eqb (left c j) a && eqb (right c j) b)
+
 -- each value of the name a is a value of the name b
 unfoldable pub includes : Tables → ℕ → ℕ → Bool
 includes t a b = each (t .flow) a (has (t .flow) b)
 
--- a table of every pair of names: at a * 512 + b whether a's values are all among b's
+-- a flag as a byte
 unfoldable pub bit : Bool → ℕ
 bit false = 0
 bit true = 1
 
-pub record Inclusions (t : Tables) (table : List ℕ) : Type 0 where
-  pub room : length table ≡ 262144
-  pub at : (k : ℕ) → k < 262144 → getD table k 0 ≡ bit (includes t (k / 512) (k % 512))
+-- a table of every pair of names: at a * 512 + b whether a's values are all among b's
+pub record Inclusions (names : ℕ) (t : Tables) (table : List ℕ) : Type 0 where
+  pub few : names ≤ 512
+  pub room : names * 512 ≤ length table
+  pub at : (a b : ℕ) → a < names → b < names → getD table (a * 512 + b) 0 ≡ bit (includes t a b)

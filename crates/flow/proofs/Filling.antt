@@ -1,10 +1,10 @@
 -- Filling the table of codes, row by row from the last, and each row entry by entry from the last.
 use Prim.Native.Nat.{ℕ, _+_, _*_, _≤_, _<_, max}
-use native.Mathlib.Decide.{ℕ-discrete, decLt}
+use native.Mathlib.Decide.{ℕ-discrete}
 use native.Mathlib.Omega.{arith}
 use mathlib.Core.Path.{_≡_, sym, _∙_, ap}
 use mathlib.Core.List.{List}
-use lib.ListN.{length, getD, set, replicate, length-set, length-replicate, getD-replicate, List·getD-eq-default}
+use lib.ListN.{length, getD, set, length-set}
 use lib.Seq.{getD-set-same, getD-set-other}
 use borrow.Author.Tests.{eq-eqb, ne-eqb}
 use Rattle.model.specs.Limits.{maxNames}
@@ -115,12 +115,20 @@ rows-begin e h = record { room = h; codes-at = λ x d n l k b. let z = pattern-w
 pub coded-later : {p : Program} {t : Tables} {codes : List ℕ} (x : ℕ) → Coded p t codes 0 → Coded p t codes x
 coded-later x c = record { room = c .room; codes-at = λ q d n h. c .codes-at q d n (omega arith) }
 
--- a table of zeros
-pub zeros-made : (n : ℕ) → Zeros n (replicate n 0)
-zeros-made n = record {
-  size = length-replicate n 0;
-  zeros = λ k. elim (decLt k n) [
-    | yes h ↦ getD-replicate n k 0 0 h
-    | no h ↦ let z : length {A = ℕ} (replicate n 0) ≡ n = length-replicate n 0 in List·getD-eq-default (replicate n 0) 0 (omega arith)
+-- zeros written one after the other
+pub no-zeros : (codes : List ℕ) → Zeros 0 codes
+no-zeros codes = record { zeros = λ k h. absurd (omega arith) }
+
+pub more-zeros : (codes : List ℕ) (n : ℕ) → n < length codes → Zeros n codes → Zeros (n + 1) (set codes n 0)
+more-zeros codes n h z = record {
+  zeros = λ k l. elim (ℕ-discrete k n) [
+    | yes e ↦ rw e (getD-set-same codes n 0 0 h)
+    | no e ↦ getD-set-other codes n k 0 0 e ∙ z .zeros k (omega arith)
   ];
 }
+
+pub all-zeros : (codes : List ℕ) (n k : ℕ) → n ≤ k → Zeros k codes → Zeros n codes
+all-zeros codes n k h z = record { zeros = λ i l. z .zeros i (omega arith) }
+
+pub zeros-clear : (codes : List ℕ) (n rows : ℕ) → n ≡ rows * maxNames → Zeros n codes → Clear codes rows
+zeros-clear codes n rows e z = record { zeros = λ k h. z .zeros k (omega arith) }

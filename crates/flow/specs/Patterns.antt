@@ -61,7 +61,6 @@ pub record Clear (codes : List ℕ) (x : ℕ) : Type 0 where
 pub record Is-code (p : Program) (t : Tables) (q v c : ℕ) : Type 0 where
   pub at-depth : (d : ℕ) → Pattern p d q → c ≡ pattern-code p t d q v
 
--- n zeros
+-- n zeros at the front
 pub record Zeros (n : ℕ) (codes : List ℕ) : Type 0 where
-  pub size : length codes ≡ n
-  pub zeros : (k : ℕ) → getD codes k 0 ≡ 0
+  pub zeros : (k : ℕ) → k < n → getD codes k 0 ≡ 0

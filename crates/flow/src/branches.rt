@@ -5,14 +5,13 @@ use crate::patterns::code_at;
 use crate::patterns::fill_codes;
 use crate::patterns::value_code;
 use model::MAX_NAMES;
-use model::MAX_ROWS;
 use model::Sizes;
 use program::rows::num;
 use program::rows::tag;
 ghost use mathlib.Core.Path.{_≡_};
 ghost use Prim.Native.Nat.{_+_, _*_, _/_, _≤_, _<_};
 ghost use lib.ListN.{length, getD};
-ghost use Rattle.model.specs.Limits.{maxNames, maxRows};
+ghost use Rattle.model.specs.Limits.{maxNames};
 ghost use Rattle.model.specs.Rows.{program, tag};
 ghost use Rattle.model.specs.Heads.{head-at};
 ghost use Rattle.model.specs.Tables.{tables};
@@ -112,23 +111,34 @@ fn fill_heads(
     }
 }
 
-// The codes that a table of them has room for: of each row with each name.
-const MAX_CODES: usize = MAX_ROWS * MAX_NAMES;
-
-// A table of zeros.
-fn no_codes() -> [u8; MAX_CODES]
-    ensures { λ codes. ⌜ Zeros (maxRows * maxNames) codes ⌝ }
+// Zeros in the first n cells.
+fn clear(codes: &mut [u8], n: usize)
+    requires { ⌜ n ≤ length (now codes) ⌝ }
+    ensures { λ _. ⌜ Zeros n (now (codes .exit)) ⌝ }
 {
-    [0u8; MAX_CODES]
+    let mut k = 0;
+    while k < n {
+        codes[k] = 0;
+        k += 1;
+    }
 }
 
-// The branch tables of a program and lists that refusals 1 to 7 let pass.
-pub fn fill_branches(ws: &[u16], s: Sizes, afters: &[u16], named: &mut [u8], mailed: &mut [u8])
+// The branch tables of a program and lists that refusals 1 to 7 let pass. The table of codes is lent.
+pub fn fill_branches(
+    ws: &[u16],
+    s: Sizes,
+    afters: &[u16],
+    codes: &mut [u8],
+    named: &mut [u8],
+    mailed: &mut [u8],
+)
     requires { ⌜ Ready (now ws) s (now afters) ⌝ }
+    requires { ⌜ s .rows * maxNames ≤ length (now codes) ⌝ }
     requires { ⌜ (s .rows ≤ length (now named)) × ((s .rows / 2 + 1) * s .mails ≤ length (now mailed)) ⌝ }
     ensures { λ _. ⌜ Branches (program (now (ws .entry)) s) (tables (now (ws .entry)) s) (now (named .exit)) (now (mailed .exit)) ⌝ }
 {
-    let mut codes = no_codes();
-    fill_codes(ws, s, afters, &mut codes);
-    fill_heads(ws, s, afters, &codes, named, mailed);
+    let cells = s.rows * MAX_NAMES;
+    clear(codes, cells);
+    fill_codes(ws, s, afters, codes);
+    fill_heads(ws, s, afters, codes, named, mailed);
 }

@@ -1,5 +1,6 @@
 use native.Mathlib.Omega.{arith}
 use mathlib.Core.Path.{refl}
+use Rattle.bounds.proofs.Ceilings.{room-at}
 use Rattle.bounds.proofs.Meeting.{item-room, count-known, count-none}
 use borrow.Author.Needs.{needs}
 use Rattle.bounds.proofs.bads.item_count.Statement.{statement}
@@ -15,7 +16,7 @@ cast-x : tie.Need-cast-x
 cast-x c = omega (arith, c .shared-slice-known4 .given (c .before .before .before .before .args .r))
 
 highest-requires : tie.Need-highest-requires
-highest-requires c κs = search needs
+highest-requires c κs = let p = c .before .before .before .before .before .pre in ((search needs, search needs), room-at _ _ _ _ _ (p .0 .limits-table) (p .1 .0))
 
 returns : tie.Need-returns
 returns c = let a = c .before .before .before .before .before .before .args in let p = c .before .before .before .before .before .before .pre in count-known (a .ws .now) (a .s) (a .n) (a .k) _ _ (p .0) (p .1 .0) (a .r) _ (p .1 .1) refl _ (search needs) (c .highest .ensures .0)

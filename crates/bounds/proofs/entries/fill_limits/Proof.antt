@@ -28,7 +28,7 @@ slice-write-starts : tie.Need-slice-write-starts Inv-loop μ-loop
 slice-write-starts c = search needs
 
 fill-bound-requires : tie.Need-fill-bound-requires Inv-loop μ-loop
-fill-bound-requires c κs = let f = c .before .before .loop .inv .0 in (search needs, ((search needs, search needs), (stands _ _ _ _ _ (f .walked) (search needs), (f .blank _ (search needs), search needs))))
+fill-bound-requires c κs = let f = c .before .before .loop .inv .0 in (search needs, ((search needs, search needs), (stands _ _ _ _ _ (f .walked) (search needs), (f .blank _ (search needs) (search needs), search needs))))
 
 add-k : tie.Need-add-k Inv-loop μ-loop
 add-k c = search needs
@@ -53,7 +53,7 @@ same-length-2 : tie.Need-same-length-2 Inv-loop μ-loop
 same-length-2 c = search needs
 
 returns : tie.Need-returns Inv-loop μ-loop
-returns c = let h = c .before .loop in (limits-table _ _ _ _ _ _ _ (search needs) (h .inv .0) (search needs), starts-table _ _ _ _ _ _ _ (search needs) (h .inv .0))
+returns c = let h = c .before .loop in (limits-table _ _ _ _ _ _ _ (search needs) (h .inv .0) (search needs), starts-table _ _ _ _ _ _ _ (search needs) (h .inv .0) (search needs))
 
 pub fill-limits-spec : {M : Type 1} → statement M
 fill-limits-spec =

@@ -13,7 +13,7 @@ returns-2 : tie.Need-returns-2
 returns-2 c = usable-free _ _ _ (c .before .before .before .highest .ensures .0) (c .before .before .if1 .left) (c .if2 .taken) (search needs)
 
 highest-requires-2 : tie.Need-highest-requires-2
-highest-requires-2 c κs = search needs
+highest-requires-2 c κs = ((search needs, c .before .before .before .before .before .pre .1 .0 .read (search needs)), search needs)
 
 returns-3 : tie.Need-returns-3
 returns-3 c = usable-reads _ _ _ (c .before .before .before .before .highest .ensures .0) _ (c .before .before .before .if1 .left) (search needs) (c .highest2 .ensures .0)

@@ -44,7 +44,7 @@ loop-holds : tie.Need-loop-holds Inv-loop μ-loop Inv-candidates μ-candidates
 loop-holds c = (refl, search needs, λ j h. absurd (omega arith))
 
 suspect-requires : tie.Need-suspect-requires Inv-loop μ-loop Inv-candidates μ-candidates
-suspect-requires c κs = ((search needs, search needs), (search needs, c .before .before .before .before .before .before .before .before .pre .1 .1 .1 .room))
+suspect-requires c κs = ((search needs, search needs), (search needs, omega (arith, c .before .before .before .before .before .before .before .before .pre .1 .1 .1 .room)))
 
 passes-requires : tie.Need-passes-requires Inv-loop μ-loop Inv-candidates μ-candidates
 passes-requires c κs = ((search needs, search needs), ((search needs, c .before .before .before .before .before .before .before .before .before .before .pre .1 .0 .1 .kind), search needs))

@@ -4,6 +4,7 @@ use mathlib.Core.Path.{_≡_, refl, _∙_}
 use borrow.Author.Needs.{needs}
 use Rattle.model.specs.Index.{any}
 use Rattle.model.proofs.Index.{any-end}
+use Rattle.bounds.proofs.Ceilings.{room-at}
 use Rattle.bounds.proofs.Start.{covers-start, start-safe, start-refused, start-hit, start-miss}
 use Rattle.bounds.proofs.limits.start_check.Statement.{statement}
 use Rattle.bounds.proofs.limits.start_check.Tie as tie
@@ -18,7 +19,7 @@ loop-holds : tie.Need-loop-holds Inv-loop μ-loop
 loop-holds c = (refl, search needs)
 
 limit-requires : tie.Need-limit-requires Inv-loop μ-loop
-limit-requires c κs = ((search needs, search needs), c .before .before .before .before .pre .1 .1 .0 .room)
+limit-requires c κs = ((search needs, search needs), room-at _ _ _ _ _ (c .before .before .before .before .pre .1 .1 .0) (search needs))
 
 returns : tie.Need-returns Inv-loop μ-loop
 returns c = let p = c .before .before .before .before .before .before .pre in start-safe _ _ _ (c .before .before .before .loop .inv .0 ∙ start-hit _ _ _ _ (p .1 .1 .0) _ (p .1 .1 .1 .0) (search needs) _ _ (search needs) (c .before .limit .ensures .0) (search needs))

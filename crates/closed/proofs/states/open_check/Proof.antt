@@ -14,50 +14,35 @@ opening-closed-requires c κs = search needs
 returns : tie.Need-returns
 returns c = opening-missing _ _ _ _ (c .before .before .tables-at .ensures .0) (c .before .opening-closed .ensures) (not-true _ (c .if1 .taken))
 
-slice-aggregate-fill : tie.Need-slice-aggregate-fill
-slice-aggregate-fill c = search needs
-
 fill-requires : tie.Need-fill-requires
 fill-requires c κs = search needs
 
-slice-aggregate-first-open : tie.Need-slice-aggregate-first-open
-slice-aggregate-first-open c = search needs
-
 first-open-requires : tie.Need-first-open-requires
-first-open-requires c κs = let g = c .before .before .before .before .before .before .before .before .before .before .before .before .pre in (g .0, (g .1 .0, (g .1 .1, c .before .before .fill .ensures)))
+first-open-requires c κs = let g = c .before .before .before .before .before .before .before .before .before .before .before .before .before .before .pre in (g .0, (g .1 .0, (g .1 .1 .0, c .before .before .before .fill .ensures)))
+
+same-length : tie.Need-same-length
+same-length c = search needs
 
 returns-2 : tie.Need-returns-2
-returns-2 c = none-open _ _ _ _ (c .before .before .before .before .before .before .before .before .before .tables-at .ensures .0) (c .before .before .before .before .before .before .before .before .opening-closed .ensures) _ (not-false _ (c .before .before .before .before .before .before .before .if1 .left)) (c .before .before .first-open .ensures .0) (c .if2 .taken)
+returns-2 c = none-open _ _ _ _ (c .before .before .before .before .before .before .before .before .before .before .tables-at .ensures .0) (c .before .before .before .before .before .before .before .before .before .opening-closed .ensures) _ (not-false _ (c .before .before .before .before .before .before .before .before .if1 .left)) (c .before .before .first-open .ensures .0) (c .if2 .taken)
 
 add-place : tie.Need-add-place
-add-place c = let l = c .before .before .before .before .before .before .before .before .before .before .before .before .before .before .before .pre .0 .limits in omega (arith, c .before .before .before .before .before .before .before .before .before .tables-at .ensures .1, l .flows, l .mails, l .states, c .before .before .first-open .ensures .1)
+add-place c = let l = c .before .before .before .before .before .before .before .before .before .before .before .before .before .before .before .before .before .pre .0 .limits in omega (arith, c .before .before .before .before .before .before .before .before .before .before .tables-at .ensures .1, l .flows, l .mails, l .states, c .before .before .first-open .ensures .1)
 
 add-place-2 : tie.Need-add-place-2
-add-place-2 c = let l = c .before .before .before .before .before .before .before .before .before .before .before .before .before .before .before .before .pre .0 .limits in omega (arith, c .before .before .before .before .before .before .before .before .before .before .tables-at .ensures .1, l .flows, l .mails, l .states, c .before .before .before .first-open .ensures .1)
+add-place-2 c = let l = c .before .before .before .before .before .before .before .before .before .before .before .before .before .before .before .before .before .before .pre .0 .limits in omega (arith, c .before .before .before .before .before .before .before .before .before .before .before .tables-at .ensures .1, l .flows, l .mails, l .states, c .before .before .before .first-open .ensures .1)
 
 add-place-3 : tie.Need-add-place-3
-add-place-3 c = let l = c .before .before .before .before .before .before .before .before .before .before .before .before .before .before .before .before .before .pre .0 .limits in omega (arith, c .before .before .before .before .before .before .before .before .before .before .before .tables-at .ensures .1, l .flows, l .mails, l .states, c .before .before .before .before .first-open .ensures .1)
+add-place-3 c = let l = c .before .before .before .before .before .before .before .before .before .before .before .before .before .before .before .before .before .before .before .pre .0 .limits in omega (arith, c .before .before .before .before .before .before .before .before .before .before .before .before .tables-at .ensures .1, l .flows, l .mails, l .states, c .before .before .before .before .first-open .ensures .1)
 
 add-place-4 : tie.Need-add-place-4
-add-place-4 c = let l = c .before .before .before .before .before .before .before .before .before .before .before .before .before .before .before .before .before .pre .0 .limits in omega (arith, c .before .before .before .before .before .before .before .before .before .before .before .tables-at .ensures .1, l .flows, l .mails, l .states, c .before .before .before .before .first-open .ensures .1)
+add-place-4 c = let l = c .before .before .before .before .before .before .before .before .before .before .before .before .before .before .before .before .before .before .before .pre .0 .limits in omega (arith, c .before .before .before .before .before .before .before .before .before .before .before .before .tables-at .ensures .1, l .flows, l .mails, l .states, c .before .before .before .before .first-open .ensures .1)
+
+same-length-2 : tie.Need-same-length-2
+same-length-2 c = search needs
 
 returns-3 : tie.Need-returns-3
-returns-3 c = one-open _ _ _ _ (c .before .before .before .before .before .before .before .before .before .before .before .tables-at .ensures .0) (c .before .before .before .before .before .before .before .before .before .before .opening-closed .ensures) _ (not-false _ (c .before .before .before .before .before .before .before .before .before .if1 .left)) (c .before .before .before .before .first-open .ensures .0) (c .before .before .if2 .left)
+returns-3 c = one-open _ _ _ _ (c .before .before .before .before .before .before .before .before .before .before .before .before .tables-at .ensures .0) (c .before .before .before .before .before .before .before .before .before .before .before .opening-closed .ensures) _ (not-false _ (c .before .before .before .before .before .before .before .before .before .before .if1 .left)) (c .before .before .before .before .first-open .ensures .0) (c .before .before .if2 .left)
 
 pub open-check-spec : {M : Type 1} → statement M
-open-check-spec =
-    tie.close
-    (tie.spec
-    tables-at-requires
-    opening-closed-requires
-    returns
-    slice-aggregate-fill
-    fill-requires
-    slice-aggregate-first-open
-    first-open-requires
-    returns-2
-    add-place
-    add-place-2
-    add-place-3
-    add-place-4
-    returns-3)
+open-check-spec = tie.close (tie.spec tables-at-requires opening-closed-requires returns fill-requires first-open-requires same-length returns-2 add-place add-place-2 add-place-3 add-place-4 same-length-2 returns-3)

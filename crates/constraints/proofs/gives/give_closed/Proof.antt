@@ -16,7 +16,7 @@ use Rattle.constraints.proofs.gives.give_closed.Statement.{statement}
 use Rattle.constraints.proofs.gives.give_closed.Tie as tie
 
 abbrev Inv-loop : tie.InvT-loop
-Inv-loop ws s afters inners table c r f n i₀ i = ((n < 512) × (f < 65536)) × (give-closed (program ws s) (tables ws s) c (num (program ws s) r) (innermost (program ws s) r) ≡ all i (s .states) (give-state (program ws s) (tables ws s) c n f))
+Inv-loop ws s afters inners table c r f n i₀ i = ((n < s .names) × (f < 65536)) × (give-closed (program ws s) (tables ws s) c (num (program ws s) r) (innermost (program ws s) r) ≡ all i (s .states) (give-state (program ws s) (tables ws s) c n f))
 
 abbrev μ-loop : tie.MeasureT-loop
 μ-loop ws s afters inners table c r f n i₀ i = s .states - i

@@ -1,22 +1,20 @@
 use native.Mathlib.Omega.{arith}
+use mathlib.Core.Path.{refl}
 use borrow.Author.Needs.{needs}
+use Rattle.flow.proofs.Filling.{zeros-clear}
 use Rattle.flow.proofs.branches.fill_branches.Statement.{statement}
 use Rattle.flow.proofs.branches.fill_branches.Tie as tie
 
-no-codes-requires : tie.Need-no-codes-requires
-no-codes-requires c κs = search needs
+mul-cells : tie.Need-mul-cells
+mul-cells c = let top = c .before .before .before .before .before .before .pre .0 .whole .rows in omega arith
 
-slice-aggregate-fill-codes : tie.Need-slice-aggregate-fill-codes
-slice-aggregate-fill-codes c = search needs
+clear-requires : tie.Need-clear-requires
+clear-requires c κs = search needs
 
 fill-codes-requires : tie.Need-fill-codes-requires
-fill-codes-requires c κs = let b = c .before .before .before .before .before .before in
-    let top = b .pre .0 .whole .rows in
-    let z = c .before .no-codes .ensures .size in
-    (b .pre .0, (omega arith, record { zeros = λ k h. c .before .no-codes .ensures .zeros k }))
-
-slice-aggregate-fill-heads : tie.Need-slice-aggregate-fill-heads
-slice-aggregate-fill-heads c = search needs
+fill-codes-requires c κs = let b = c .before .before .before .before .before .before .before .before .before .before .before in
+    let same = c .before .before .codes .given in
+    (b .pre .0, (omega (arith, b .pre .1 .0), zeros-clear _ _ _ refl (c .before .before .before .clear .ensures)))
 
 fill-heads-requires : tie.Need-fill-heads-requires
 fill-heads-requires c κs = search needs
@@ -27,18 +25,11 @@ same-length c = search needs
 same-length-2 : tie.Need-same-length-2
 same-length-2 c = search needs
 
+same-length-3 : tie.Need-same-length-3
+same-length-3 c = search needs
+
 returns : tie.Need-returns
 returns c = search needs
 
 pub fill-branches-spec : {M : Type 1} → statement M
-fill-branches-spec =
-    tie.close
-    (tie.spec
-    no-codes-requires
-    slice-aggregate-fill-codes
-    fill-codes-requires
-    slice-aggregate-fill-heads
-    fill-heads-requires
-    same-length
-    same-length-2
-    returns)
+fill-branches-spec = tie.close (tie.spec mul-cells clear-requires fill-codes-requires fill-heads-requires same-length same-length-2 same-length-3 returns)

@@ -1,0 +1,2 @@
+pub mod Leaking
+pub mod Within
