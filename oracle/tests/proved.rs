@@ -21,7 +21,9 @@ fn on_stack(test: impl FnOnce() + Send) {
 fn agree(name: &str, message: &[u8], lent: &[usize]) {
     for &lent in lent {
         let case = Case { message: message.to_vec(), lent };
-        compare::compare(&proved::verify, &verify::verify, &case).map_err(|e| format!("{name}, lent {lent}: {e}")).unwrap();
+        compare::compare(&proved::verify, &verify::verify, &case)
+            .map_err(|e| format!("{name}, lent {lent}: {e}"))
+            .unwrap();
     }
 }
 
@@ -36,7 +38,9 @@ fn each_stored_message_gets_the_same() {
 
 #[test]
 fn the_largest_honest_messages_get_the_same() {
-    on_stack(|| stress::honest::honest().unwrap().iter().for_each(|sample| agree(&sample.name, &sample.message, &LENT)));
+    on_stack(|| {
+        stress::honest::honest().unwrap().iter().for_each(|sample| agree(&sample.name, &sample.message, &LENT))
+    });
 }
 
 #[test]

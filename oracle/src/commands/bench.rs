@@ -1,8 +1,8 @@
 //! `oracle bench`: how long the proved code and `verify` take, as Markdown.
 
-use super::{read_message, Answer};
+use super::{Answer, read_message};
 use oracle::stress::growth::{self, Family};
-use oracle::stress::{self, honest, Sample};
+use oracle::stress::{self, Sample, honest};
 use oracle::verify::{self, Outcome};
 use oracle::{proved, stack};
 use std::fmt::Write;
@@ -112,12 +112,15 @@ fn examples() -> Result<Vec<Sample>, String> {
     let mut paths: Vec<_> = folder.filter_map(|file| Some(file.ok()?.path())).collect();
     paths.retain(|path| path.extension().is_some_and(|e| e == "msg"));
     paths.sort();
-    paths.iter().map(|path| {
-        let name = path.file_stem().unwrap_or_default().to_string_lossy().into_owned();
-        let message = read_message(&path.to_string_lossy())?;
-        let verdict = verify::verify(&message, &mut vec![0; PLENTY]).number;
-        Ok(Sample { name, about: "", verdict, message })
-    }).collect()
+    paths
+        .iter()
+        .map(|path| {
+            let name = path.file_stem().unwrap_or_default().to_string_lossy().into_owned();
+            let message = read_message(&path.to_string_lossy())?;
+            let verdict = verify::verify(&message, &mut vec![0; PLENTY]).number;
+            Ok(Sample { name, about: "", verdict, message })
+        })
+        .collect()
 }
 
 fn machine() -> String {

@@ -1,6 +1,6 @@
 //! `oracle corpus SEED COUNT OUT` and `oracle check-corpus OUT`
 
-use super::{number, Answer};
+use super::{Answer, number};
 use oracle::fuzz::{compare, corpus};
 use oracle::verify;
 

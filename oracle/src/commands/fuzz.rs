@@ -1,6 +1,6 @@
 //! `oracle fuzz SEED COUNT` and `oracle fuzz-naive SEED COUNT`
 
-use super::{number, Answer};
+use super::{Answer, number};
 use oracle::fuzz::compare::{self, Tally, Verifier};
 use oracle::{naive, verify};
 

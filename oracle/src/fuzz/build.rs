@@ -125,7 +125,11 @@ fn with_extra(rng: &mut Rng, program: &Program, tables: Tables) -> Tables {
     }
     if rng.chance(1, 10) {
         let full = if rng.chance(1, 2) { rng.pick_mut(&mut more.flow) } else { rng.pick_mut(&mut more.mail) };
-        full.into_iter().for_each(|set| values.iter().for_each(|&v| { set.insert(v); }));
+        full.into_iter().for_each(|set| {
+            values.iter().for_each(|&v| {
+                set.insert(v);
+            })
+        });
     }
     least::close(program, more)
 }
@@ -134,8 +138,12 @@ fn with_extra(rng: &mut Rng, program: &Program, tables: Tables) -> Tables {
 fn add_entry(rng: &mut Rng, program: &Program, values: &[usize], tables: &mut Tables) {
     let value = rng.pick(values).copied().unwrap_or(program.rows);
     match rng.below(3) {
-        0 => rng.pick_mut(&mut tables.flow).into_iter().for_each(|set| { set.insert(value); }),
-        1 => rng.pick_mut(&mut tables.mail).into_iter().for_each(|set| { set.insert(value); }),
+        0 => rng.pick_mut(&mut tables.flow).into_iter().for_each(|set| {
+            set.insert(value);
+        }),
+        1 => rng.pick_mut(&mut tables.mail).into_iter().for_each(|set| {
+            set.insert(value);
+        }),
         _ => add_state(rng, program, tables),
     }
 }

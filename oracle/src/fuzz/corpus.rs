@@ -1,7 +1,7 @@
 //! A stored corpus: messages of every verdict with the words lent, and what is expected of each.
 //! README.md, "The corpus", tells the form for a program in another language.
 
-use super::compare::{see, Cases, Seen, Verifier};
+use super::compare::{Cases, Seen, Verifier, see};
 use super::damage::Case;
 use crate::limits;
 

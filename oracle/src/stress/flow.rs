@@ -1,8 +1,8 @@
 //! Messages that make checks 8 and 9 work: patterns, calls, sends and many values.
 
 use super::bounds::{self, Bounds};
-use super::finish::{changed, Rows};
-use super::{sample, Sample};
+use super::finish::{Rows, changed};
+use super::{Sample, sample};
 use crate::fuzz::row_list::RowList;
 use crate::limits;
 use crate::program::Program;
@@ -10,16 +10,31 @@ use crate::tables::Tables;
 
 pub fn hostile() -> Result<Vec<Sample>, String> {
     Ok(vec![
-        sample("flow-patterns", "14 branches with patterns four deep over constructors of eight arguments, each of hundreds of values", 0, patterns(bounds::one))?,
+        sample(
+            "flow-patterns",
+            "14 branches with patterns four deep over constructors of eight arguments, each of hundreds of values",
+            0,
+            patterns(bounds::one),
+        )?,
         sample("flow-tree", "one pattern of 585 rows: four deep, eight arguments each", 0, tree())?,
         sample("flow-wide", "seven names with 495 values each, passed on by a call and a give back", 0, wide(495))?,
         sample("flow-calls", "each of 165 calls may be of each of 165 functions", 0, calls(165, bounds::one))?,
         sample("flow-params", "each of 45 calls with eight arguments may be of each of 45 functions", 0, params())?,
         sample("flow-sends", "120 sends of 28 values to 16 classes each", 0, value_sends())?,
         sample("flow-cases", "28 classes at one case of 16 deep branches over 145 values", 0, cases())?,
-        sample("flow-everything", "all of these at once, near every limit of the program and the tables", 0, everything(bounds::one))?,
+        sample(
+            "flow-everything",
+            "all of these at once, near every limit of the program and the tables",
+            0,
+            everything(bounds::one),
+        )?,
         sample("flow-everything-wide", "the same with as many ceiling entries as may be", 0, everything(bounds::wide))?,
-        sample("open-at-the-end", "flow-everything without its last state", 8, changed(everything(bounds::one), drop_last_state))?,
+        sample(
+            "open-at-the-end",
+            "flow-everything without its last state",
+            8,
+            changed(everything(bounds::one), drop_last_state),
+        )?,
         sample("counters-513", "512 states and a letter", 9, changed(full_states(), one_letter))?,
     ])
 }
@@ -33,7 +48,9 @@ fn values(program: &Program) -> Vec<usize> {
 }
 
 fn hold(tables: &mut Tables, name: usize, values: &[usize]) {
-    values.iter().for_each(|&value| { tables.flow[name].insert(value); });
+    values.iter().for_each(|&value| {
+        tables.flow[name].insert(value);
+    });
 }
 
 /// A build of constructor 0 with these arguments.
@@ -63,18 +80,26 @@ fn patterns(bounds: impl Bounds) -> Result<Vec<u8>, String> {
     let work = list.bind(11, &[(22, 0)]);
     let inner = list.bind(3, &[(22, 8)]);
     let params: Vec<usize> = (0..8).map(|_| list.bind(23, &[])).collect();
-    (0..8).for_each(|_| { big_build(&mut list, &params); });
+    (0..8).for_each(|_| {
+        big_build(&mut list, &params);
+    });
     list.row(9, 14);
     (0..14).for_each(|i| deep_branch(&mut list, i, work));
     list.row(1, inner);
-    (0..8).for_each(|_| { list.bind(6, &[(21, work)]); });
-    (0..230).for_each(|_| { list.bind(2, &[(20, 1)]); });
+    (0..8).for_each(|_| {
+        list.bind(6, &[(21, work)]);
+    });
+    (0..230).for_each(|_| {
+        list.bind(2, &[(20, 1)]);
+    });
     list.row(1, work);
     let extra = move |program: &Program, tables: &mut Tables| {
         let builds = builds(program);
         params.iter().for_each(|&param| hold(tables, param, &builds));
         for mail in &mut tables.mail {
-            builds.iter().take(56).for_each(|&b| { mail.insert(b); });
+            builds.iter().take(56).for_each(|&b| {
+                mail.insert(b);
+            });
         }
         let inner = program.functions.iter().find(|f| f.params.len() == 8).map_or(0, |f| f.body);
         tables.states.extend(program.classes().map(|c| (c, inner)));
@@ -132,7 +157,9 @@ pub fn calls(count: usize, bounds: impl Bounds) -> Result<Vec<u8>, String> {
     let spare = list.bind(11, &[(22, 0)]);
     list.row(1, spare);
     let functions = add_functions(&mut list, count, spare);
-    (0..count).for_each(|_| { list.bind(4, &[(21, functions[0]), (22, 0)]); });
+    (0..count).for_each(|_| {
+        list.bind(4, &[(21, functions[0]), (22, 0)]);
+    });
     list.row(1, spare);
     let extra = move |program: &Program, tables: &mut Tables| hold(tables, functions[0], &inner_functions(program));
     Rows { list, constructors: 0, functions: 1 }.finish(extra, bounds)
@@ -161,14 +188,18 @@ fn params() -> Result<Vec<u8>, String> {
     list.row(1, spare);
     let add = |_| {
         let function = list.bind(3, &[(22, 8)]);
-        (0..8).for_each(|_| { list.bind(23, &[]); });
+        (0..8).for_each(|_| {
+            list.bind(23, &[]);
+        });
         list.row(1, spare);
         function
     };
     let functions: Vec<usize> = (0..45).map(add).collect();
     let address = list.bind(7, &[]);
     let parts: Vec<(usize, usize)> = [(21, functions[0]), (22, 8)].into_iter().chain(vec![(21, address); 8]).collect();
-    (0..45).for_each(|_| { list.bind(4, &parts); });
+    (0..45).for_each(|_| {
+        list.bind(4, &parts);
+    });
     list.row(1, spare);
     let extra = move |program: &Program, tables: &mut Tables| {
         let functions_of = inner_functions(program);
@@ -186,12 +217,18 @@ fn value_sends() -> Result<Vec<u8>, String> {
     let idle = list.bind(11, &[(22, 0)]);
     list.row(1, idle);
     let built: Vec<usize> = (0..letters * 2).map(|i| list.bind(2, &[(20, i % letters)])).collect();
-    (0..15).for_each(|_| { list.bind(6, &[(21, idle)]); });
+    (0..15).for_each(|_| {
+        list.bind(6, &[(21, idle)]);
+    });
     let own = list.bind(7, &[]);
-    (0..120).for_each(|_| { list.bind(5, &[(21, own), (21, built[0])]); });
+    (0..120).for_each(|_| {
+        list.bind(5, &[(21, own), (21, built[0])]);
+    });
     list.row(1, idle);
     let extra = move |program: &Program, tables: &mut Tables| {
-        program.classes().for_each(|c| { tables.flow[own].insert(c); });
+        program.classes().for_each(|c| {
+            tables.flow[own].insert(c);
+        });
         hold(tables, built[0], &builds(program));
     };
     Rows { list, constructors: letters, functions: 1 }.finish(extra, bounds::one)
@@ -204,9 +241,13 @@ fn cases() -> Result<Vec<u8>, String> {
     let work = list.bind(11, &[(22, 0)]);
     list.rows.extend([(8, work), (25, 16)]);
     (0..16).for_each(|i| deep_branch(&mut list, i, work));
-    (0..28).for_each(|_| { list.bind(6, &[(21, work)]); });
+    (0..28).for_each(|_| {
+        list.bind(6, &[(21, work)]);
+    });
     let small: Vec<usize> = (0..130).map(|_| list.bind(2, &[(20, 1)])).collect();
-    (0..15).for_each(|_| { big_build(&mut list, &small[..8]); });
+    (0..15).for_each(|_| {
+        big_build(&mut list, &small[..8]);
+    });
     list.row(1, work);
     let extra = move |program: &Program, tables: &mut Tables| {
         let builds = builds(program);
@@ -223,17 +264,25 @@ fn everything(bounds: impl Bounds) -> Result<Vec<u8>, String> {
     list.row(9, 16);
     (0..16).for_each(|i| deep_branch(&mut list, i, work));
     let small: Vec<usize> = (0..40).map(|_| list.bind(2, &[(20, 1)])).collect();
-    (0..4).for_each(|_| { big_build(&mut list, &small[..8]); });
+    (0..4).for_each(|_| {
+        big_build(&mut list, &small[..8]);
+    });
     let functions = add_functions(&mut list, 76, work);
-    (0..76).for_each(|_| { list.bind(4, &[(21, functions[0]), (22, 0)]); });
-    (0..8).for_each(|_| { list.bind(6, &[(21, work)]); });
+    (0..76).for_each(|_| {
+        list.bind(4, &[(21, functions[0]), (22, 0)]);
+    });
+    (0..8).for_each(|_| {
+        list.bind(6, &[(21, work)]);
+    });
     list.row(1, work);
     let extra = move |program: &Program, tables: &mut Tables| {
         let (builds, values, functions_of) = (builds(program), values(program), inner_functions(program));
         hold(tables, functions[0], &functions_of);
         small[..20].iter().for_each(|&name| hold(tables, name, &values));
         for mail in &mut tables.mail {
-            builds.iter().chain(&functions_of).take(56).for_each(|&v| { mail.insert(v); });
+            builds.iter().chain(&functions_of).take(56).for_each(|&v| {
+                mail.insert(v);
+            });
         }
         let body = program.functions.iter().find(|f| f.name == work).map_or(0, |f| f.body);
         tables.states.push((program.rows, body));
@@ -254,7 +303,9 @@ fn full_states() -> Result<Vec<u8>, String> {
     let mut list = RowList::default();
     let idle = list.bind(11, &[(22, 0)]);
     list.row(1, idle);
-    (0..511).for_each(|_| { list.bind(7, &[]); });
+    (0..511).for_each(|_| {
+        list.bind(7, &[]);
+    });
     list.row(1, idle);
     Rows { list, constructors: 0, functions: 1 }.finish(|_, _| (), bounds::one)
 }

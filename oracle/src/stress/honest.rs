@@ -1,7 +1,7 @@
 //! Honest stations near the limits of 01: least tables, and ceilings that say something.
 
-use super::finish::{bytes, refused, Rows};
-use super::{bounds, sample, Sample};
+use super::finish::{Rows, bytes, refused};
+use super::{Sample, bounds, sample};
 use crate::evidence;
 use crate::explore::Limits;
 use crate::fuzz::row_list::RowList;
@@ -17,8 +17,18 @@ use std::fmt::Write;
 pub fn honest() -> Result<Vec<Sample>, String> {
     Ok(vec![
         sample("honest-polling", "a loop that polls 28 gauges in turn, each ceiling exact", 0, polling(28))?,
-        sample("honest-calls", "224 calls of one function with 17 values, five workers beside; the start's place is exact", 0, calls(224))?,
-        sample("honest-workers", "eleven workers of 33 steps that are sent five letters each, any number of everything", 0, workers(11))?,
+        sample(
+            "honest-calls",
+            "224 calls of one function with 17 values, five workers beside; the start's place is exact",
+            0,
+            calls(224),
+        )?,
+        sample(
+            "honest-workers",
+            "eleven workers of 33 steps that are sent five letters each, any number of everything",
+            0,
+            workers(11),
+        )?,
     ])
 }
 
@@ -26,7 +36,8 @@ pub fn honest() -> Result<Vec<Sample>, String> {
 fn polling(gauges: usize) -> Result<Vec<u8>, String> {
     let mut text = "constructors poll/1, reading/1, low/0.
         function gauge() -> receive poll(From) -> From ! reading(low) end.
-        start ->\n".to_string();
+        start ->\n"
+        .to_string();
     for i in 0..gauges {
         let _ = writeln!(text, "G{i} = @g{i} spawn(gauge), G{i} ! poll(self()), receive reading(X{i}) ->");
     }
@@ -59,7 +70,9 @@ pub fn calls(count: usize) -> Result<Vec<u8>, String> {
     let workers: Vec<usize> = (0..5).map(|_| list.bind(6, &[(21, work)])).collect();
     let results: Vec<usize> =
         (0..count).map(|i| list.bind(4, &[(21, pass), (22, 1), (21, built[i % built.len()])])).collect();
-    workers.iter().zip(&results).for_each(|(&worker, &result)| { list.bind(5, &[(21, worker), (21, result)]); });
+    workers.iter().zip(&results).for_each(|(&worker, &result)| {
+        list.bind(5, &[(21, worker), (21, result)]);
+    });
     list.row(1, work);
     exact_start(Rows { list, constructors: letters, functions: 2 })
 }
@@ -70,7 +83,8 @@ fn exact_start(rows: Rows) -> Result<Vec<u8>, String> {
     let mut m = rows.bare(&rows.any_bad());
     let (program, _) = evidence::read(&m).map_err(refused)?;
     let tables = least::least(&program);
-    let places: Vec<usize> = tables.states.iter().filter(|state| state.0 == program.rows).map(|state| state.1).collect();
+    let places: Vec<usize> =
+        tables.states.iter().filter(|state| state.0 == program.rows).map(|state| state.1).collect();
     let at = |head: usize| [(40, program.rows), (41, head), (43, 1)];
     let bad = [&at(places[0])[..], &at(places[1]), &[(44, 0)]].concat();
     m = rows.bare(&bad);
@@ -97,12 +111,16 @@ fn workers(count: usize) -> Result<Vec<u8>, String> {
     let mut list = RowList::default();
     list.rows.extend(vec![(10, 0); letters]);
     let work = list.bind(11, &[(22, 0)]);
-    (0..32).for_each(|_| { list.bind(7, &[]); });
+    (0..32).for_each(|_| {
+        list.bind(7, &[]);
+    });
     list.row(1, work);
     let built: Vec<usize> = (0..letters).map(|letter| list.bind(2, &[(20, letter)])).collect();
     for _ in 0..count {
         let worker = list.bind(6, &[(21, work)]);
-        built.iter().for_each(|&letter| { list.bind(5, &[(21, worker), (21, letter)]); });
+        built.iter().for_each(|&letter| {
+            list.bind(5, &[(21, worker), (21, letter)]);
+        });
     }
     list.row(1, work);
     Rows { list, constructors: letters, functions: 1 }.finish(|_, _| (), bounds::one)
