@@ -8,7 +8,8 @@ use crate::explore::Limits;
 use crate::least;
 use crate::limits::{self, UNBOUNDED};
 use crate::message::Message;
-use crate::program::Program;
+use crate::program::{Head, Name, Program};
+use crate::set::Set;
 use crate::stress::{flow, honest};
 use crate::system::System;
 use crate::tables::Tables;
@@ -64,7 +65,7 @@ fn finish(rng: &mut Rng, rows: &Rows, crowded: bool) -> Option<Station> {
     let mut m = evidence::bare(sizes, &rows.rows, 1, &[(40, rows.rows.len()), (42, 0), (43, 1), (44, 0)]);
     let (program, _) = evidence::read(&m).ok()?;
     let mut tables = least::least(&program);
-    if rng.chance(1, 4) {
+    if rng.chance(1, 3) {
         tables = with_extra(rng, &program, tables);
     }
     evidence::put_tables(&mut m, &program, &tables).ok()?;
@@ -136,21 +137,57 @@ fn with_extra(rng: &mut Rng, program: &Program, tables: Tables) -> Tables {
 
 /// One entry in one of the lists.
 fn add_entry(rng: &mut Rng, program: &Program, values: &[usize], tables: &mut Tables) {
-    let value = rng.pick(values).copied().unwrap_or(program.rows);
-    match rng.below(3) {
-        0 => rng.pick_mut(&mut tables.flow).into_iter().for_each(|set| {
-            set.insert(value);
-        }),
-        1 => rng.pick_mut(&mut tables.mail).into_iter().for_each(|set| {
-            set.insert(value);
-        }),
-        _ => add_state(rng, program, tables),
+    match rng.below(7) {
+        0 => insert(rng, tables.flow.as_mut_slice(), values),
+        1 => insert(rng, tables.mail.as_mut_slice(), values),
+        2 => {
+            let builds = builds(rng, program, tables);
+            insert(rng, tables.mail.as_mut_slice(), &builds);
+        }
+        3..=4 => add_state(rng, program, tables),
+        _ => add_looked_at(rng, program, tables),
     }
 }
 
+/// One of the values into one of the sets.
+fn insert(rng: &mut Rng, sets: &mut [Set], values: &[usize]) {
+    if let (Some(set), Some(&value)) = (rng.pick_mut(sets), rng.pick(values)) {
+        set.insert(value);
+    }
+}
+
+/// Builds; half the time only those with an argument that has no value, which no constructor pattern may match.
+fn builds(rng: &mut Rng, program: &Program, tables: &Tables) -> Vec<usize> {
+    let hollow = rng.chance(1, 2);
+    let wanted = |args: &[Name]| !hollow || args.iter().any(|&arg| tables.flow[arg].is_empty());
+    (0..program.rows).filter(|&row| program.build(row).is_some_and(|(_, args)| wanted(args))).collect()
+}
+
+/// A value that some head of a state looks for: a build for a case, a class for a target, a function for a callee.
+fn add_looked_at(rng: &mut Rng, program: &Program, tables: &mut Tables) {
+    let builds = builds(rng, program, tables);
+    let looked_at = |row: usize| match program.head(row)? {
+        Head::Case { value, .. } => Some((*value, builds.clone())),
+        Head::Send { target, .. } => Some((*target, program.classes().collect())),
+        Head::Call { callee, .. } | Head::Spawn { callee, .. } => {
+            Some((*callee, program.functions.iter().map(|f| f.row).collect()))
+        }
+        _ => None,
+    };
+    let heads: Vec<usize> = tables.states.iter().map(|&(_, head)| head).collect();
+    let found = (0..heads.len()).find_map(|_| looked_at(*rng.pick(&heads)?));
+    if let Some((name, values)) = found {
+        insert(rng, &mut tables.flow[name..=name], &values);
+    }
+}
+
+/// A state at any head, often at a build.
 fn add_state(rng: &mut Rng, program: &Program, tables: &mut Tables) {
     let classes: Vec<usize> = program.classes().collect();
-    let heads: Vec<usize> = (0..program.rows).filter(|&r| program.is_head(r)).collect();
+    let heads = match rng.chance(1, 2) {
+        true => builds(rng, program, tables),
+        false => (0..program.rows).filter(|&row| program.is_head(row)).collect(),
+    };
     let (Some(&class), Some(&head)) = (rng.pick(&classes), rng.pick(&heads)) else { return };
     if let Err(i) = tables.states.binary_search(&(class, head)) {
         tables.states.insert(i, (class, head));

@@ -138,7 +138,6 @@ fn structured(rng: &mut Rng, m: &mut Message, station: &Station) {
     match rng.below(35) {
         32 => soup(rng, m),
         33 => deepen(rng, m),
-        34 => entry_wrong(rng, m),
         0..=1 => row(rng, m),
         2 => row_gone(rng, m),
         3..=5 => binder(rng, m),
@@ -151,7 +150,7 @@ fn structured(rng: &mut Rng, m: &mut Message, station: &Station) {
         21..=23 => bound_gone(rng, m, station.counters),
         24..=26 => limit(rng, m, station.counters),
         27..=28 => bound_form(rng, m, station.counters),
-        29 => all_limits(rng, m),
+        29 | 34 => all_limits(rng, m),
         30 => keep_bounds(rng, m, station.counters),
         _ => {
             m.entries = Columns::default();
@@ -384,20 +383,30 @@ fn limit(rng: &mut Rng, m: &mut Message, counters: usize) {
     };
 }
 
-/// Every unbounded limit becomes 65,534, or every limit unbounded; perhaps the minimums go with them.
+/// Every limit, or every unbounded one, becomes 65,534 or unbounded; perhaps every item of a bad
+/// asks for as many at one state.
 fn all_limits(rng: &mut Rng, m: &mut Message) {
-    let all = rng.chance(1, 2);
-    if rng.chance(1, 2) {
-        let minimum = [65_534, 65_535][rng.below(2)];
-        let rows: Vec<usize> = (0..m.bad_rows.len()).filter(|&i| m.bad_rows.first[i] == 43).collect();
-        rows.into_iter().for_each(|i| m.bad_rows.second[i] = minimum);
+    const NEAR: [u16; 2] = [65_534, 65_535];
+    let (minimum, limit) = (NEAR[rng.below(2)], NEAR[rng.below(2)]);
+    if rng.chance(2, 3) {
+        ask_at_a_state(rng, m, minimum);
     }
-    for limit in m.entries.second.iter_mut().filter(|limit| **limit > 0) {
-        if all {
-            *limit = 65_535;
-        } else if *limit == 65_535 {
-            *limit = 65_534;
-        }
+    let least = [1, 65_535][rng.below(2)];
+    m.entries.second.iter_mut().filter(|old| **old >= least).for_each(|old| *old = limit);
+}
+
+/// Every item of the bads: at least so many at one and the same state.
+fn ask_at_a_state(rng: &mut Rng, m: &mut Message, minimum: u16) {
+    let states: Vec<usize> = (m.flow + m.mail..m.tables.len()).collect();
+    let Some(&state) = rng.pick(&states) else { return };
+    let (class, head) = (m.tables.first[state], m.tables.second[state]);
+    for (tag, number) in m.bad_rows.first.iter_mut().zip(&mut m.bad_rows.second) {
+        (*tag, *number) = match *tag {
+            40 => (40, class),
+            41 | 42 => (41, head),
+            43 => (43, minimum),
+            _ => (*tag, *number),
+        };
     }
 }
 
