@@ -51,6 +51,8 @@ enum Grown {
     Exhausted,
 }
 
+/// Limits that are compared at once.
+const LANES: usize = 32;
 /// Most bounds that a tree may hold while it grows.
 const MOST_MAXIMAL: usize = 2048;
 
@@ -103,8 +105,10 @@ fn fitting(limits: &[Limits]) -> Result<(), Failure> {
     Ok(())
 }
 
+/// True if no limit of `lesser` is above that of `greater`. By lanes, which the compiler does at once.
 fn covers(greater: &[u16], lesser: &[u16]) -> bool {
-    lesser.iter().zip(greater).all(|(l, g)| l <= g)
+    let above = |lesser: &[u16], greater: &[u16]| lesser.iter().zip(greater).fold(0, |a, (l, g)| a | l.saturating_sub(*g));
+    lesser.chunks(LANES).zip(greater.chunks(LANES)).all(|(l, g)| above(l, g) == 0)
 }
 
 impl Tree<'_> {

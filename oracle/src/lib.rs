@@ -19,10 +19,14 @@ pub mod message;
 pub mod naive;
 pub mod names;
 pub mod program;
+#[cfg(feature = "proved")]
+pub mod proved;
 pub mod reader;
 pub mod refusal;
 pub mod run;
 pub mod set;
+pub mod stack;
+pub mod stress;
 pub mod symbols;
 pub mod system;
 pub mod tables;

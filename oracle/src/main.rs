@@ -11,18 +11,26 @@ oracle explain [--lend N] FILE          the verdict in words
 oracle run FILE NUMBERS...             a station run step by step beside its counters (N*K repeats)
 oracle assemble FILE [OUT]             text to message, with tables and ceilings
 oracle disassemble FILE                message to text
-oracle fuzz SEED COUNT                 random messages, two verifiers, the tally
+oracle fuzz SEED COUNT                 random messages through the proved code and `verify` (feature `proved`)
+oracle fuzz-naive SEED COUNT           the same messages through `verify` and a second, naive reading
 oracle against PROGRAM SEED COUNT      the same messages through a program that prints the listing
 oracle time FILE...                    how long the verifier takes
 oracle corpus SEED COUNT OUT           OUT.bin and OUT.txt: messages of every verdict, what is expected
-oracle check-corpus OUT                verifies a stored corpus anew
-oracle hostile DIR                     writes worst-case messages for a benchmark";
+oracle check-corpus BIN TXT            verifies a stored corpus anew
+oracle hostile DIR                     writes worst-case messages
+oracle bench                           times of the proved code and of `verify`, as Markdown (feature `proved`)";
 
 fn answer(command: &str, args: &[String]) -> Answer {
     match command {
         "verify" => verify::command(args),
         "run" => run::command(args),
+        #[cfg(feature = "proved")]
         "fuzz" => fuzz::command(args),
+        #[cfg(feature = "proved")]
+        "bench" => commands::bench::command(args),
+        #[cfg(not(feature = "proved"))]
+        "fuzz" | "bench" => Err(commands::WITHOUT_PROVED.to_string()),
+        "fuzz-naive" => fuzz::naive(args),
         "against" => against::command(args),
         "time" => time::command(args),
         "corpus" => corpus::command(args),

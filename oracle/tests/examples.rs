@@ -1,20 +1,13 @@
 //! The examples: each has its message, its verdict and its way back to text.
 
+use common::{examples, files, listed, path};
 use oracle::listing::verified;
+use oracle::stress;
 use oracle::text::assemble::assemble;
 use oracle::text::disassemble::disassemble;
 use oracle::verify::verify;
-use std::path::PathBuf;
 
 mod common;
-
-fn examples() -> Vec<PathBuf> {
-    let dir = PathBuf::from(env!("CARGO_MANIFEST_DIR")).join("../examples");
-    let files = std::fs::read_dir(dir).expect("examples").filter_map(|f| Some(f.ok()?.path()));
-    let mut stations: Vec<PathBuf> = files.filter(|f| f.extension().is_some_and(|e| e == "station")).collect();
-    stations.sort();
-    stations
-}
 
 /// The number behind `Verdict:` in the comment lines at the top.
 fn verdict_in_text(text: &str) -> u32 {
@@ -22,9 +15,38 @@ fn verdict_in_text(text: &str) -> u32 {
     behind.chars().take_while(char::is_ascii_digit).collect::<String>().parse().expect("a number")
 }
 
+/// Names of files without folder and ending.
+fn names(paths: Vec<std::path::PathBuf>) -> Vec<String> {
+    paths.iter().filter_map(|path| Some(path.file_stem()?.to_str()?.to_string())).collect()
+}
+
 #[test]
-fn all_thirteen_are_there() {
+fn each_stands_in_the_list_of_examples() {
+    let mut there = [names(examples()), names(files("examples/hostile", "msg"))].concat();
+    let mut listed: Vec<String> = listed().into_iter().map(|(name, _)| name).collect();
+    there.sort();
+    listed.sort();
+    assert_eq!(there, listed);
     assert_eq!(examples().len(), 13);
+}
+
+#[test]
+fn each_has_the_verdict_of_the_list() {
+    for (name, verdict) in listed() {
+        let folders = ["examples", "examples/hostile"].map(|folder| path(folder).join(format!("{name}.msg")));
+        let stored = folders.iter().find_map(|file| std::fs::read(file).ok()).expect(&name);
+        assert_eq!(verify(&stored, &mut vec![0; 1 << 20]).number, verdict, "{name}");
+    }
+}
+
+#[test]
+fn each_hostile_message_is_what_is_made_anew() {
+    let made = stress::hostile().unwrap();
+    assert_eq!(made.len(), files("examples/hostile", "msg").len());
+    for hostile in made {
+        let stored = std::fs::read(path("examples/hostile").join(format!("{}.msg", hostile.name))).unwrap();
+        assert!(stored == hostile.message, "{}", hostile.name);
+    }
 }
 
 #[test]
@@ -56,8 +78,7 @@ fn each_comes_back_from_its_own_text() {
 
 #[test]
 fn station_a_is_the_very_message_of_01() {
-    let path = PathBuf::from(env!("CARGO_MANIFEST_DIR")).join("../examples/station-a.msg");
-    assert_eq!(std::fs::read(path).unwrap(), common::bytes(&common::station_a()));
+    assert_eq!(std::fs::read(path("examples/station-a.msg")).unwrap(), common::bytes(&common::station_a()));
 }
 
 #[test]
@@ -74,8 +95,8 @@ fn safe_ones_keep_demand_3() {
 
 #[test]
 fn the_overflow_is_told_with_its_run() {
-    let path = PathBuf::from(env!("CARGO_MANIFEST_DIR")).join("../examples/overflow.station");
-    let assembled = assemble(&std::fs::read_to_string(path).unwrap()).unwrap();
+    let text = std::fs::read_to_string(path("examples/overflow.station")).unwrap();
+    let assembled = assemble(&text).unwrap();
     assert!(!assembled.safe);
     assert!(assembled.notes[0].contains("bad `overflow` can be met"), "{:?}", assembled.notes);
     assert!(assembled.notes[0].contains("puts consumer!item"), "{:?}", assembled.notes);

@@ -1,7 +1,8 @@
 //! Two readings of the hard checks agree on random messages, and safe stations keep demand 3.
 
-use oracle::fuzz::{compare, corpus, hostile};
-use oracle::{naive, verify};
+use oracle::fuzz::{compare, corpus};
+use oracle::verify::Outcome;
+use oracle::{naive, stress, verify};
 
 #[test]
 fn the_two_verifiers_agree_and_every_verdict_is_seen() {
@@ -11,23 +12,32 @@ fn the_two_verifiers_agree_and_every_verdict_is_seen() {
     assert!(tally.steps > 500, "{}", tally.words());
 }
 
-#[test]
-fn a_wrong_verifier_is_found_out() {
+/// `verify` with a change to what it says or writes.
+fn found_out(change: impl Fn(&mut Outcome, &mut [u32])) -> bool {
     let careless = |message: &[u8], lent: &mut [u32]| {
         let mut outcome = verify::verify(message, lent);
-        if outcome.number == 13 {
-            outcome.place += 1;
-        }
+        change(&mut outcome, lent);
         outcome
     };
-    assert!(compare::fuzz(7, 3000, &verify::verify, &careless).is_err());
+    compare::fuzz(7, 3000, &careless, &verify::verify).is_err()
+}
+
+#[test]
+fn a_wrong_verifier_is_found_out() {
+    assert!(found_out(|outcome, _| outcome.place += usize::from(outcome.number == 13)));
+    assert!(found_out(|outcome, _| outcome.number = outcome.number.max(1)));
+    assert!(found_out(|outcome, _| outcome.number = if outcome.number == 12 { 13 } else { outcome.number }));
+    assert!(found_out(|outcome, _| outcome.part.end += 2 * usize::from(outcome.number == 0)));
+    assert!(found_out(|outcome, _| outcome.part.end += usize::from(outcome.number == 14)));
+    assert!(found_out(|outcome, lent| lent.iter_mut().take(usize::from(outcome.number == 9)).for_each(|word| *word = 0)));
+    assert!(found_out(|outcome, lent| lent.last_mut().filter(|_| outcome.number == 0).into_iter().for_each(|word| *word ^= 1)));
 }
 
 #[test]
 fn a_corpus_comes_back_with_every_verdict() {
     let made = corpus::collect(11, 150, &verify::verify).unwrap();
     assert!(made.verdicts.iter().all(|&kept| kept > 0), "{:?}", made.verdicts);
-    let read = corpus::read(&corpus::container(&made.cases)).unwrap();
+    let read = corpus::read(&corpus::stream(&made.cases)).unwrap();
     assert_eq!(read.len(), made.cases.len());
     for (case, line) in read.iter().zip(made.lines.lines()) {
         let seen = compare::see(&naive::verify, case).unwrap();
@@ -37,16 +47,11 @@ fn a_corpus_comes_back_with_every_verdict() {
 
 #[test]
 fn hostile_messages_are_settled_in_time() {
-    for hostile in hostile::all().unwrap() {
+    for hostile in stress::hostile().unwrap() {
         let begin = std::time::Instant::now();
         let outcome = verify::verify(&hostile.message, &mut vec![0; 1 << 20]);
-        assert!(begin.elapsed().as_millis() < 1000, "{}", hostile.name);
-        let expected = match hostile.name {
-            "leak-at-the-end" => 13,
-            "open-at-the-end" => 8,
-            _ => 0,
-        };
-        assert_eq!(outcome.number, expected, "{}", hostile.name);
+        assert!(begin.elapsed().as_secs() < 5, "{}", hostile.name);
+        assert_eq!(outcome.number, hostile.verdict, "{}", hostile.name);
     }
 }
 
@@ -67,9 +72,11 @@ fn random_programs_come_back_from_their_text() {
     assert!(tried > 30, "{tried}");
 }
 
+const DEEP: [&str; 2] = ["rows-receives", "rows-functions"];
+
 #[test]
 fn the_deepest_programs_come_back_from_their_text() {
-    for hostile in hostile::all().unwrap().into_iter().filter(|h| h.name.starts_with("deep")) {
+    for hostile in stress::hostile().unwrap().into_iter().filter(|h| DEEP.contains(&h.name.as_str())) {
         let outcome = verify::verify(&hostile.message, &mut vec![0; 1 << 20]);
         let text = oracle::text::disassemble::disassemble(&hostile.message).unwrap();
         let again = oracle::text::assemble::assemble(&text).unwrap().message;

@@ -1,6 +1,6 @@
 //! `oracle corpus SEED COUNT OUT` and `oracle check-corpus OUT`
 
-use super::{number, Answer};
+use super::{Answer, number};
 use oracle::fuzz::{compare, corpus};
 use oracle::verify;
 
@@ -8,18 +8,17 @@ pub fn command(args: &[String]) -> Answer {
     let [seed, count, out] = args else { return Err("corpus: SEED, COUNT and OUT are wanted".to_string()) };
     let made = corpus::collect(number(seed)?, number(count)?, &verify::verify)?;
     let io = |e: std::io::Error| format!("{out}: {e}");
-    std::fs::write(format!("{out}.bin"), corpus::container(&made.cases)).map_err(io)?;
+    std::fs::write(format!("{out}.bin"), corpus::stream(&made.cases)).map_err(io)?;
     std::fs::write(format!("{out}.txt"), &made.lines).map_err(io)?;
     Ok(format!("{} cases, by verdict from 0 to 14: {:?}\n", made.cases.len(), made.verdicts))
 }
 
 /// Verifies every case of a stored corpus anew and compares the lines.
 pub fn check(args: &[String]) -> Answer {
-    let [out] = args else { return Err("check-corpus: OUT is wanted".to_string()) };
-    let io = |e: std::io::Error| format!("{out}: {e}");
-    let bytes = std::fs::read(format!("{out}.bin")).map_err(io)?;
-    let lines = std::fs::read_to_string(format!("{out}.txt")).map_err(io)?;
-    let cases = corpus::read(&bytes).ok_or(format!("{out}.bin: not a whole corpus"))?;
+    let [records, expected] = args else { return Err("check-corpus: two files are wanted".to_string()) };
+    let bytes = std::fs::read(records).map_err(|e| format!("{records}: {e}"))?;
+    let lines = super::read_text(expected)?;
+    let cases = corpus::read(&bytes).ok_or(format!("{records}: not whole records"))?;
     for (i, (case, line)) in cases.iter().zip(lines.lines()).enumerate() {
         let seen = compare::see(&verify::verify, case)?;
         if corpus::line(case, &seen).trim_end() != line {
@@ -28,6 +27,6 @@ pub fn check(args: &[String]) -> Answer {
     }
     match cases.len() == lines.lines().count() {
         true => Ok(format!("{} cases as stored\n", cases.len())),
-        false => Err(format!("{out}: {} cases but {} lines", cases.len(), lines.lines().count())),
+        false => Err(format!("{} cases but {} lines", cases.len(), lines.lines().count())),
     }
 }

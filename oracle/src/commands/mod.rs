@@ -2,6 +2,8 @@
 
 pub mod against;
 pub mod assemble;
+#[cfg(feature = "proved")]
+pub mod bench;
 pub mod corpus;
 pub mod disassemble;
 pub mod explain;
@@ -12,6 +14,10 @@ pub mod time;
 pub mod verify;
 
 use std::io::Read;
+
+/// What a command for the proved code says in a build that does not have it.
+#[cfg(not(feature = "proved"))]
+pub const WITHOUT_PROVED: &str = "built without the proved code: run `rt staticlib verifier`, then build with `--features proved`";
 
 /// What a command gives: text for standard output, or a word on what went wrong.
 pub type Answer = Result<String, String>;

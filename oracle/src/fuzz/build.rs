@@ -6,11 +6,14 @@ use crate::bads::Bad;
 use crate::evidence;
 use crate::explore::Limits;
 use crate::least;
-use crate::limits::UNBOUNDED;
+use crate::limits::{self, UNBOUNDED};
 use crate::message::Message;
-use crate::program::Program;
+use crate::program::{Head, Name, Program};
+use crate::set::Set;
+use crate::stress::{flow, honest};
 use crate::system::System;
 use crate::tables::Tables;
+use crate::verify::{self, Read};
 
 /// A message, the words its system needs if it is safe, and the numbers of its bounds.
 #[derive(Clone, Debug)]
@@ -31,10 +34,24 @@ fn size(rng: &mut Rng) -> usize {
     }
 }
 
+/// Stations near the limits, which chance does not reach: honest ones and those with the most flow.
+pub fn large() -> Result<Vec<Station>, String> {
+    let samples = honest::honest()?.into_iter().chain(flow::hostile()?);
+    samples.filter(|sample| sample.verdict == 0).map(|sample| known(&sample.message)).collect()
+}
+
+/// The station of a message that is safe.
+fn known(message: &[u8]) -> Result<Station, String> {
+    let mut read = Read::default();
+    verify::inspect(message, &mut read).map_err(|r| format!("refused {} at {}", r.number, r.position))?;
+    let (message, system) = read.message.zip(read.system).ok_or("not all parts were read")?;
+    Ok(Station { message, words: system.words(), counters: system.counters() })
+}
+
 /// A random station; tries until the limits are kept.
 pub fn station(rng: &mut Rng) -> Station {
     loop {
-        let crowded = rng.chance(1, 40);
+        let crowded = rng.chance(1, 20);
         let size = size(rng);
         let rows = if crowded { generate::crowded(rng) } else { generate::program(rng, size) };
         if let Some(station) = finish(rng, &rows, crowded) {
@@ -48,7 +65,7 @@ fn finish(rng: &mut Rng, rows: &Rows, crowded: bool) -> Option<Station> {
     let mut m = evidence::bare(sizes, &rows.rows, 1, &[(40, rows.rows.len()), (42, 0), (43, 1), (44, 0)]);
     let (program, _) = evidence::read(&m).ok()?;
     let mut tables = least::least(&program);
-    if rng.chance(1, 4) {
+    if rng.chance(1, 3) {
         tables = with_extra(rng, &program, tables);
     }
     evidence::put_tables(&mut m, &program, &tables).ok()?;
@@ -69,10 +86,28 @@ fn finish(rng: &mut Rng, rows: &Rows, crowded: bool) -> Option<Station> {
         }
     };
     if rng.chance(1, 4) {
+        add_lower(rng, &mut limits);
+    }
+    if rng.chance(1, 4) {
         rng.shuffle(&mut limits);
     }
     evidence::put_bounds(&mut m, &limits);
     Some(Station { message: m, words: system.words(), counters: system.counters() })
+}
+
+/// Bounds under those that are there: no rule leads out of them that does not lead out of these.
+fn add_lower(rng: &mut Rng, limits: &mut Vec<Limits>) {
+    let width = limits.iter().map(|l| 1 + l.iter().filter(|&&limit| limit > 0).count()).max().unwrap_or(1);
+    let room = (limits::BOUNDS.1 as usize).min(limits::BOUND_ENTRIES.1 as usize / width).saturating_sub(limits.len());
+    let most = if rng.chance(1, 10) { room } else { room.min(6) };
+    for _ in 0..rng.range(0, most) {
+        let mut lower = limits[rng.below(limits.len())].clone();
+        for _ in 0..rng.range(0, 3) {
+            let i = rng.below(lower.len());
+            lower[i] = [0, lower[i] / 2, lower[i].saturating_sub(1)][rng.below(3)];
+        }
+        limits.push(lower);
+    }
 }
 
 /// Too many counters: some bound that no one reads.
@@ -84,27 +119,79 @@ fn uncounted(mut m: Message) -> Message {
 /// Some entries more than are needed, and what they want.
 fn with_extra(rng: &mut Rng, program: &Program, tables: Tables) -> Tables {
     let values: Vec<usize> = (0..=program.rows).filter(|&v| program.is_value(v)).collect();
-    let heads: Vec<usize> = (0..program.rows).filter(|&r| program.is_head(r)).collect();
     let mut more = tables.clone();
-    for _ in 0..rng.range(1, 3) {
-        let (Some(&value), Some(&head)) = (rng.pick(&values), rng.pick(&heads)) else { break };
-        let class = rng.below(more.mail.len());
-        match rng.below(3) {
-            0 => {
-                more.flow[rng.below(program.names)].insert(value);
-            }
-            1 => {
-                more.mail[class].insert(value);
-            }
-            _ => {
-                let class = program.classes().nth(class).unwrap_or(program.rows);
-                if let Err(i) = more.states.binary_search(&(class, head)) {
-                    more.states.insert(i, (class, head));
-                }
-            }
-        }
+    let most = if rng.chance(1, 8) { 150 } else { 3 };
+    for _ in 0..rng.range(1, most) {
+        add_entry(rng, program, &values, &mut more);
+    }
+    if rng.chance(1, 10) {
+        let full = if rng.chance(1, 2) { rng.pick_mut(&mut more.flow) } else { rng.pick_mut(&mut more.mail) };
+        full.into_iter().for_each(|set| {
+            values.iter().for_each(|&v| {
+                set.insert(v);
+            })
+        });
     }
     least::close(program, more)
+}
+
+/// One entry in one of the lists.
+fn add_entry(rng: &mut Rng, program: &Program, values: &[usize], tables: &mut Tables) {
+    match rng.below(7) {
+        0 => insert(rng, tables.flow.as_mut_slice(), values),
+        1 => insert(rng, tables.mail.as_mut_slice(), values),
+        2 => {
+            let builds = builds(rng, program, tables);
+            insert(rng, tables.mail.as_mut_slice(), &builds);
+        }
+        3..=4 => add_state(rng, program, tables),
+        _ => add_looked_at(rng, program, tables),
+    }
+}
+
+/// One of the values into one of the sets.
+fn insert(rng: &mut Rng, sets: &mut [Set], values: &[usize]) {
+    if let (Some(set), Some(&value)) = (rng.pick_mut(sets), rng.pick(values)) {
+        set.insert(value);
+    }
+}
+
+/// Builds; half the time only those with an argument that has no value, which no constructor pattern may match.
+fn builds(rng: &mut Rng, program: &Program, tables: &Tables) -> Vec<usize> {
+    let hollow = rng.chance(1, 2);
+    let wanted = |args: &[Name]| !hollow || args.iter().any(|&arg| tables.flow[arg].is_empty());
+    (0..program.rows).filter(|&row| program.build(row).is_some_and(|(_, args)| wanted(args))).collect()
+}
+
+/// A value that some head of a state looks for: a build for a case, a class for a target, a function for a callee.
+fn add_looked_at(rng: &mut Rng, program: &Program, tables: &mut Tables) {
+    let builds = builds(rng, program, tables);
+    let looked_at = |row: usize| match program.head(row)? {
+        Head::Case { value, .. } => Some((*value, builds.clone())),
+        Head::Send { target, .. } => Some((*target, program.classes().collect())),
+        Head::Call { callee, .. } | Head::Spawn { callee, .. } => {
+            Some((*callee, program.functions.iter().map(|f| f.row).collect()))
+        }
+        _ => None,
+    };
+    let heads: Vec<usize> = tables.states.iter().map(|&(_, head)| head).collect();
+    let found = (0..heads.len()).find_map(|_| looked_at(*rng.pick(&heads)?));
+    if let Some((name, values)) = found {
+        insert(rng, &mut tables.flow[name..=name], &values);
+    }
+}
+
+/// A state at any head, often at a build.
+fn add_state(rng: &mut Rng, program: &Program, tables: &mut Tables) {
+    let classes: Vec<usize> = program.classes().collect();
+    let heads = match rng.chance(1, 2) {
+        true => builds(rng, program, tables),
+        false => (0..program.rows).filter(|&row| program.is_head(row)).collect(),
+    };
+    let (Some(&class), Some(&head)) = (rng.pick(&classes), rng.pick(&heads)) else { return };
+    if let Err(i) = tables.states.binary_search(&(class, head)) {
+        tables.states.insert(i, (class, head));
+    }
 }
 
 /// Items of each bad: class, then place as a row, then minimum.
@@ -207,8 +294,9 @@ fn random_item(rng: &mut Rng, program: &Program, tables: &Tables, system: &Syste
     }
 }
 
+/// Sets of counts that are tried: seldom many, as this takes most of a fuzz run's time.
 fn budget(rng: &mut Rng) -> usize {
-    if rng.chance(1, 10) { 8000 } else { 1200 }
+    if rng.chance(1, 30) { 3000 } else { 400 }
 }
 
 /// Bounds with the bads left aside; at worst everything unbounded.

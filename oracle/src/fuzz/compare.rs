@@ -1,16 +1,18 @@
-//! Two verifiers on one case: number, place, part, every lent word, and the words around them.
+//! Two verifiers on one case: number, place, part, every lent word, and what lies around them.
 
 use super::build;
 use super::damage::{self, Case};
 use super::rng::Rng;
 use crate::counters::check_demand_3;
+use crate::stress::sizes;
 use crate::verify::Outcome;
 
 /// A verifier to be compared.
 pub type Verifier<'a> = &'a dyn Fn(&[u8], &mut [u32]) -> Outcome;
 
-/// Words before and behind the lent ones that no verifier may touch.
-const GUARD: usize = 16;
+/// Words, and bytes, before and behind what a verifier is given. An odd number: the message
+/// then begins at an odd address.
+const GUARD: usize = 17;
 
 /// What one verifier made of a case.
 #[derive(Clone, Debug, PartialEq, Eq)]
@@ -19,24 +21,33 @@ pub struct Seen {
     pub lent: Vec<u32>,
 }
 
-/// What word i holds before: no system holds such words, so one written or left shows.
+/// What lent word i holds before: no system holds such words, so one written or left shows.
 fn filling(i: usize) -> u32 {
     0xA5A5_0000u32.wrapping_add(i as u32)
 }
 
-/// Runs a verifier on lent words between guards.
+/// These between guards.
+fn guarded<T>(inner: impl Iterator<Item = T>, guard: impl Fn(usize) -> T) -> Vec<T> {
+    let guard = || (0..GUARD).map(&guard);
+    guard().chain(inner).chain(guard()).collect()
+}
+
+/// Runs a verifier on a message and on lent words between guards.
 pub fn see(verifier: Verifier, case: &Case) -> Result<Seen, String> {
-    let guard = || (0..GUARD).map(|i| !filling(i));
-    let before: Vec<u32> = guard().chain((0..case.lent).map(filling)).chain(guard()).collect();
+    let bytes = guarded(case.message.iter().copied(), |i| 0xC3 ^ i as u8);
+    let before = guarded((0..case.lent).map(filling), |i| !filling(i));
     let mut words = before.clone();
-    let outcome = verifier(&case.message, &mut words[GUARD..GUARD + case.lent]);
+    let outcome = verifier(&bytes[GUARD..GUARD + case.message.len()], &mut words[GUARD..GUARD + case.lent]);
+    if bytes[GUARD..GUARD + case.message.len()] != case.message {
+        return Err("the message was changed".to_string());
+    }
     if words[..GUARD] != before[..GUARD] || words[GUARD + case.lent..] != before[GUARD + case.lent..] {
         return Err("words around the lent ones were changed".to_string());
     }
     let lent = words[GUARD..GUARD + case.lent].to_vec();
     let written = if outcome.number == 0 { 4 + 2 * lent.get(3).map_or(0, |&rows| rows as usize) } else { 0 };
     if written > case.lent || lent[written..] != before[GUARD + written..GUARD + case.lent] {
-        return Err(format!("lent words beyond {written} were changed"));
+        return Err(format!("verdict {}: lent words beyond {written} were changed", outcome.number));
     }
     if outcome.number != 0 && outcome.part != (0..0) {
         return Err("a part was handed on after a refusal".to_string());
@@ -44,11 +55,17 @@ pub fn see(verifier: Verifier, case: &Case) -> Result<Seen, String> {
     Ok(Seen { outcome, lent })
 }
 
+/// An outcome in words.
+fn told(outcome: &Outcome) -> String {
+    format!("{} at {} with a part of {} bytes", outcome.number, outcome.place, outcome.part.len())
+}
+
 /// The outcome both agree on, or how they differ.
 pub fn compare(first: Verifier, second: Verifier, case: &Case) -> Result<Outcome, String> {
-    let (a, b) = (see(first, case)?, see(second, case)?);
+    let a = see(first, case).map_err(|word| format!("the first verifier: {word}"))?;
+    let b = see(second, case).map_err(|word| format!("the second verifier: {word}"))?;
     if a.outcome != b.outcome {
-        return Err(format!("{:?} against {:?}", a.outcome, b.outcome));
+        return Err(format!("{}, against {}", told(&a.outcome), told(&b.outcome)));
     }
     match a.lent.iter().zip(&b.lent).position(|(x, y)| x != y) {
         Some(i) => Err(format!("lent word {i}: {} against {}", a.lent[i], b.lent[i])),
@@ -56,10 +73,12 @@ pub fn compare(first: Verifier, second: Verifier, case: &Case) -> Result<Outcome
     }
 }
 
-/// How often each verdict was seen, and how many runs and steps of safe stations.
+/// How often each verdict was seen, the largest sizes of safe messages, and their runs.
 #[derive(Clone, Debug, Default, PartialEq, Eq)]
 pub struct Tally {
     pub verdicts: [usize; 15],
+    /// Rows, flow, mail, states, ceilings and their entries: the most of each.
+    pub largest: [usize; 6],
     pub runs: usize,
     pub steps: usize,
 }
@@ -69,13 +88,22 @@ impl Tally {
         self.verdicts.iter().sum()
     }
 
+    /// A safe message seen.
+    fn measure(&mut self, message: &[u8]) {
+        self.largest.iter_mut().zip(sizes(message)).for_each(|(largest, size)| *largest = size.max(*largest));
+    }
+
     pub fn words(&self) -> String {
         let mut text = String::new();
         for (number, count) in self.verdicts.iter().enumerate() {
             text.push_str(&format!("{number:>3} {:<9} {count}\n", crate::explain::trade_word(number as u32)));
         }
         let share = 100 * self.verdicts[0] / self.total().max(1);
+        let [rows, flow, mail, states, ceilings, entries] = self.largest;
         text.push_str(&format!("all {}, safe {share} %, runs {} with {} steps\n", self.total(), self.runs, self.steps));
+        text.push_str(&format!(
+            "the most in a safe message: {rows} rows, {flow} flow, {mail} mail, {states} states, {ceilings} ceilings, {entries} entries\n"
+        ));
         text
     }
 }
@@ -87,30 +115,47 @@ fn numbers(rng: &mut Rng) -> Vec<usize> {
     (0..rng.range(1, length)).map(|_| rng.below(most + 1)).collect()
 }
 
-/// The next case of a fuzz run; a station is used for several.
+/// The cases of a fuzz run; a station is used for several.
 pub struct Cases {
     rng: Rng,
     station: build::Station,
     left: usize,
+    /// Stations near the limits, made when first used.
+    large: Vec<build::Station>,
 }
+
+/// Cases of one station.
+const EACH: usize = 6;
 
 impl Cases {
     pub fn new(seed: u64) -> Cases {
         let mut rng = Rng::new(seed);
         let station = build::station(&mut rng);
-        Cases { rng, station, left: 6 }
+        Cases { rng, station, left: EACH, large: Vec::new() }
     }
 
     pub fn next_case(&mut self) -> Case {
         if self.left == 0 {
-            self.station = build::station(&mut self.rng);
-            self.left = 6;
+            self.station = self.next_station();
+            self.left = EACH;
         }
         self.left -= 1;
         match self.rng.chance(2, 5) {
             true => damage::whole(&mut self.rng, &self.station),
             false => damage::damaged(&mut self.rng, &self.station),
         }
+    }
+
+    /// Mostly a random one, seldom a large one.
+    fn next_station(&mut self) -> build::Station {
+        if !self.rng.chance(1, 200) {
+            return build::station(&mut self.rng);
+        }
+        if self.large.is_empty() {
+            self.large = build::large().unwrap_or_default();
+        }
+        let large = self.rng.pick(&self.large).cloned();
+        large.unwrap_or_else(|| build::station(&mut self.rng))
     }
 }
 
@@ -126,7 +171,11 @@ pub fn fuzz(seed: u64, count: usize, first: Verifier, second: Verifier) -> Resul
             Some(seen) => *seen += 1,
             None => return Err(failed(format!("verdict {}", outcome.number))),
         }
-        if outcome.number == 0 && cases.rng.chance(1, 3) {
+        if outcome.number != 0 {
+            continue;
+        }
+        tally.measure(&case.message);
+        if cases.rng.chance(1, 2) {
             let rules = check_demand_3(&case.message, &numbers(&mut cases.rng)).map_err(failed)?;
             tally.runs += 1;
             tally.steps += rules.len();

@@ -1,29 +1,20 @@
 //! A stored corpus: messages of every verdict with the words lent, and what is expected of each.
-//!
-//! The container `OUT.bin`: the eight bytes `ORACLE01`, the count of cases (32 bits), then for
-//! each case the count of lent words (32 bits), the length of the message in bytes (32 bits) and
-//! the message. All numbers are little-endian.
-//!
-//! The expected lines `OUT.txt`, one a case: number, place, digest of the lent words, digest of
-//! the part. Before the verifier runs, lent word i (from 0) holds 0xA5A50000 + i. A digest is
-//! FNV-1a with 64 bits as 16 hexadecimal digits: of the lent words, each as four little-endian
-//! bytes, and of the bytes of the part handed on (none after a refusal).
+//! README.md, "The corpus", tells the form for a program in another language.
 
-use super::compare::{see, Cases, Seen, Verifier};
+use super::compare::{Cases, Seen, Verifier, see};
 use super::damage::Case;
+use crate::limits;
 
-pub const MAGIC: &[u8; 8] = b"ORACLE01";
-
-/// FNV-1a, 64 bits.
-pub fn digest(bytes: impl Iterator<Item = u8>) -> u64 {
-    bytes.fold(0xcbf2_9ce4_8422_2325, |hash, byte| (hash ^ byte as u64).wrapping_mul(0x0000_0100_0000_01b3))
+/// FNV-1a, 32 bits.
+pub fn digest(bytes: impl Iterator<Item = u8>) -> u32 {
+    bytes.fold(2_166_136_261, |hash: u32, byte| (hash ^ byte as u32).wrapping_mul(16_777_619))
 }
 
 /// The expected line of a case.
 pub fn line(case: &Case, seen: &Seen) -> String {
     let lent = digest(seen.lent.iter().flat_map(|word| word.to_le_bytes()));
     let part = digest(case.message[seen.outcome.part.clone()].iter().copied());
-    format!("{} {} {lent:016x} {part:016x}\n", seen.outcome.number, seen.outcome.place)
+    format!("{} {} {lent} {part}\n", seen.outcome.number, seen.outcome.place)
 }
 
 pub struct Corpus {
@@ -32,60 +23,79 @@ pub struct Corpus {
     pub verdicts: [usize; 15],
 }
 
+impl Corpus {
+    fn keep(&mut self, case: Case, seen: &Seen) {
+        self.verdicts[seen.outcome.number as usize] += 1;
+        self.lines.push_str(&line(&case, seen));
+        self.cases.push(case);
+    }
+}
+
 /// Cases of one verdict that are kept: each refusal as often as the others, a third of all safe.
 fn quota(number: usize, count: usize) -> usize {
     let refused = (count * 2 / 3 / 14).max(1);
     if number == 0 { count.saturating_sub(14 * refused) } else { refused }
 }
 
-/// So many cases, or fewer if some verdict stays rare for too long.
+/// No bytes; station A with as many words as it needs, with one too few; A and a byte more.
+fn fixed() -> Vec<Case> {
+    let a = include_bytes!("../../../examples/station-a.msg");
+    let case = |message: Vec<u8>, lent: usize| Case { message, lent };
+    vec![case(Vec::new(), 0), case(a.to_vec(), 24), case(a.to_vec(), 23), case([&a[..], &[0]].concat(), 24)]
+}
+
+/// A program without a heap has room for the longest message and the usual lent words.
+fn fits(case: &Case) -> bool {
+    case.message.len() <= limits::LONGEST + 1 && case.lent <= limits::LENT
+}
+
+/// So many cases, the fixed ones first; a word if some verdict never comes.
 pub fn collect(seed: u64, count: usize, verifier: Verifier) -> Result<Corpus, String> {
     let mut source = Cases::new(seed);
     let mut corpus = Corpus { cases: Vec::new(), lines: String::new(), verdicts: [0; 15] };
-    for _ in 0..count.saturating_mul(200) {
+    let random = std::iter::repeat_with(|| source.next_case()).take(count.saturating_mul(200));
+    for case in fixed().into_iter().chain(random) {
         if corpus.cases.len() >= count {
             break;
         }
-        let case = source.next_case();
         let seen = see(verifier, &case)?;
         let number = seen.outcome.number as usize;
-        if number < 15 && corpus.verdicts[number] < quota(number, count) {
-            corpus.verdicts[number] += 1;
-            corpus.lines.push_str(&line(&case, &seen));
-            corpus.cases.push(case);
+        if fits(&case) && number < 15 && corpus.verdicts[number] < quota(number, count) {
+            corpus.keep(case, &seen);
         }
     }
-    Ok(corpus)
+    match corpus.verdicts.iter().position(|&kept| kept == 0) {
+        Some(number) => Err(format!("verdict {number} did not come")),
+        None => Ok(corpus),
+    }
 }
 
-/// The container's bytes.
-pub fn container(cases: &[Case]) -> Vec<u8> {
-    let mut bytes = MAGIC.to_vec();
-    bytes.extend((cases.len() as u32).to_le_bytes());
+/// The records one after another.
+pub fn stream(cases: &[Case]) -> Vec<u8> {
+    let mut bytes = Vec::new();
     for case in cases {
-        bytes.extend((case.lent as u32).to_le_bytes());
         bytes.extend((case.message.len() as u32).to_le_bytes());
+        bytes.extend((case.lent as u32).to_le_bytes());
         bytes.extend(&case.message);
     }
     bytes
 }
 
-/// Reads a container back; none if it is not whole.
+/// Reads the records back; none if the last is not whole.
 pub fn read(bytes: &[u8]) -> Option<Vec<Case>> {
-    let mut rest = bytes.strip_prefix(MAGIC)?;
+    let mut rest = bytes;
     let number = |rest: &mut &[u8]| {
         let (four, left) = rest.split_first_chunk::<4>()?;
         *rest = left;
         Some(u32::from_le_bytes(*four) as usize)
     };
-    let count = number(&mut rest)?;
     let mut cases = Vec::new();
-    for _ in 0..count {
-        let lent = number(&mut rest)?;
+    while !rest.is_empty() {
         let length = number(&mut rest)?;
-        let message = rest.get(..length)?.to_vec();
-        rest = &rest[length..];
-        cases.push(Case { message, lent });
+        let lent = number(&mut rest)?;
+        let (message, left) = rest.split_at_checked(length)?;
+        cases.push(Case { message: message.to_vec(), lent });
+        rest = left;
     }
-    rest.is_empty().then_some(cases)
+    Some(cases)
 }

@@ -15,34 +15,48 @@ fn bytes(m: &Message) -> Vec<u8> {
     message::to_bytes(&message::write(m))
 }
 
-/// The message as it is, with enough words lent: just enough, some more, or many.
-pub fn whole(rng: &mut Rng, station: &Station) -> Case {
-    let lent = match rng.below(4) {
-        0 => station.words,
-        1 => station.words + rng.below(9),
+/// Enough words: just as many as are needed, some more, or many.
+fn enough(rng: &mut Rng, station: &Station) -> usize {
+    match rng.below(6) {
+        0..=1 => station.words,
+        2..=3 => station.words + rng.below(9),
+        4 => station.words + rng.below(2000),
         _ => station.words.max(16_384),
-    };
-    Case { message: bytes(&station.message), lent }
+    }
 }
 
-/// The message with some damage.
+/// Too few words: one less, none, fewer than the four sizes, or any number.
+fn too_few(rng: &mut Rng, station: &Station) -> usize {
+    let below = station.words.saturating_sub(1);
+    match rng.below(5) {
+        0..=1 => below,
+        2 => 0,
+        3 => rng.below(5).min(below),
+        _ => rng.range(0, below),
+    }
+}
+
+/// The message as it is, with enough words.
+pub fn whole(rng: &mut Rng, station: &Station) -> Case {
+    Case { message: bytes(&station.message), lent: enough(rng, station) }
+}
+
+/// The message with some damage, or with too few words, or both.
 pub fn damaged(rng: &mut Rng, station: &Station) -> Case {
-    let mut case = Case { message: Vec::new(), lent: station.words.max(16_384) };
     let mut m = station.message.clone();
     let times = if rng.chance(1, 8) { 2 } else { 1 };
     for _ in 0..times {
         structured(rng, &mut m, station);
     }
-    case.message = bytes(&m);
+    let few = rng.chance(1, 10);
+    let lent = if few { too_few(rng, station) } else { enough(rng, station) };
+    let mut case = Case { message: bytes(&m), lent };
     match rng.below(100) {
         0..=6 => words(rng, &mut case.message),
         7..=12 => length(rng, &mut case.message),
-        13..=18 => size(rng, &station.message, &mut case.message),
-        19..=23 => {
-            case.message = bytes(&station.message);
-            case.lent = if rng.chance(1, 2) { station.words.saturating_sub(1) } else { rng.below(station.words.max(1)) };
-        }
-        24..=27 => {
+        13..=20 => size(rng, &station.message, &mut case.message),
+        21..=25 => case = Case { message: bytes(&station.message), lent: too_few(rng, station) },
+        26..=29 => {
             case.message = bytes(&station.message);
             words(rng, &mut case.message);
         }
@@ -109,11 +123,11 @@ fn size(rng: &mut Rng, original: &Message, bytes: &mut Vec<u8>) {
     let sizes = size_words(original);
     let (at, most) = sizes[rng.below(sizes.len())];
     if let Some(word) = words.get_mut(at) {
-        *word = match rng.below(5) {
-            0 => most + 1,
-            1 => 0,
-            2 => odd_word(rng, *word),
-            3 => most,
+        *word = match rng.below(8) {
+            0..=2 => most + 1,
+            3 => 0,
+            4 => odd_word(rng, *word),
+            5 => most,
             _ => odd_word(rng, most),
         };
     }
@@ -124,7 +138,6 @@ fn structured(rng: &mut Rng, m: &mut Message, station: &Station) {
     match rng.below(35) {
         32 => soup(rng, m),
         33 => deepen(rng, m),
-        34 => entry_wrong(rng, m),
         0..=1 => row(rng, m),
         2 => row_gone(rng, m),
         3..=5 => binder(rng, m),
@@ -137,7 +150,7 @@ fn structured(rng: &mut Rng, m: &mut Message, station: &Station) {
         21..=23 => bound_gone(rng, m, station.counters),
         24..=26 => limit(rng, m, station.counters),
         27..=28 => bound_form(rng, m, station.counters),
-        29 => all_limits(rng, m),
+        29 | 34 => all_limits(rng, m),
         30 => keep_bounds(rng, m, station.counters),
         _ => {
             m.entries = Columns::default();
@@ -370,20 +383,30 @@ fn limit(rng: &mut Rng, m: &mut Message, counters: usize) {
     };
 }
 
-/// Every unbounded limit becomes 65,534, or every limit unbounded; perhaps the minimums go with them.
+/// Every limit, or every unbounded one, becomes 65,534 or unbounded; perhaps every item of a bad
+/// asks for as many at one state.
 fn all_limits(rng: &mut Rng, m: &mut Message) {
-    let all = rng.chance(1, 2);
-    if rng.chance(1, 2) {
-        let minimum = [65_534, 65_535][rng.below(2)];
-        let rows: Vec<usize> = (0..m.bad_rows.len()).filter(|&i| m.bad_rows.first[i] == 43).collect();
-        rows.into_iter().for_each(|i| m.bad_rows.second[i] = minimum);
+    const NEAR: [u16; 2] = [65_534, 65_535];
+    let (minimum, limit) = (NEAR[rng.below(2)], NEAR[rng.below(2)]);
+    if rng.chance(2, 3) {
+        ask_at_a_state(rng, m, minimum);
     }
-    for limit in m.entries.second.iter_mut().filter(|limit| **limit > 0) {
-        if all {
-            *limit = 65_535;
-        } else if *limit == 65_535 {
-            *limit = 65_534;
-        }
+    let least = [1, 65_535][rng.below(2)];
+    m.entries.second.iter_mut().filter(|old| **old >= least).for_each(|old| *old = limit);
+}
+
+/// Every item of the bads: at least so many at one and the same state.
+fn ask_at_a_state(rng: &mut Rng, m: &mut Message, minimum: u16) {
+    let states: Vec<usize> = (m.flow + m.mail..m.tables.len()).collect();
+    let Some(&state) = rng.pick(&states) else { return };
+    let (class, head) = (m.tables.first[state], m.tables.second[state]);
+    for (tag, number) in m.bad_rows.first.iter_mut().zip(&mut m.bad_rows.second) {
+        (*tag, *number) = match *tag {
+            40 => (40, class),
+            41 | 42 => (41, head),
+            43 => (43, minimum),
+            _ => (*tag, *number),
+        };
     }
 }
 

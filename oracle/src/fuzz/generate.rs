@@ -216,14 +216,14 @@ impl Maker<'_> {
     fn pattern(&mut self, level: usize) {
         let deep = level < limits::DEPTH && !self.arities.is_empty();
         let flat = !self.arities.is_empty() && self.arities.contains(&0);
-        let names = if level == 1 { 3 } else { 5 };
+        let (names, any) = if level == 1 { (3, 7) } else { (4, 6) };
         match self.rng.below(8) {
             n if n < names => {
                 let binder = self.fresh();
                 self.named(30, binder);
                 self.scope.push((binder, Kind::Unknown));
             }
-            7 => self.row(32, 0),
+            n if n >= any => self.row(32, 0),
             _ if deep => self.constructor_pattern(level, false),
             _ if flat => self.constructor_pattern(level, true),
             _ => self.row(32, 0),

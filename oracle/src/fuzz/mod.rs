@@ -5,6 +5,5 @@ pub mod compare;
 pub mod corpus;
 pub mod damage;
 pub mod generate;
-pub mod hostile;
 pub mod rng;
 pub mod row_list;

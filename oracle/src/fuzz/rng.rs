@@ -35,6 +35,11 @@ impl Rng {
         from.get(i)
     }
 
+    pub fn pick_mut<'a, T>(&mut self, from: &'a mut [T]) -> Option<&'a mut T> {
+        let i = self.below(from.len());
+        from.get_mut(i)
+    }
+
     pub fn shuffle<T>(&mut self, list: &mut [T]) {
         for i in (1..list.len()).rev() {
             let j = self.below(i + 1);

@@ -8,6 +8,7 @@ use crate::explore::Failure;
 use crate::least::least;
 use crate::message::{self, Message};
 use crate::program::Program;
+use crate::stack::with_stack;
 use crate::symbols::Symbols;
 use crate::system::System;
 use crate::tables::Tables;
@@ -36,11 +37,7 @@ const STACK: usize = 64 << 20;
 /// A station's message. Without bounds that allow no bad it holds those that are found when
 /// the bads are left aside, so that the verifier shows the bad.
 pub fn assemble(text: &str) -> Result<Assembled, String> {
-    std::thread::scope(|scope| {
-        let work = std::thread::Builder::new().stack_size(STACK).spawn_scoped(scope, || assemble_here(text));
-        let work = work.map_err(|e| format!("no thread: {e}"))?;
-        work.join().unwrap_or_else(|_| Err("the assembler failed".to_string()))
-    })
+    with_stack(STACK, || assemble_here(text))?
 }
 
 fn assemble_here(text: &str) -> Result<Assembled, String> {

@@ -1,7 +1,8 @@
-//! Station A and small helpers for the tests.
+//! Station A, the examples and small helpers for the tests.
 #![allow(dead_code)]
 
 use oracle::verify::verify;
+use std::path::PathBuf;
 
 pub fn station_a() -> Vec<u16> {
     let mut a = vec![10, 3, 1, 0];
@@ -28,4 +29,33 @@ pub fn verdict_lent(message: &[u8], lent: usize) -> (u32, usize) {
 
 pub fn verdict(message: &[u8]) -> (u32, usize) {
     verdict_lent(message, 16_384)
+}
+
+/// A file or folder of the repository.
+pub fn path(name: &str) -> PathBuf {
+    PathBuf::from(env!("CARGO_MANIFEST_DIR")).join("..").join(name)
+}
+
+/// The files of a folder with this ending, in order.
+pub fn files(folder: &str, ending: &str) -> Vec<PathBuf> {
+    let entries = std::fs::read_dir(path(folder)).expect(folder).filter_map(|f| Some(f.ok()?.path()));
+    let mut files: Vec<PathBuf> = entries.filter(|f| f.extension().is_some_and(|e| e == ending)).collect();
+    files.sort();
+    files
+}
+
+/// The stations of the examples.
+pub fn examples() -> Vec<PathBuf> {
+    files("examples", "station")
+}
+
+/// Name and verdict of each line of the tables in examples/README.md.
+pub fn listed() -> Vec<(String, u32)> {
+    let text = std::fs::read_to_string(path("examples/README.md")).expect("examples/README.md");
+    let line = |line: &str| {
+        let (name, rest) = line.strip_prefix("| `")?.split_once("` |")?;
+        let verdict = rest.trim_end_matches(" |").rsplit("| ").next()?;
+        Some((name.to_string(), verdict.split(' ').next()?.parse().ok()?))
+    };
+    text.lines().filter_map(line).collect()
 }

@@ -1,0 +1,153 @@
+//! `oracle bench`: how long the proved code and `verify` take, as Markdown.
+
+use super::{Answer, read_message};
+use oracle::stress::growth::{self, Family};
+use oracle::stress::{self, Sample, honest};
+use oracle::verify::{self, Outcome};
+use oracle::{proved, stack};
+use std::fmt::Write;
+use std::time::{Duration, Instant};
+
+/// Words that are enough for the largest system of a legal message.
+const PLENTY: usize = 1 << 20;
+/// A message is verified so often, or until this time is over, but at least three times.
+const TIMES: usize = 201;
+const UNTIL: Duration = Duration::from_millis(600);
+const EXAMPLES: &str = concat!(env!("CARGO_MANIFEST_DIR"), "/../examples");
+
+/// Middle times of one call, in microseconds.
+struct Times {
+    outcome: Outcome,
+    proved: f64,
+    own: f64,
+}
+
+fn timed(verifier: fn(&[u8], &mut [u32]) -> Outcome, message: &[u8], lent: &mut [u32]) -> (Outcome, f64) {
+    let begin = Instant::now();
+    let outcome = verifier(std::hint::black_box(message), lent);
+    (outcome, begin.elapsed().as_nanos() as f64 / 1e3)
+}
+
+fn middle(mut times: Vec<f64>) -> f64 {
+    times.sort_by(f64::total_cmp);
+    times[times.len() / 2]
+}
+
+/// Both in turn, again and again; a word if they do not agree.
+fn measure(message: &[u8], lent: &mut [u32]) -> Result<Times, String> {
+    let begin = Instant::now();
+    let (mut proved_times, mut own_times) = (Vec::new(), Vec::new());
+    loop {
+        let (outcome, time) = timed(proved::verify, message, lent);
+        proved_times.push(time);
+        let (own, time) = timed(verify::verify, message, lent);
+        own_times.push(time);
+        if outcome != own {
+            return Err(format!("{outcome:?} against {own:?}"));
+        }
+        if own_times.len() >= TIMES || own_times.len() >= 3 && begin.elapsed() > UNTIL {
+            return Ok(Times { outcome, proved: middle(proved_times), own: middle(own_times) });
+        }
+    }
+}
+
+/// A time for a person.
+fn told(micros: f64) -> String {
+    match micros {
+        m if m < 1e3 => format!("{m:.1} µs"),
+        m if m < 1e6 => format!("{:.1} ms", m / 1e3),
+        m => format!("{:.2} s", m / 1e6),
+    }
+}
+
+/// The columns with both times and their ratio.
+fn columns(times: &Times) -> String {
+    format!("{} | {} | {:.1}", told(times.proved), told(times.own), times.proved / times.own)
+}
+
+fn sizes(message: &[u8]) -> String {
+    let [rows, flow, mail, states, ceilings, entries] = stress::sizes(message);
+    format!("{rows} | {flow} | {mail} | {states} | {ceilings} | {entries}")
+}
+
+const SIZES: &str = "rows | flow | mail | states | ceilings | entries";
+
+/// A table of messages, one a line.
+fn table(title: &str, samples: &[Sample], lent: &mut [u32]) -> Answer {
+    let mut text = format!("## {title}\n\n| message | verdict | {SIZES} | proved | oracle | ratio |\n");
+    text.push_str("|---|--:|--:|--:|--:|--:|--:|--:|--:|--:|--:|\n");
+    for Sample { name, verdict, message, .. } in samples {
+        let times = measure(message, lent).map_err(|e| format!("{name}: {e}"))?;
+        if times.outcome.number != *verdict {
+            return Err(format!("{name}: verdict {} where {verdict} is expected", times.outcome.number));
+        }
+        let _ = writeln!(text, "| {name} | {verdict} | {} | {} |", sizes(message), columns(&times));
+    }
+    text.push('\n');
+    let told = samples.iter().filter(|sample| !sample.about.is_empty());
+    let lines: Vec<String> = told.map(|sample| format!("- `{}`: {}.\n", sample.name, sample.about)).collect();
+    if !lines.is_empty() {
+        text.push_str(&(lines.concat() + "\n"));
+    }
+    Ok(text)
+}
+
+/// A table of one family; `more` is the time against that of the line before.
+fn grown(family: &Family, lent: &mut [u32]) -> Answer {
+    let mut text = format!("### {}\n\n| size | {SIZES} | proved | oracle | ratio | more |\n", family.about);
+    text.push_str("|--:|--:|--:|--:|--:|--:|--:|--:|--:|--:|--:|\n");
+    let mut before = None;
+    for (size, message) in &family.messages {
+        let times = measure(message, lent).map_err(|e| format!("{}: {e}", family.about))?;
+        let more = before.map_or(String::new(), |before: f64| format!("{:.1}", times.proved / before));
+        let _ = writeln!(text, "| {size} | {} | {} | {more} |", sizes(message), columns(&times));
+        before = Some(times.proved);
+    }
+    Ok(text + "\n")
+}
+
+/// The stored messages of the examples, by name.
+fn examples() -> Result<Vec<Sample>, String> {
+    let folder = std::fs::read_dir(EXAMPLES).map_err(|e| format!("{EXAMPLES}: {e}"))?;
+    let mut paths: Vec<_> = folder.filter_map(|file| Some(file.ok()?.path())).collect();
+    paths.retain(|path| path.extension().is_some_and(|e| e == "msg"));
+    paths.sort();
+    paths
+        .iter()
+        .map(|path| {
+            let name = path.file_stem().unwrap_or_default().to_string_lossy().into_owned();
+            let message = read_message(&path.to_string_lossy())?;
+            let verdict = verify::verify(&message, &mut vec![0; PLENTY]).number;
+            Ok(Sample { name, about: "", verdict, message })
+        })
+        .collect()
+}
+
+fn machine() -> String {
+    let text = std::fs::read_to_string("/proc/cpuinfo").unwrap_or_default();
+    let name = text.lines().find_map(|line| line.strip_prefix("model name")?.split_once(": ").map(|(_, name)| name));
+    name.unwrap_or("an unknown processor").to_string()
+}
+
+fn report() -> Answer {
+    let mut lent = vec![0; PLENTY];
+    let mut text = format!(
+        "# Performance\n\nThe middle time of one call, the proved code and `oracle verify` in turn in one process, on {}.\n\n",
+        machine()
+    );
+    text.push_str(&table("Examples", &examples()?, &mut lent)?);
+    text.push_str(&table("Honest messages near the limits", &honest::honest()?, &mut lent)?);
+    text.push_str(&table("Hostile messages", &stress::hostile()?, &mut lent)?);
+    text.push_str("## Growth\n\n`more`: the proved time against that of the line before.\n\n");
+    for family in growth::families()? {
+        text.push_str(&grown(&family, &mut lent)?);
+    }
+    Ok(text.trim_end().to_string() + "\n")
+}
+
+pub fn command(args: &[String]) -> Answer {
+    match args {
+        [] => stack::with_stack(proved::STACK, report)?,
+        _ => Err("bench: no words are wanted".to_string()),
+    }
+}
