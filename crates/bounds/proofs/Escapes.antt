@@ -80,15 +80,6 @@ module _ (limits : List ℕ) (n k : ℕ) (σ : Step) where
     | no z ↦ before j (omega arith)
   ]
 
-  -- what a candidate tells; k″ is k′ inside of the inner loop
-  module _ (ceilings k′ k″ : ℕ) (same : k″ ≡ k′) (inside : k′ < ceilings) (so-far : any 0 ceilings covers ≡ any k′ ceilings covers) where
-    pub candidate-fails : (y : ℕ) → y < n → passes limits k k″ σ y ≡ false → any 0 ceilings covers ≡ any (k″ + 1) ceilings covers
-    candidate-fails y h f = so-far ∙ rw same (any-miss k′ ceilings covers inside (covers-not k′ y h (rw same at f)))
-
-    pub candidate-covers : (pairs : List ℕ) (i : ℕ) → Pairs-table ceilings n limits pairs → Step-within n σ → ceilings ≤ maxBounds → k < ceilings → suspects ≤ i → ((j : ℕ) → j < i → Passing pairs k″ j) → any 0 ceilings covers ≡ true
-    candidate-covers pairs i table within most a l h =
-        so-far ∙ any-hit k′ ceilings covers inside (covers-all pairs ceilings k′ table within most a inside (λ j b. rw same at (h j (omega arith))))
-
   -- the answer
   pub unusable : (ceilings : ℕ) → usable (rule-of-step σ) counts ≡ false → false ≡ escapes (held ceilings n limits) (rule-of-step σ) counts
   unfolding escapes

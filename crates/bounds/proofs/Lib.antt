@@ -7,6 +7,7 @@ pub mod Steps
 pub mod Suspects
 pub mod PairTable
 pub mod Escapes
+pub mod Candidates
 pub mod Held
 pub mod BadRows
 pub mod Meeting

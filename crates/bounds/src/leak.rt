@@ -1,4 +1,4 @@
-// The test of refusal 13 for one ceiling and one rule: does the rule lead out of all ceilings?
+// The test of refusal 13 for one rule: the first ceiling from which it leads out of all ceilings.
 use crate::Step;
 use crate::limits::highest;
 use crate::limits::is_allowed;
@@ -9,10 +9,12 @@ ghost use mathlib.Core.Bool.{_&&_};
 ghost use Prim.Native.Nat.{_+_, _-_, _≤_, _<_};
 ghost use lib.ListN.{length};
 ghost use Rattle.model.specs.Limits.{maxBounds, maxCounters, omega-limit};
+ghost use Rattle.model.specs.Index.{first};
 ghost use Rattle.model.specs.Markings.{fire, usable};
 ghost use Rattle.model.specs.Bounds.{allowed, highest};
 ghost use Rattle.bounds.specs.Limits.{limit-cells};
 ghost use Rattle.bounds.specs.Pairs.{row, held, pair-cells, passes, suspect, suspects, Pairs-table};
+ghost use Rattle.bounds.specs.Candidates.{has-room, may-cover, Candidates};
 ghost use Rattle.bounds.specs.Steps.{rule-of-step, escapes, Step-within, takes-other, adds-other, less-if, more-if};
 
 // So many counters could exceed.
@@ -111,10 +113,54 @@ fn suspect(pairs: &[u16], k: usize, k2: usize, step: Step, i: usize) -> usize
     }
 }
 
-// From the highest counts of ceiling k the step leads out of all ceilings.
-pub fn leads_out(
+// Ceiling k has room for one at counter y, where that is one of the n.
+fn has_room(limits: &[u16], n: usize, k: usize, y: usize) -> bool
+    requires { ⌜ (k < maxBounds) × (n ≤ maxCounters) ⌝ }
+    requires { ⌜ limit-cells (k + 1) ≤ length (now limits) ⌝ }
+    ensures { λ r. ⌜ r ≡ has-room (now (limits .entry)) n k y ⌝ }
+{
+    if y < n {
+        1 <= limit(limits, k, y)
+    } else {
+        true
+    }
+}
+
+// Ceiling k may cover the counts after the step: it has room at the counters that this adds to.
+fn may_cover(limits: &[u16], n: usize, k: usize, step: Step) -> bool
+    requires { ⌜ (k < maxBounds) × (n ≤ maxCounters) ⌝ }
+    requires { ⌜ limit-cells (k + 1) ≤ length (now limits) ⌝ }
+    ensures { λ r. ⌜ r ≡ may-cover (now (limits .entry)) n step k ⌝ }
+{
+    if !has_room(limits, n, k, step.to) {
+        return false;
+    }
+    if step.kind < 2 {
+        return true;
+    }
+    has_room(limits, n, k, step.other)
+}
+
+// Lists the candidates for a step; gives their number. Each ceiling is put behind them, and stays there where it is one.
+fn list_candidates(limits: &[u16], ceilings: usize, n: usize, step: Step, list: &mut [u16]) -> usize
+    requires { ⌜ (ceilings ≤ maxBounds) × (n ≤ maxCounters) ⌝ }
+    requires { ⌜ (limit-cells ceilings ≤ length (now limits)) × (ceilings ≤ length (now list)) ⌝ }
+    ensures { λ m. ⌜ Candidates (now (limits .entry)) n step ceilings (now (list .exit)) m ⌝ }
+{
+    let mut m = 0;
+    for k in 0..ceilings {
+        list[m] = k as u16;
+        m = more_if(may_cover(limits, n, k, step), m);
+    }
+    m
+}
+
+// From the highest counts of ceiling k the step leads out of all ceilings: no candidate of the list covers the counts after it.
+fn leads_out(
     limits: &[u16],
     pairs: &[u16],
+    list: &[u16],
+    m: usize,
     ceilings: usize,
     n: usize,
     k: usize,
@@ -124,12 +170,14 @@ pub fn leads_out(
     requires { ⌜ (n ≤ maxCounters) × Step-within n step ⌝ }
     requires { ⌜ limit-cells ceilings ≤ length (now limits) ⌝ }
     requires { ⌜ Pairs-table ceilings n (now limits) (now pairs) ⌝ }
+    requires { ⌜ Candidates (now limits) n step ceilings (now list) m ⌝ }
     ensures { λ r. ⌜ r ≡ escapes (held ceilings n (now (limits .entry))) (rule-of-step step) (highest (row (now (limits .entry)) k)) ⌝ }
 {
     if !is_usable(limits, k, step) {
         return false;
     }
-    'candidates: for k2 in 0..ceilings {
+    'candidates: for a in 0..m {
+        let k2 = list[a] as usize;
         for i in 0..SUSPECTS {
             let y = suspect(pairs, k, k2, step, i);
             if y < n {
@@ -141,4 +189,29 @@ pub fn leads_out(
         return false;
     }
     true
+}
+
+// The first of the ceilings below `most` from which the step leads out of all ceilings; `most` where there is none.
+pub fn first_out(
+    limits: &[u16],
+    pairs: &[u16],
+    ceilings: usize,
+    n: usize,
+    most: usize,
+    step: Step,
+) -> usize
+    requires { ⌜ (ceilings ≤ maxBounds) × (most ≤ ceilings) ⌝ }
+    requires { ⌜ (n ≤ maxCounters) × Step-within n step ⌝ }
+    requires { ⌜ limit-cells ceilings ≤ length (now limits) ⌝ }
+    requires { ⌜ Pairs-table ceilings n (now limits) (now pairs) ⌝ }
+    ensures { λ r. ⌜ r ≡ first 0 most (λ k. escapes (held ceilings n (now (limits .entry))) (rule-of-step step) (highest (row (now (limits .entry)) k))) ⌝ }
+{
+    let mut list = [0u16; 256];
+    let m = list_candidates(limits, ceilings, n, step, &mut list);
+    'ceilings: for k in 0..most {
+        if leads_out(limits, pairs, &list, m, ceilings, n, k, step) {
+            return k;
+        }
+    }
+    most
 }

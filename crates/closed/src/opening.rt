@@ -16,7 +16,7 @@ ghost use Rattle.entries.specs.Entries.{Ground};
 ghost use Rattle.closed.specs.Parts.{opening-row};
 
 // The row of the start expression: behind the constructors and the functions.
-fn start(ws: &[u16], s: Sizes, afters: &[u16], inners: &[u16]) -> usize
+pub fn start(ws: &[u16], s: Sizes, afters: &[u16], inners: &[u16]) -> usize
     requires { ⌜ Ground (now ws) s ⌝ }
     requires { ⌜ Layout (program (now ws) s) (now afters) (now inners) ⌝ }
     ensures { λ r. ⌜ r ≡ start (program (now (ws .entry)) s) ⌝ }

@@ -2,4 +2,3 @@ pub mod Narrow
 pub mod Held
 pub mod Turns
 pub mod Filled
-pub mod Hints

@@ -93,8 +93,3 @@ module _ {ws : List ℕ} {s : Sizes} (g : Ground ws s) (a : ℕ) (f : ℕ → Bo
       pub turn-fails : b ≡ false → false ≡ each flow-list a f
       unfolding tables entries columns
       turn-fails = fails flow-list a f i n inside name t v b same value test
-
--- the first entry of a name is in the list, or its end
-pub lower-within : (ws : List ℕ) (s : Sizes) (a i : ℕ) → i ≡ lower (tables ws s .flow) a → i ≤ s .flows
-unfolding lower tables entries columns
-lower-within ws s a i e = omega (arith, first-is 0 (s .flows) (λ k. leb a (left (tables ws s .flow) k)) (omega arith) .upto)

@@ -1,11 +1,11 @@
 -- What the readers of the tables ask: whole lists that ascend.
 use Prim.Native.Nat.{ℕ, _+_, _*_, _≤_, _<_}
 use mathlib.Core.Path.{_≡_}
-use mathlib.Core.Bool.{Bool, true, false, _&&_}
+use mathlib.Core.Bool.{Bool}
 use mathlib.Core.List.{List}
 use mathlib.Core.Option.{none}
 use lib.ListN.{length, getD}
-use lib.Dec.{leb, ltb, eqb}
+use lib.Dec.{leb}
 use Rattle.model.specs.declared.Sizes.{Sizes}
 use Rattle.model.specs.Index.{first}
 use Rattle.model.specs.Words.{Columns, left, right, columns}
@@ -15,6 +15,7 @@ use Rattle.model.specs.Tables.{Tables, tables, entry-check, has, each}
 use Rattle.model.specs.Verify.{program-check}
 use Rattle.model.specs.Demands.{Pair-below, Within-limits}
 use Rattle.program.specs.Rows.{Whole}
+use Rattle.flow.specs.Marks.{bit}
 
 -- each entry is above all before it
 pub record Ascends (c : Columns) : Type 0 where
@@ -38,21 +39,22 @@ pub record Ground (ws : List ℕ) (s : Sizes) : Type 0 where
 unfoldable pub lower : Columns → ℕ → ℕ
 lower c a = first 0 (c .size) (λ i. leb a (left c i))
 
--- entry j is the pair (a, b)
-unfoldable pub stands-at : Columns → ℕ → ℕ → ℕ → Bool
-stands-at c a b j = ltb j (c .size) && (eqb (left c j) a && eqb (right c j) b)
-
 -- each value of the name a is a value of the name b
 unfoldable pub includes : Tables → ℕ → ℕ → Bool
 includes t a b = each (t .flow) a (has (t .flow) b)
 
--- a flag as a byte
-unfoldable pub bit : Bool → ℕ
-bit false = 0
-bit true = 1
+-- n ones from `at` on, and what was there before them
+pub record Ones (at n : ℕ) (before now : List ℕ) : Type 0 where
+  pub ones : (k : ℕ) → k < n → getD now (at + k) 0 ≡ 1
+  pub kept : (k : ℕ) → k < at → getD now k 0 ≡ getD before k 0
 
--- a table of every pair of names: at a * 512 + b whether a's values are all among b's
+-- a table with a row for each name b: at b * 512 + a whether a's values are all among b's
 pub record Inclusions (names : ℕ) (t : Tables) (table : List ℕ) : Type 0 where
   pub few : names ≤ 512
   pub room : names * 512 ≤ length table
-  pub at : (a b : ℕ) → a < names → b < names → getD table (a * 512 + b) 0 ≡ bit (includes t a b)
+  pub at : (a b : ℕ) → a < names → b < names → getD table (b * 512 + a) 0 ≡ bit (includes t a b)
+
+-- the row of b, and what was there in the rows before it
+pub record Included (names : ℕ) (t : Tables) (b : ℕ) (before now : List ℕ) : Type 0 where
+  pub row : (a : ℕ) → a < names → getD now (b * 512 + a) 0 ≡ bit (includes t a b)
+  pub kept : (k : ℕ) → k < b * 512 → getD now k 0 ≡ getD before k 0

@@ -1,66 +1,45 @@
 // Which names' values are all among another name's: a table of every pair of names.
-use crate::lists::flow_from;
-use crate::lists::flow_has;
 use crate::lists::flow_name;
 use crate::lists::flow_value;
+use flow::marks::marks;
 use model::Sizes;
 ghost use mathlib.Core.Path.{_≡_};
-ghost use Prim.Native.Nat.{_*_, _≤_, _<_};
+ghost use Prim.Native.Nat.{_+_, _*_, _≤_, _<_};
 ghost use lib.ListN.{length};
-ghost use Rattle.model.specs.Tables.{tables, has};
-ghost use Rattle.entries.specs.Entries.{Ground, Inclusions, bit, includes, stands-at};
+ghost use Rattle.model.specs.Tables.{tables};
+ghost use Rattle.entries.specs.Entries.{Ground, Ones, Inclusions, Included, includes};
 
-// Whether entry j of the flow list is (n, v).
-fn stands_at(ws: &[u16], s: Sizes, n: usize, v: usize, j: usize) -> bool
-    requires { ⌜ Ground (now ws) s ⌝ }
-    ensures { λ r. ⌜ r ≡ stands-at (tables (now (ws .entry)) s .flow) n v j ⌝ }
+// Ones in the n cells from `at` on.
+fn ones(table: &mut [u8], at: usize, n: usize)
+    requires { ⌜ at + n ≤ length (now table) ⌝ }
+    ensures { λ _. ⌜ Ones at n (now (table .entry)) (now (table .exit)) ⌝ }
 {
-    if j >= s.flows {
-        return false;
+    let mut k = 0;
+    while k < n {
+        table[at + k] = 1;
+        k += 1;
     }
-    if flow_name(ws, s, j) != n {
-        return false;
-    }
-    flow_value(ws, s, j) == v
 }
 
-// Whether the name n holds the value v: at entry j, where equal lists have it, or anywhere.
-fn holds(ws: &[u16], s: Sizes, n: usize, v: usize, j: usize) -> bool
+// The row of the name b: the cell of a name is 1 until a value of that name is none of b's.
+fn fill_row(ws: &[u16], s: Sizes, table: &mut [u8], b: usize)
     requires { ⌜ Ground (now ws) s ⌝ }
-    ensures { λ r. ⌜ r ≡ has (tables (now (ws .entry)) s .flow) n v ⌝ }
+    requires { ⌜ s .names * 512 ≤ length (now table) ⌝ }
+    requires { ⌜ b < s .names ⌝ }
+    ensures { λ _. ⌜ Included (s .names) (tables (now (ws .entry)) s) b (now (table .entry)) (now (table .exit)) ⌝ }
 {
-    if stands_at(ws, s, n, v, j) {
-        return true;
-    }
-    flow_has(ws, s, n, v)
-}
-
-// Whether each value of the name a is a value of the name b.
-fn included(ws: &[u16], s: Sizes, a: usize, b: usize) -> bool
-    requires { ⌜ Ground (now ws) s ⌝ }
-    ensures { λ r. ⌜ r ≡ includes (tables (now (ws .entry)) s) a b ⌝ }
-{
-    let mut i = flow_from(ws, s, a);
-    let first = i;
-    let other = flow_from(ws, s, b);
-    while i < s.flows {
-        if flow_name(ws, s, i) != a {
-            return true;
-        }
+    let marked = marks(ws, s, b);
+    let base = b * 512;
+    ones(table, base, s.names);
+    let mut i = s.flows;
+    while 0 < i {
+        i -= 1;
         let v = flow_value(ws, s, i);
-        if !holds(ws, s, b, v, other + (i - first)) {
-            return false;
+        if marked[v] == 0 {
+            let a = flow_name(ws, s, i);
+            table[base + a] = 0;
         }
-        i += 1;
     }
-    true
-}
-
-// A flag as a byte.
-fn bit(flag: bool) -> u8
-    ensures { λ n. ⌜ n ≡ bit flag ⌝ }
-{
-    if flag { 1 } else { 0 }
 }
 
 // Fills the table, row by row.
@@ -69,16 +48,10 @@ pub fn fill(ws: &[u16], s: Sizes, table: &mut [u8])
     requires { ⌜ s .names * 512 ≤ length (now table) ⌝ }
     ensures { λ _. ⌜ Inclusions (s .names) (tables (now (ws .entry)) s) (now (table .exit)) ⌝ }
 {
-    let mut a = 0;
     let mut b = 0;
-    while a < s.names {
-        if b < s.names {
-            table[a * 512 + b] = bit(included(ws, s, a, b));
-            b += 1;
-        } else {
-            a += 1;
-            b = 0;
-        }
+    while b < s.names {
+        fill_row(ws, s, table, b);
+        b += 1;
     }
 }
 
@@ -89,5 +62,5 @@ pub fn includes(ws: &[u16], s: Sizes, table: &[u8], a: usize, b: usize) -> bool
     requires { ⌜ b < s .names ⌝ }
     ensures { λ r. ⌜ r ≡ includes (tables (now (ws .entry)) s) a b ⌝ }
 {
-    table[a * 512 + b] == 1
+    table[b * 512 + a] == 1
 }

@@ -5,6 +5,7 @@ pub mod Subpatterns
 pub mod Ready
 pub mod Arguments
 pub mod Values
+pub mod Marking
 pub mod Filling
 pub mod Apart
 pub mod Walk

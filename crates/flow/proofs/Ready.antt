@@ -17,7 +17,9 @@ use Rattle.model.specs.Tables.{Tables, entries, tables}
 use Rattle.model.proofs.Logic.{test}
 use Rattle.model.proofs.Exact.Rows.{row-none}
 use Rattle.model.proofs.Parse.Reached.{Rows-fit}
+use Rattle.program.specs.Rows.{Whole}
 use Rattle.program.specs.Layout.{Layout}
+use Rattle.flow.specs.Members.{Evidence}
 use Rattle.flow.specs.Patterns.{values-code, Pattern, Afters, Ready, Coded, looked-up}
 use Rattle.flow.proofs.Entries.{flow-listed}
 use Rattle.flow.proofs.Codes.{values-none}
@@ -50,6 +52,14 @@ module _ (codes : List ℕ) (q n : ℕ) where
   unfolding looked-up
   looked-none h = rw (le-ltb n maxNames h, looked-up)
 
+-- the names of the flow list are below V
+pub flow-names : {ws : List ℕ} {s : Sizes} → Whole ws s → Evidence ws s → (k : ℕ) → k < tables ws s .flow .size → left (tables ws s .flow) k < maxNames
+unfolding is-name program tables
+flow-names {ws} {s} w e k h =
+    let z : left (tables ws s .flow) k < s .names = ltb-true _ _ (flow-listed e .left-legal k h) in
+    let top = w .names in
+    omega arith
+
 module _ {ws : List ℕ} {s : Sizes} {afters : List ℕ} (ready : Ready ws s afters) where
   abbrev p : Program
   p = program ws s
@@ -61,20 +71,12 @@ module _ {ws : List ℕ} {s : Sizes} {afters : List ℕ} (ready : Ready ws s aft
   pub ready-fit : Rows-fit p
   ready-fit = row-none p .0 (ready .rows-fit)
 
-  -- the names of the flow list are below V
-  pub flow-names : (k : ℕ) → k < t .flow .size → left (t .flow) k < maxNames
-  unfolding is-name program tables
-  flow-names k h =
-      let z : left (t .flow) k < s .names = ltb-true _ _ (flow-listed (ready .evidence) .left-legal k h) in
-      let top = ready .whole .names in
-      omega arith
-
   -- the table's code of a pattern's row and any name
   pub looked-code : {codes : List ℕ} {x : ℕ} → Coded p t codes x → (q d n : ℕ) → x ≤ q → Pattern p d q → looked-up codes q n ≡ values-code p t d q n
   unfolding looked-up
   looked-code {codes} {x} c q d n h k =
       test (ltb n maxNames) (λ e. rw (e, looked-up) (c .codes-at q d n h k (ltb-true n maxNames e)))
-      (λ e. rw (e, looked-up) (values-none p t d q n (λ i b z. let top = flow-names i b in let l = ltb-false n maxNames e in omega arith)))
+      (λ e. rw (e, looked-up) (values-none p t d q n (λ i b z. let top = flow-names (ready .whole) (ready .evidence) i b in let l = ltb-false n maxNames e in omega arith)))
 
 -- the rows after the items, from the layout tables
 pub afters-of : {p : Program} {afters inners : List ℕ} → Layout p afters inners → Afters p afters

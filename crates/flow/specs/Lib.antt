@@ -1,4 +1,5 @@
 pub mod Members
+pub mod Marks
 pub mod Branches
 pub mod Patterns
 pub mod Filled

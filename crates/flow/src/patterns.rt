@@ -1,6 +1,7 @@
 // The codes of patterns: whether a pattern may match a value, and whether its names then hold what they are to. A table has a code for each
 // pattern's row and each name, for all values of the name together. It is filled from the last row to the first, so that a constructor pattern finds
 // the codes of its subpatterns there.
+use crate::marks::marks;
 use crate::members::first;
 use crate::members::flow_has;
 use crate::members::second;
@@ -16,6 +17,8 @@ ghost use Rattle.model.specs.Limits.{maxNames};
 ghost use Rattle.model.specs.Rows.{program, tag};
 ghost use Rattle.model.specs.Tables.{tables};
 ghost use Rattle.model.specs.Closed.{same-constructor};
+ghost use Rattle.program.specs.Rows.{Whole};
+ghost use Rattle.flow.specs.Members.{Evidence};
 ghost use Rattle.flow.specs.Patterns.{Ready, Coded, looked-up, Clear, Is-code};
 
 // The worse of two codes.
@@ -124,6 +127,28 @@ fn fill_row(ws: &[u16], s: Sizes, afters: &[u16], codes: &mut [u8], q: usize)
     }
 }
 
+// The codes of row q, which binds a name, with each name: 1 for a value that is marked, 2 for any other.
+fn fill_named(ws: &[u16], s: Sizes, codes: &mut [u8], q: usize)
+    requires { ⌜ Whole (now ws) s × Evidence (now ws) s ⌝ }
+    requires { ⌜ (q < s .rows) × (tag (program (now ws) s) q ≡ 30) ⌝ }
+    requires { ⌜ Coded (program (now ws) s) (tables (now ws) s) (now codes) (q + 1) ⌝ }
+    requires { ⌜ Clear (now codes) (q + 1) ⌝ }
+    ensures { λ _. ⌜ Coded (program (now (ws .entry)) s) (tables (now (ws .entry)) s) (now (codes .exit)) q ⌝ }
+    ensures { λ _. ⌜ Clear (now (codes .exit)) q ⌝ }
+{
+    let number = num(ws, s, q);
+    let marked = marks(ws, s, number);
+    let mut i = s.flows;
+    while 0 < i {
+        i -= 1;
+        let n = first(ws, s, s.flows, 0, i);
+        let v = second(ws, s, s.flows, 0, i);
+        let code = 2 - marked[v];
+        let at = q * MAX_NAMES + n;
+        codes[at] = worse(codes[at], code);
+    }
+}
+
 // The codes of all rows, in a table of zeros.
 pub fn fill_codes(ws: &[u16], s: Sizes, afters: &[u16], codes: &mut [u8])
     requires { ⌜ Ready (now ws) s (now afters) ⌝ }
@@ -134,7 +159,10 @@ pub fn fill_codes(ws: &[u16], s: Sizes, afters: &[u16], codes: &mut [u8])
     let mut q = s.rows;
     while 0 < q {
         q -= 1;
-        if 30 <= tag(ws, s, q) {
+        let kind = tag(ws, s, q);
+        if kind == 30 {
+            fill_named(ws, s, codes, q);
+        } else if 30 < kind {
             fill_row(ws, s, afters, codes, q);
         }
     }

@@ -20,7 +20,7 @@ use Rattle.model.specs.Rules.{Rule}
 use Rattle.model.specs.Bounds.{Bounds, bounds, bound-entries, bound-entry, highest, leads-out, leak-check}
 use Rattle.model.specs.Verify.{answer}
 use Rattle.model.proofs.Logic.{or-left, or-right, or-false}
-use Rattle.model.proofs.Index.{First, first-is, first-unique, first-hit, first-miss, first-end, gather-turn, gather-end}
+use Rattle.model.proofs.Index.{First, first-is, first-unique, gather-turn, gather-end}
 use Rattle.system.specs.declared.sources.Source.{Source}
 use Rattle.system.specs.Sources.{outer-from, outer-to, inner-count}
 use Rattle.system.specs.Slots.{slot-rules, slot, inner-rules, source-rules}
@@ -84,25 +84,6 @@ module _ (bs : Bounds) where
   leak-append most xs ys =
       first-same most _ _ (λ k l. leads-out-append bs xs ys (highest (bs .limit k))) ∙
       sym (first-or most (λ k. leads-out bs xs (highest (bs .limit k))) (λ k. leads-out bs ys (highest (bs .limit k))))
-
-  -- the loop over the ceilings
-  abbrev pub leaks-by : List Rule → ℕ → Bool
-  leaks-by ρs k = leads-out bs ρs (highest (bs .limit k))
-
-  module _ (most : ℕ) (ρs : List Rule) where
-    pub ceilings-all : first-leak bs most ρs ≡ first 0 most (leaks-by ρs)
-    unfolding first-leak
-    ceilings-all = refl
-
-    module _ (k : ℕ) (so-far : first-leak bs most ρs ≡ first k most (leaks-by ρs)) where
-      pub ceilings-hit : k < most → leaks-by ρs k ≡ true → k ≡ first-leak bs most ρs
-      ceilings-hit l e = sym (so-far ∙ first-hit k most (leaks-by ρs) l e)
-
-      pub ceilings-next : k < most → leaks-by ρs k ≡ false → first-leak bs most ρs ≡ first (k + 1) most (leaks-by ρs)
-      ceilings-next l e = so-far ∙ first-miss k most (leaks-by ρs) l e
-
-      pub ceilings-end : most ≤ k → k ≤ most → most ≡ first-leak bs most ρs
-      ceilings-end l u = let z = so-far ∙ first-end k most (leaks-by ρs) l in omega arith
 
   -- a loop over lists of rules: what the whole gives is what is left gives
   module _ (e : ℕ) (f : ℕ → List Rule) where

@@ -31,7 +31,8 @@ use Rattle.bounds.specs.Limits.{Limits-table}
 use Rattle.bounds.specs.Pairs.{row, held}
 use Rattle.bounds.specs.Steps.{effect-of, rule-of-step, escapes, Step-within}
 use Rattle.bounds.proofs.Held.{escapes-message, leads-out-one}
-use Rattle.leaks.specs.Leaks.{no-rule, step-of, Ceilings}
+use Rattle.leaks.specs.Leaks.{first-leak, no-rule, step-of, Ceilings}
+use Rattle.leaks.proofs.Leaking.{first-same}
 
 -- what a slot's rule takes from are counters of the n
 abbrev pub Slot-within : ℕ → Slot → Type 0
@@ -121,9 +122,13 @@ module _ {ws : List ℕ} {s : Sizes} (h : Ready ws s) (n : ℕ) (limits pairs : 
     pub within-here : Step-within n σ
     within-here = rw step-here (step-within n here filled-here (slot-within h n (c .counted) i j k src inside))
 
-    -- ceiling m leaks by it exactly where the code says so
-    pub leaks-here : (m : ℕ) (b : Bool) → m < s .bounds → b ≡ escapes (held (s .bounds) n limits) (rule-of-step σ) (highest (row limits m)) → leads-out (bounds ws s n) (slot-rules here) (highest (bounds ws s n .limit m)) ≡ b
-    leaks-here m b l e =
+    -- ceiling m leaks by it exactly where the step leads out
+    leaks-here : (m : ℕ) → m < s .bounds → leads-out (bounds ws s n) (slot-rules here) (highest (bounds ws s n .limit m)) ≡ escapes (held (s .bounds) n limits) (rule-of-step σ) (highest (row limits m))
+    leaks-here m l =
         ap (λ ρs. leads-out (bounds ws s n) ρs (highest (bounds ws s n .limit m))) (slot-rule here filled-here ∙ ap (λ z. rule-of-step z ∷ []) (sym step-here)) ∙
         (leads-out-one (bounds ws s n) (rule-of-step σ) (highest (bounds ws s n .limit m)) ∙
-        sym (e ∙ escapes-message ws s n m limits σ (c .limits-table) l within-here))
+        sym (escapes-message ws s n m limits σ (c .limits-table) l within-here))
+
+    pub first-here : (best r : ℕ) → best ≤ s .bounds → r ≡ first 0 best (λ m. escapes (held (s .bounds) n limits) (rule-of-step σ) (highest (row limits m))) → r ≡ first-leak (bounds ws s n) best (slot-rules here)
+    unfolding first-leak
+    first-here best r low e = e ∙ sym (first-same best _ _ (λ m l. leaks-here m (omega arith)))

@@ -1,7 +1,7 @@
 // Refusal 13: from counts under a ceiling, a rule leads out of all ceilings.
 use bounds::Step;
 use bounds::entries::bounds_at;
-use bounds::leak::leads_out;
+use bounds::leak::first_out;
 use model::Sizes;
 use model::Verdict;
 use system::slots::Slot;
@@ -98,12 +98,7 @@ fn inner_leak(
         if step.kind == NO_RULE {
             continue 'rules;
         }
-        'ceilings: for k in 0..best {
-            if leads_out(limits, pairs, s.bounds, n, k, step) {
-                best = k;
-                continue 'rules;
-            }
-        }
+        best = first_out(limits, pairs, s.bounds, n, best, step);
     }
     best
 }

@@ -3,3 +3,4 @@ pub mod Few
 pub mod Putting
 pub mod Whole
 pub mod Prepare
+pub mod Spacing

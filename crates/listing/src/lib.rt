@@ -1,3 +1,4 @@
 // The derived system as words: its length, and the writing of it.
+pub mod space;
 pub mod totals;
 pub mod writing;

@@ -9,7 +9,7 @@ use mathlib.Core.List.{List, [], _∷_, _++_, append-assoc, append-nil}
 use lib.ListN.{length, set, length-append}
 use lib.Dec.{ltb}
 use borrow.Author.Tests.{lt-ltb, le-ltb}
-use Rattle.text.specs.Text.{put-at, digit, digits, width-in, width, decimal, pair}
+use Rattle.text.specs.Text.{put-at, digit, digits, width-in, width, decimal, pair, line-end, line}
 use Rattle.text.proofs.Putting.{put-before}
 
 -- a digit
@@ -136,3 +136,8 @@ decimal-put at k end n out₀ out e h = (h .0 ∙ ap (λ j. put-at at (digits 10
 -- a digit lies below the base
 pub below-base : (n b : ℕ) → 1 < b → b ≤ 16 → n % b < 16
 below-base n b h l = omega (arith, mod-lt n {m = b} (omega arith))
+
+-- a line of two numbers
+pub line-most : (a b : ℕ) → length (line a b) ≤ 42
+unfolding line line-end
+line-most a b = let z = length-append (pair a b) (10 ∷ []) in let y = pair-most a b in omega arith

@@ -6,7 +6,7 @@ use mathlib.Core.Path.{_≡_, refl, sym, _∙_, ap}
 use mathlib.Core.List.{List, [], _∷_, _++_}
 use lib.ListN.{length, take, set, length-set, length-append}
 use lib.Seq.{set-comm}
-use Rattle.text.specs.Text.{put-at}
+use Rattle.text.specs.Text.{put-at, line-end}
 
 pub put-none : (at : ℕ) (list : List ℕ) → put-at at [] list ≡ list
 unfolding put-at
@@ -55,3 +55,9 @@ put-spaced at next space end xs ys out₀ out₁ out₂ out₃ f g h = (
   put-behind at next xs (32 ∷ ys) out₀ out₁ out₃ (f .0) (f .1) (put-behind next space (32 ∷ []) ys out₁ out₂ out₃ (g .0) (g .1) (h .0)),
   behind at next end xs (32 ∷ ys) (f .1) (let z = g .1 in let y = h .1 in omega arith),
 )
+
+-- a text with the end of its line
+pub put-ended : (at next end : ℕ) (xs out₀ out₁ out₂ : List ℕ) → (out₁ ≡ put-at at xs out₀) × (next ≡ at + length xs) → (out₂ ≡ put-at next line-end out₁) × (end ≡ next + 1) → (out₂ ≡ put-at at (xs ++ line-end) out₀) × (end ≡ at + length (xs ++ line-end))
+unfolding line-end
+put-ended at next end xs out₀ out₁ out₂ f g =
+    (put-behind at next xs line-end out₀ out₁ out₂ (f .0) (f .1) (g .0), behind at next end xs line-end (f .1) (g .1))

@@ -38,3 +38,7 @@ pair a b = decimal a ++ (32 ∷ decimal b)
 
 unfoldable pub line-end : List ℕ
 line-end = 10 ∷ []
+
+-- two numbers on a line
+unfoldable pub line : ℕ → ℕ → List ℕ
+line a b = pair a b ++ line-end

@@ -3,7 +3,7 @@ ghost use mathlib.Core.Path.{_≡_};
 ghost use Prim.Native.Nat.{_+_, _≤_, _<_};
 ghost use mathlib.Core.List.{[], _∷_};
 ghost use lib.ListN.{length};
-ghost use Rattle.text.specs.Text.{put-at, width, digit, digits, decimal, pair, line-end};
+ghost use Rattle.text.specs.Text.{put-at, width, digit, digits, decimal, pair, line-end, line};
 
 // The digits in which no more than 64 bits are written.
 const MOST_DIGITS: usize = 20;
@@ -86,4 +86,14 @@ pub fn put_end(out: &mut [u8], at: usize) -> usize
     ensures { λ r. ⌜ r ≡ at + 1 ⌝ }
 {
     put_byte(out, at, b'\n')
+}
+
+// Two numbers on a line.
+pub fn put_line(out: &mut [u8], at: usize, a: u64, b: u64) -> usize
+    requires { ⌜ at + 42 ≤ length (now out) ⌝ }
+    ensures { λ r. ⌜ now (out .exit) ≡ put-at at (line a b) (now (out .entry)) ⌝ }
+    ensures { λ r. ⌜ r ≡ at + length (line a b) ⌝ }
+{
+    let end = put_pair(out, at, a, b);
+    put_end(out, end)
 }

@@ -17,11 +17,11 @@ use Rattle.model.specs.Reader.{first-wrong}
 use Rattle.model.specs.Rows.{Program, step, whole, row-check}
 use Rattle.model.specs.Scopes.{name-check, scope-check}
 use Rattle.model.specs.Bads.{bad, bad-step, bad-rows, bad-check}
-use Rattle.model.specs.Tables.{list-check, entry-check}
+use Rattle.model.specs.Tables.{Tables, list-check, entry-check}
 use Rattle.model.specs.Closed.{open-check}
 use Rattle.model.specs.Counters.{counter-check}
 use Rattle.model.specs.Listing.{space-check}
-use Rattle.model.specs.Bounds.{bound-entries, bound-step, bounds-of, bound-check, start-check, met-check, leak-check}
+use Rattle.model.specs.Bounds.{Bounds, bound-entries, bound-step, bounds-of, bound-check, start-check, met-check, leak-check}
 use Rattle.model.specs.Verify.{Message, program-check, evidence-check, bounds-check, message-check, check, answer, verdict}
 use Rattle.model.proofs.Logic.{test}
 use Rattle.model.proofs.Exact.Checks.{then-some, unless-some}
@@ -30,7 +30,7 @@ use Rattle.model.proofs.Exact.Checks.{then-some, unless-some}
 abbrev pub Refuses : Check → Type 0
 Refuses c = c ≡ some Safe → ⊥
 
-then-refuses : (a b : Check) → Refuses a → Refuses b → Refuses (a >> b)
+pub then-refuses : (a b : Check) → Refuses a → Refuses b → Refuses (a >> b)
 then-refuses a b ha hb h = ⊎-elim ha (λ x. hb (x .1)) (then-some a b Safe h)
 
 -- a verdict with a number from 1 on is no safe one
@@ -63,19 +63,23 @@ parts-refuse bytes =
     then-refuses _ _ (part-refuses _ _ _ _) (then-refuses _ _ (part-refuses _ _ _ _) (then-refuses _ _ (part-refuses _ _ _ _)
     (then-refuses _ _ (part-refuses _ _ _ _) (unless-refuses _ (Length _) tt))))
 
-row-refuses : (p : Program) → Refuses (row-check p)
+pub row-refuses : (p : Program) → Refuses (row-check p)
 unfolding row-check number
 row-refuses p = map-refuses (λ r. Row (4 + r)) (first-wrong (step p) (p .rows) (whole p)) (λ r. tt)
 
-program-refuses : (p : Program) → Refuses (program-check p)
-unfolding program-check name-check scope-check number
-program-refuses p =
-    then-refuses (row-check p) _ (row-refuses p)
-    (then-refuses _ _
-    (then-refuses _ _ (unless-refuses _ (Name _) tt) (unless-refuses _ (Name 1) tt))
-    (unless-refuses _ (Scope _) tt))
+pub name-refuses : (p : Program) → Refuses (name-check p)
+unfolding name-check number
+name-refuses p = then-refuses _ _ (unless-refuses _ (Name _) tt) (unless-refuses _ (Name 1) tt)
 
-bad-refuses : (ws : List ℕ) (s : Sizes) (p : Program) → Refuses (bad-check ws s p)
+scope-refuses : (p : Program) → Refuses (scope-check p)
+unfolding scope-check number
+scope-refuses p = unless-refuses _ (Scope _) tt
+
+pub program-refuses : (p : Program) → Refuses (program-check p)
+unfolding program-check
+program-refuses p = then-refuses _ _ (row-refuses p) (then-refuses _ _ (name-refuses p) (scope-refuses p))
+
+pub bad-refuses : (ws : List ℕ) (s : Sizes) (p : Program) → Refuses (bad-check ws s p)
 unfolding bad-check number
 bad-refuses ws s p =
     map-refuses (λ r. Bad (bads-at s + 2 + r)) (first-wrong (bad-step p) (bad-rows ws s) (replicate (s .bads) bad)) (λ r. tt)
@@ -84,27 +88,42 @@ list-refuses : (at : ℕ) (l r : ℕ → Bool) (c : Columns) → Refuses (list-c
 unfolding list-check number
 list-refuses at l r c = unless-refuses _ (Entry _) tt
 
+pub entry-refuses : (s : Sizes) (p : Program) (t : Tables) → Refuses (entry-check s p t)
+unfolding entry-check
+entry-refuses s p t = then-refuses _ _ (list-refuses _ _ _ _) (then-refuses _ _ (list-refuses _ _ _ _) (list-refuses _ _ _ _))
+
+pub open-refuses : (s : Sizes) (p : Program) (t : Tables) → Refuses (open-check s p t)
+unfolding open-check number
+open-refuses s p t = then-refuses _ _ (unless-refuses _ (Open _) tt) (unless-refuses _ (Open _) tt)
+
+pub counter-refuses : (s : Sizes) (p : Program) (t : Tables) → Refuses (counter-check s p t)
+unfolding counter-check number
+counter-refuses s p t = unless-refuses _ (Counters _) tt
+
 evidence-refuses : (m : Message) → Refuses (evidence-check m)
-unfolding evidence-check entry-check open-check counter-check number
+unfolding evidence-check
 evidence-refuses m =
     then-refuses _ _ (bad-refuses _ _ _)
-    (then-refuses _ _
-    (then-refuses _ _ (list-refuses _ _ _ _)
-    (then-refuses _ _ (list-refuses _ _ _ _) (list-refuses _ _ _ _)))
-    (then-refuses _ _ (then-refuses _ _ (unless-refuses _ (Open _) tt) (unless-refuses _ (Open _) tt))
-    (unless-refuses _ (Counters _) tt)))
+    (then-refuses _ _ (entry-refuses _ _ _) (then-refuses _ _ (open-refuses _ _ _) (counter-refuses _ _ _)))
 
-bound-refuses : (ws : List ℕ) (s : Sizes) (counters : ℕ) → Refuses (bound-check ws s counters)
+pub bound-refuses : (ws : List ℕ) (s : Sizes) (counters : ℕ) → Refuses (bound-check ws s counters)
 unfolding bound-check number
 bound-refuses ws s counters =
     map-refuses (λ e. Ceiling (bounds-at s + 2 + e)) (first-wrong (bound-step counters) (bound-entries ws s) (bounds-of (s .bounds))) (λ r. tt)
 
-bounds-refuse : (m : Message) → Refuses (bounds-check m)
-unfolding bounds-check start-check met-check leak-check number
+pub start-refuses : (s : Sizes) (p : Program) (t : Tables) (bs : Bounds) → Refuses (start-check s p t bs)
+unfolding start-check number
+start-refuses s p t bs = unless-refuses _ (Start _) tt
+
+pub met-refuses : (s : Sizes) (p : Program) (t : Tables) (bs : Bounds) (rows : Columns) → Refuses (met-check s p t bs rows)
+unfolding met-check number
+met-refuses s p t bs rows = unless-refuses _ (Met _) tt
+
+pub bounds-refuse : (m : Message) → Refuses (bounds-check m)
+unfolding bounds-check leak-check number
 bounds-refuse m =
     then-refuses _ _ (bound-refuses _ _ _)
-    (then-refuses _ _ (unless-refuses _ (Start _) tt)
-    (then-refuses _ _ (unless-refuses _ (Met _) tt) (unless-refuses _ (Leak _) tt)))
+    (then-refuses _ _ (start-refuses _ _ _ _) (then-refuses _ _ (met-refuses _ _ _ _ _) (unless-refuses _ (Leak _) tt)))
 
 pub check-refuses : (bytes : List ℕ) (lent : ℕ) → Refuses (check bytes lent)
 unfolding check message-check space-check number

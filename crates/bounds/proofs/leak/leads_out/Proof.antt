@@ -1,8 +1,10 @@
+-- The loops' invariants: some candidate covers exactly where one of those from a on does; the suspects before i do not exceed.
 use Prim.Native.Nat.{ℕ, _-_, _≤_, _<_}
 use native.Mathlib.Omega.{arith}
 use mathlib.Core.Path.{_≡_, refl, sym, _∙_}
 use mathlib.Core.Bool.{true}
 use mathlib.Core.Logic.{⊎-elim}
+use lib.ListN.{getD}
 use borrow.Author.Tests.{not-true, not-false}
 use borrow.Author.Needs.{needs}
 use Rattle.model.specs.Index.{any}
@@ -11,46 +13,66 @@ use Rattle.model.specs.Bounds.{highest}
 use Rattle.model.proofs.Index.{any-end}
 use Rattle.bounds.specs.Pairs.{row, passes, suspect, suspects}
 use Rattle.bounds.specs.Steps.{rule-of-step}
-use Rattle.bounds.proofs.Escapes.{covers, passing-next, candidate-fails, candidate-covers, unusable, covered, led-out, within-more}
+use Rattle.bounds.proofs.Escapes.{passing-next, unusable, covered, led-out, within-more}
+use Rattle.bounds.proofs.Candidates.{listed, listed-covers, candidate-fails, candidate-covers}
 use Rattle.bounds.proofs.leak.leads_out.Statement.{statement}
 use Rattle.bounds.proofs.leak.leads_out.Tie as tie
 
 abbrev Inv-loop : tie.InvT-loop
-Inv-loop limits pairs ceilings n k step k2₀ i₀ k2 i = (k2 ≡ k2₀) × (i ≤ suspects) × ((j : ℕ) → j < i → suspect pairs k k2 step j < n → passes limits k k2 step (suspect pairs k k2 step j) ≡ true)
+Inv-loop limits pairs list m ceilings n k step a₀ k2 i₀ a i = (a ≡ a₀) × (i ≤ suspects) × ((j : ℕ) → j < i → suspect pairs k k2 step j < n → passes limits k k2 step (suspect pairs k k2 step j) ≡ true)
 
 abbrev μ-loop : tie.MeasureT-loop
-μ-loop limits pairs ceilings n k step k2₀ i₀ k2 i = suspects - i
+μ-loop limits pairs list m ceilings n k step a₀ k2 i₀ a i = suspects - i
 
 abbrev Inv-candidates : tie.InvT-candidates
-Inv-candidates limits pairs ceilings n k step k2₀ k2 = (any 0 ceilings (covers limits n k step) ≡ any k2 ceilings (covers limits n k step)) × (k2 ≤ ceilings)
+Inv-candidates limits pairs list m ceilings n k step a₀ a = (any 0 m (listed limits n k step list m) ≡ any a m (listed limits n k step list m)) × (a ≤ m)
 
 abbrev μ-candidates : tie.MeasureT-candidates
-μ-candidates limits pairs ceilings n k step k2₀ k2 = ceilings - k2
+μ-candidates limits pairs list m ceilings n k step a₀ a = m - a
 
 -- past the first test the step can be used
-used : (c : tie.Else1 Inv-loop μ-loop Inv-candidates μ-candidates) → let a = c .before .before .before .before .args in usable (rule-of-step (a .step)) (highest (row (a .limits .now) (a .k))) ≡ true
+used : (c : tie.Else1 Inv-loop μ-loop Inv-candidates μ-candidates) → let a = c .before .before .before .before .before .args in usable (rule-of-step (a .step)) (highest (row (a .limits .now) (a .k))) ≡ true
 used c = sym (c .before .is-usable .ensures) ∙ not-false _ (c .if1 .left)
 
+-- the candidate is a ceiling
+is-ceiling : (c : tie.After-shared-slice-known4 Inv-loop μ-loop Inv-candidates μ-candidates) → let d = c .before .before .before .before .before .before .before .before in getD (d .args .list .now) (c .before .before .candidates .a) 0 < d .args .ceilings
+is-ceiling c = c .before .before .before .before .before .before .before .before .pre .1 .1 .1 .1 .ceiling _ (c .before .candidates-test .taken)
+
 is-usable-requires : tie.Need-is-usable-requires Inv-loop μ-loop Inv-candidates μ-candidates
-is-usable-requires c κs = (search needs, (within-more _ _ _ (search needs) (c .before .before .pre .1 .0 .1), search needs))
+is-usable-requires c κs = (search needs, (within-more _ _ _ (search needs) (c .before .before .before .pre .1 .0 .1), search needs))
 
 returns : tie.Need-returns Inv-loop μ-loop Inv-candidates μ-candidates
-returns c = let a = c .before .before .before .before .args in unusable (a .limits .now) _ (a .k) _ _ (sym (c .before .is-usable .ensures) ∙ not-true _ (c .if1 .taken))
+returns c = let a = c .before .before .before .before .before .args in unusable (a .limits .now) _ (a .k) _ _ (sym (c .before .is-usable .ensures) ∙ not-true _ (c .if1 .taken))
 
 candidates-holds : tie.Need-candidates-holds Inv-loop μ-loop Inv-candidates μ-candidates
 candidates-holds c = (refl, search needs)
+
+mul-k2 : tie.Need-mul-k2 Inv-loop μ-loop Inv-candidates μ-candidates
+mul-k2 c = search needs
+
+shared-slice-read-k2 : tie.Need-shared-slice-read-k2 Inv-loop μ-loop Inv-candidates μ-candidates
+shared-slice-read-k2 c = search needs
+
+cast-k2 : tie.Need-cast-k2 Inv-loop μ-loop Inv-candidates μ-candidates
+cast-k2 c = omega (arith, c .shared-slice-known4 .given (c .before .before .candidates .a))
 
 loop-holds : tie.Need-loop-holds Inv-loop μ-loop Inv-candidates μ-candidates
 loop-holds c = (refl, search needs, λ j h. absurd (omega arith))
 
 suspect-requires : tie.Need-suspect-requires Inv-loop μ-loop Inv-candidates μ-candidates
-suspect-requires c κs = ((search needs, search needs), (search needs, omega (arith, c .before .before .before .before .before .before .before .before .pre .1 .1 .1 .room)))
+suspect-requires c κs =
+    let p = c .before .before .before .before .before .before .before .before .before .before .pre in
+    let z = is-ceiling (c .before .before) in
+    ((omega (arith, p .0), omega (arith, p .0)), (search needs, omega (arith, p .0, p .1 .1 .1 .0 .room)))
 
 passes-requires : tie.Need-passes-requires Inv-loop μ-loop Inv-candidates μ-candidates
-passes-requires c κs = ((search needs, search needs), ((search needs, c .before .before .before .before .before .before .before .before .before .before .pre .1 .0 .1 .kind), search needs))
+passes-requires c κs =
+    let p = c .before .before .before .before .before .before .before .before .before .before .before .before .pre in
+    let z = is-ceiling (c .before .before .before .before) in
+    ((omega (arith, p .0), omega (arith, p .0)), ((search needs, p .1 .0 .1 .kind), (omega (arith, p .0, p .1 .1 .0), omega (arith, p .0, p .1 .1 .0))))
 
-add-k2 : tie.Need-add-k2 Inv-loop μ-loop Inv-candidates μ-candidates
-add-k2 c = search needs
+add-a : tie.Need-add-a Inv-loop μ-loop Inv-candidates μ-candidates
+add-a c = search needs
 
 candidates-less : tie.Need-candidates-less Inv-loop μ-loop Inv-candidates μ-candidates
 candidates-less c = search needs
@@ -58,8 +80,9 @@ candidates-less c = search needs
 candidates-again : tie.Need-candidates-again Inv-loop μ-loop Inv-candidates μ-candidates
 candidates-again c =
     let h = c .before .before .before .before .before .loop in
-    let d = c .before .before .before .before .before .before .before .candidates in
-    (candidate-fails _ _ _ _ _ _ _ (h .inv .0) (search needs) (d .inv .0) _ (search needs) (sym (c .before .passes .ensures) ∙ not-true _ (c .if3 .taken)), search needs)
+    let d = c .before .before .before .before .before .before .before .before .candidates in
+    let q = c .before .before .before .before .before .before .before .before .before .before .before .before .before .before .args in
+    (candidate-fails _ _ (q .k) _ (q .list .now) _ (d .a) (c .before .before .before .before .before .before .before .candidates-test .taken) (d .inv .0) _ _ (h .inv .0) (search needs) (sym (c .before .passes .ensures) ∙ not-true _ (c .if3 .taken)), omega (arith, h .inv .0, c .before .before .before .before .before .before .before .candidates-test .taken))
 
 add-i : tie.Need-add-i Inv-loop μ-loop Inv-candidates μ-candidates
 add-i c = search needs
@@ -74,13 +97,16 @@ loop-again c =
 
 returns-2 : tie.Need-returns-2 Inv-loop μ-loop Inv-candidates μ-candidates
 returns-2 c =
-    let a = c .before .before .before .before .before .before .before .before .args in
-    let p = c .before .before .before .before .before .before .before .before .pre in
+    let d = c .before .before .before .before .before .before .before .before .before .before in
+    let p = d .pre in
     let h = c .before .loop in
-    covered (a .limits .now) _ (a .k) _ _ (used (c .before .before .before .before)) (candidate-covers _ _ _ _ _ _ _ (h .inv .0) (search needs) (c .before .before .before .candidates .inv .0) _ _ (p .1 .1 .1) (p .1 .0 .1) (search needs) (search needs) (search needs) (h .inv .2))
+    covered (d .args .limits .now) _ (d .args .k) _ _ (used (c .before .before .before .before .before))
+    (sym (listed-covers _ _ _ _ _ _ _ (p .1 .0 .1 .kind) (p .1 .1 .1 .1)) ∙ candidate-covers _ _ (d .args .k) _ (d .args .list .now) _ _ (c .before .before .before .candidates-test .taken) (c .before .before .before .before .candidates .inv .0) _ _ _ (p .1 .1 .1 .0) (p .1 .0 .1) (p .0 .0) (p .0 .1) (is-ceiling (c .before .before)) (search needs) (h .inv .2))
 
 returns-3 : tie.Need-returns-3 Inv-loop μ-loop Inv-candidates μ-candidates
-returns-3 c = let a = c .before .before .before .before .before .before .args in led-out (a .limits .now) _ (a .k) _ _ (used (c .before .before)) (c .before .candidates .inv .0 ∙ any-end _ _ _ (search needs))
+returns-3 c =
+    let d = c .before .before .before .before .before .before .before in
+    led-out (d .args .limits .now) _ (d .args .k) _ _ (used (c .before .before)) (sym (listed-covers _ _ _ _ _ _ _ (d .pre .1 .0 .1 .kind) (d .pre .1 .1 .1 .1)) ∙ (c .before .candidates .inv .0 ∙ any-end _ _ _ (search needs)))
 
 pub leads-out-spec : {M : Type 1} → statement M
 leads-out-spec =
@@ -93,10 +119,13 @@ leads-out-spec =
     is-usable-requires
     returns
     candidates-holds
+    mul-k2
+    shared-slice-read-k2
+    cast-k2
     loop-holds
     suspect-requires
     passes-requires
-    add-k2
+    add-a
     candidates-less
     candidates-again
     add-i

@@ -40,7 +40,8 @@ name-is c = c .first .ensures ∙ flow-first _ _ _
 name-small : (c : tie.After-first Inv-loop μ-loop) → c .first .result < maxNames
 name-small c =
     let l = c .before .before in
-    let y = flow-names (l .before .before .before .before .pre .0) (l .loop .i - 1) (let z = l .loop .inv .1 .upto in omega arith) in
+    let r = l .before .before .before .before .pre .0 in
+    let y = flow-names (r .whole) (r .evidence) (l .loop .i - 1) (let z = l .loop .inv .1 .upto in omega arith) in
     let z = name-is c in
     omega arith
 

@@ -1,0 +1,72 @@
+-- Checks one after the other: a verdict that refuses ends them, and safe goes on.
+use mathlib.Core.Path.{_≡_, refl, sym, ap, _∙_}
+use mathlib.Core.Bool.{Bool, true, false}
+use mathlib.Core.Option.{some, none}
+use Rattle.model.specs.declared.Verdict.{Verdict}
+use Rattle.model.specs.declared.Verdict.the-variants.{Safe, Length, Size, Row, Name, Scope, Bad, Entry, Open, Counters, Ceiling, Start, Met, Leak, Space}
+use Rattle.model.specs.Verdict.{Check, _>>_, number}
+use Rattle.model.specs.Verify.{answer, if-safe}
+use Rattle.model.proofs.Logic.{true-false}
+use Rattle.model.proofs.Exact.Answer.{Refuses, answer-safe}
+use Rattle.answers.specs.Safe.{is-safe}
+
+pub safe-only : (v : Verdict) → is-safe v ≡ true → v ≡ Safe
+unfolding is-safe number
+safe-only Safe h = refl
+safe-only (Length at) h = true-false h refl
+safe-only (Size at) h = true-false h refl
+safe-only (Row at) h = true-false h refl
+safe-only (Name at) h = true-false h refl
+safe-only (Scope at) h = true-false h refl
+safe-only (Bad at) h = true-false h refl
+safe-only (Entry at) h = true-false h refl
+safe-only (Open at) h = true-false h refl
+safe-only (Counters at) h = true-false h refl
+safe-only (Ceiling at) h = true-false h refl
+safe-only (Start at) h = true-false h refl
+safe-only (Met at) h = true-false h refl
+safe-only (Leak at) h = true-false h refl
+safe-only (Space at) h = true-false h refl
+
+-- what is so after a refusal
+pub else-is : {A : Type 0} (v : Verdict) (a b : A) → is-safe v ≡ false → if-safe v a b ≡ b
+unfolding is-safe number if-safe
+else-is Safe a b h = true-false refl h
+else-is (Length at) a b h = refl
+else-is (Size at) a b h = refl
+else-is (Row at) a b h = refl
+else-is (Name at) a b h = refl
+else-is (Scope at) a b h = refl
+else-is (Bad at) a b h = refl
+else-is (Entry at) a b h = refl
+else-is (Open at) a b h = refl
+else-is (Counters at) a b h = refl
+else-is (Ceiling at) a b h = refl
+else-is (Start at) a b h = refl
+else-is (Met at) a b h = refl
+else-is (Leak at) a b h = refl
+else-is (Space at) a b h = refl
+
+-- the check found nothing
+pub passed : (c : Check) (v : Verdict) (f : Bool) → Refuses c → v ≡ answer c → f ≡ is-safe v → f ≡ true → c ≡ none
+passed c v f r e s h = answer-safe c r .0 (sym e ∙ safe-only v (sym s ∙ h))
+
+-- the check found this
+refused : (c : Check) (v : Verdict) → v ≡ answer c → is-safe v ≡ false → c ≡ some v
+unfolding answer is-safe number
+refused none v e h = true-false (ap is-safe e) h
+refused (some w) v e h = ap some (sym e)
+
+-- the first check's refusal is the answer
+pub ends : (a b : Check) (v : Verdict) (f : Bool) → v ≡ answer a → f ≡ is-safe v → f ≡ false → v ≡ answer (a >> b)
+unfolding _>>_ answer
+ends a b v f e s h = rw (refused a v e (sym s ∙ h))
+
+-- where the first finds nothing, the rest's answer is the answer
+pub goes-on : (a b : Check) (v : Verdict) → a ≡ none → v ≡ answer b → v ≡ answer (a >> b)
+unfolding _>>_
+goes-on a b v e h = rw e h
+
+-- what holds after safe need not hold after a refusal
+pub no-safe : {A : Type 0} (v : Verdict) (f : Bool) → f ≡ is-safe v → f ≡ false → is-safe v ≡ true → A
+no-safe v f e h s = true-false s (sym e ∙ h)

@@ -1,0 +1,69 @@
+-- The loop's invariant: the candidates of the ceilings before k stand in the list.
+use Prim.Native.Nat.{_-_, _≤_}
+use native.Mathlib.Omega.{arith}
+use mathlib.Core.Path.{_≡_, refl, _∙_}
+use lib.ListN.{length, length-set}
+use borrow.Author.Needs.{needs}
+use Rattle.bounds.specs.Candidates.{Candidates}
+use Rattle.bounds.proofs.Candidates.{none-listed, next-listed, listed-all}
+use Rattle.bounds.proofs.leak.list_candidates.Statement.{statement}
+use Rattle.bounds.proofs.leak.list_candidates.Tie as tie
+
+abbrev Inv-loop : tie.InvT-loop
+Inv-loop limits ceilings n step list₀ m₀ k₀ list m k = Candidates limits n step k list m × (length list ≡ length list₀) × (k ≤ ceilings)
+
+abbrev μ-loop : tie.MeasureT-loop
+μ-loop limits ceilings n step list₀ m₀ k₀ list m k = ceilings - k
+
+loop-holds : tie.Need-loop-holds Inv-loop μ-loop
+loop-holds c = (none-listed _ _ _ _, refl, search needs)
+
+cast-list : tie.Need-cast-list Inv-loop μ-loop
+cast-list c = search needs
+
+mul-list : tie.Need-mul-list Inv-loop μ-loop
+mul-list c = search needs
+
+slice-write-list : tie.Need-slice-write-list Inv-loop μ-loop
+slice-write-list c = search needs
+
+may-cover-requires : tie.Need-may-cover-requires Inv-loop μ-loop
+may-cover-requires c κs = ((search needs, search needs), search needs)
+
+more-if-requires : tie.Need-more-if-requires Inv-loop μ-loop
+more-if-requires c κs = search needs
+
+add-k : tie.Need-add-k Inv-loop μ-loop
+add-k c = search needs
+
+loop-less : tie.Need-loop-less Inv-loop μ-loop
+loop-less c = search needs
+
+loop-again : tie.Need-loop-again Inv-loop μ-loop
+loop-again c =
+    let l = c .before .before .before .loop in
+    (next-listed _ _ _ (l .k) (l .m) _ (l .list) _ (search needs) (c .before .may-cover .ensures) (c .more-if .ensures) (l .inv .0), length-set (l .list) (l .m) (l .k) ∙ l .inv .1, search needs)
+
+same-length : tie.Need-same-length Inv-loop μ-loop
+same-length c = search needs
+
+returns : tie.Need-returns Inv-loop μ-loop
+returns c = listed-all _ _ _ _ _ _ _ (c .before .loop .inv .0) (search needs) (search needs)
+
+pub list-candidates-spec : {M : Type 1} → statement M
+list-candidates-spec =
+    tie.close
+    (tie.spec
+    Inv-loop
+    μ-loop
+    loop-holds
+    cast-list
+    mul-list
+    slice-write-list
+    may-cover-requires
+    more-if-requires
+    add-k
+    loop-less
+    loop-again
+    same-length
+    returns)

@@ -1,0 +1,3 @@
+pub mod Laying
+pub mod Rooms
+pub mod Answering

@@ -1,0 +1,65 @@
+-- How much scratch a message needs.
+use Prim.Native.Nat.{ℕ, _+_, _*_, _/_, _≤_, _<_}
+use native.Mathlib.Omega.{arith}
+use mathlib.Core.Path.{_≡_, sym, _∙_}
+use mathlib.Core.Bool.{Bool, true, false}
+use mathlib.Core.List.{List}
+use lib.ListN.{length, getD, replicate, length-replicate, getD-replicate, List·getD-eq-default}
+use lib.Dec.{leb}
+use native.Mathlib.Decide.{decLt}
+use borrow.Author.Tests.{le-leb, lt-leb, leb-true}
+use Rattle.model.specs.declared.Sizes.{Sizes}
+use Rattle.model.specs.Rows.{program, size}
+use Rattle.model.specs.Words.{columns}
+use Rattle.model.specs.Letters.{letters}
+use Rattle.model.specs.Counters.{letter-keys}
+use Rattle.model.proofs.Logic.{and-left, and-right}
+use Rattle.counters.proofs.Keys.{product-most}
+use Rattle.checks.specs.Stages.{is-small}
+
+-- of sizes up to these
+pub record Rooms (ws : List ℕ) (s : Sizes) (rows names constructors mails : ℕ) : Type 0 where
+  pub receives : (s .rows / 2 + 1) * s .mails ≤ (rows / 2 + 1) * mails
+  pub names-letters : s .names * letters (program ws s) ≤ names * (constructors + 2)
+  pub keys : letter-keys (program ws s) ≤ (rows + 1) * (constructors + 2)
+
+pub rooms : (ws : List ℕ) (s : Sizes) (R N C M : ℕ) → s .rows ≤ R → s .names ≤ N → s .constructors ≤ C → s .mails ≤ M → Rooms ws s R N C M
+unfolding letters letter-keys program columns
+rooms ws s R N C M r v c m =
+    record {
+      receives = product-most (s .rows / 2 + 1) (s .mails) (R / 2 + 1) M (omega arith) m;
+      names-letters = product-most (s .names) (s .constructors + 2) N (C + 2) v (omega arith);
+      keys = product-most (s .rows + 1) (s .constructors + 2) (R + 1) (C + 2) (omega arith) (omega arith);
+    }
+
+-- the test of a small message, by how far it goes
+module _ (s : Sizes) where
+  pub mails-decide : s .rows ≤ 64 → s .names ≤ 64 → s .constructors ≤ 8 → leb (s .mails) 64 ≡ is-small s
+  unfolding is-small
+  mails-decide r v c = rw (le-leb (s .rows) 64 r, le-leb (s .names) 64 v, le-leb (s .constructors) 8 c)
+
+  pub constructors-decide : s .rows ≤ 64 → s .names ≤ 64 → 8 < s .constructors → leb (s .constructors) 8 ≡ is-small s
+  unfolding is-small
+  constructors-decide r v c = rw (le-leb (s .rows) 64 r, le-leb (s .names) 64 v, lt-leb (s .constructors) 8 c)
+
+  pub names-decide : s .rows ≤ 64 → 64 < s .names → leb (s .names) 64 ≡ is-small s
+  unfolding is-small
+  names-decide r v = rw (le-leb (s .rows) 64 r, lt-leb (s .names) 64 v)
+
+  pub rows-decide : 64 < s .rows → leb (s .rows) 64 ≡ is-small s
+  unfolding is-small
+  rows-decide r = rw (lt-leb (s .rows) 64 r)
+
+  -- what it says
+  pub small-is : is-small s ≡ true → (s .rows ≤ 64) × (s .names ≤ 64) × (s .constructors ≤ 8) × (s .mails ≤ 64)
+  unfolding is-small
+  small-is h =
+      let behind = and-right (leb (s .rows) 64) _ h in
+      let last = and-right (leb (s .names) 64) _ behind in
+      (leb-true _ _ (and-left _ _ h), leb-true _ _ (and-left _ _ behind), leb-true _ _ (and-left _ _ last), leb-true _ _ (and-right (leb (s .constructors) 8) _ last))
+
+-- an array of zeros, as a function makes it (its length is a variable here: to count it out would take long)
+pub zeros : (n : ℕ) → (length {A = ℕ} (replicate n 0) ≡ n) × ((k : ℕ) → getD {A = ℕ} (replicate n 0) k 0 ≡ 0)
+zeros n =
+    let size = length-replicate {A = ℕ} n 0 in
+    (size, λ k. elim (decLt k n) [ yes h ↦ getD-replicate n k 0 0 h | no h ↦ List·getD-eq-default (replicate n 0) 0 (omega arith) ])

@@ -1,0 +1,82 @@
+// The scratch of a message: as much as it needs, in two sizes, so that a small message does not pay for a large one.
+use crate::stages::evidence_on;
+use model::Sizes;
+use model::Verdict;
+ghost use mathlib.Core.Path.{_≡_};
+ghost use Prim.Native.Nat.{_≤_};
+ghost use lib.ListN.{length};
+ghost use Rattle.model.specs.Verify.{answer};
+ghost use Rattle.listing.specs.Space.{words-after};
+ghost use Rattle.checks.specs.Stages.{evidence-on, Formed, is-small};
+
+// Small in all that the scratch depends on.
+pub fn is_small(s: Sizes) -> bool
+    ensures { λ b. ⌜ b ≡ is-small s ⌝ }
+{
+    s.rows <= 64 && (s.names <= 64 && (s.constructors <= 8 && s.mails <= 64))
+}
+
+// Refusals 6 to 14 of a small message.
+fn small_evidence(ws: &[u16], s: Sizes, afters: &[u16], inners: &[u16], lent: &mut [u32]) -> Verdict
+    requires { ⌜ Formed (now ws) s (now afters) (now inners) ⌝ }
+    requires { ⌜ (s .rows ≤ 64) × (s .names ≤ 64) × (s .constructors ≤ 8) × (s .mails ≤ 64) ⌝ }
+    ensures { λ v. ⌜ v ≡ answer (evidence-on (now (ws .entry)) s (length (now (lent .entry)))) ⌝ }
+    ensures { λ v. ⌜ now (lent .exit) ≡ words-after v (now (ws .entry)) s (now (lent .entry)) ⌝ }
+{
+    let mut cases = [0u8; 64];
+    let mut receives = [0u8; 2112];
+    let mut names = [0u16; 640];
+    let mut index = [0u16; 651];
+    evidence_on(
+        ws,
+        s,
+        afters,
+        inners,
+        &mut cases,
+        &mut receives,
+        &mut names,
+        &mut index,
+        lent,
+    )
+}
+
+// Refusals 6 to 14 of any message.
+fn large_evidence(ws: &[u16], s: Sizes, afters: &[u16], inners: &[u16], lent: &mut [u32]) -> Verdict
+    requires { ⌜ Formed (now ws) s (now afters) (now inners) ⌝ }
+    ensures { λ v. ⌜ v ≡ answer (evidence-on (now (ws .entry)) s (length (now (lent .entry)))) ⌝ }
+    ensures { λ v. ⌜ now (lent .exit) ≡ words-after v (now (ws .entry)) s (now (lent .entry)) ⌝ }
+{
+    let mut cases = [0u8; 1024];
+    let mut receives = [0u8; 262656];
+    let mut names = [0u16; 33792];
+    let mut index = [0u16; 67651];
+    evidence_on(
+        ws,
+        s,
+        afters,
+        inners,
+        &mut cases,
+        &mut receives,
+        &mut names,
+        &mut index,
+        lent,
+    )
+}
+
+// Refusals 6 to 14.
+pub fn evidence_verdict(
+    ws: &[u16],
+    s: Sizes,
+    afters: &[u16],
+    inners: &[u16],
+    lent: &mut [u32],
+) -> Verdict
+    requires { ⌜ Formed (now ws) s (now afters) (now inners) ⌝ }
+    ensures { λ v. ⌜ v ≡ answer (evidence-on (now (ws .entry)) s (length (now (lent .entry)))) ⌝ }
+    ensures { λ v. ⌜ now (lent .exit) ≡ words-after v (now (ws .entry)) s (now (lent .entry)) ⌝ }
+{
+    if is_small(s) {
+        return small_evidence(ws, s, afters, inners, lent);
+    }
+    large_evidence(ws, s, afters, inners, lent)
+}

@@ -1,0 +1,91 @@
+// The verdict on a message, and the lent words.
+use crate::reads::program_verdict;
+use crate::scratch::evidence_verdict;
+use answers::is_safe;
+use message::MAX_WORDS;
+use message::Parts;
+use message::decode;
+use message::parts_of;
+use model::Sizes;
+use model::Verdict;
+use scopes::inner::inners;
+use scopes::layout::ends;
+ghost use mathlib.Core.Path.{_≡_};
+ghost use Prim.Native.Nat.{_*_, _≤_};
+ghost use lib.ListN.{length};
+ghost use Rattle.model.specs.Verify.{message-check, answer, verdict, lent-after};
+ghost use Rattle.message.proofs.Whole.{Whole-message};
+ghost use Rattle.evidence.specs.Whole.{Parts-whole};
+ghost use Rattle.listing.specs.Space.{words-after};
+ghost use Rattle.checks.specs.Stages.{taken};
+
+// Refusals 3 to 14 of the words of a message whose parts are whole.
+fn words_verdict(ws: &[u16], s: Sizes, lent: &mut [u32]) -> Verdict
+    requires { ⌜ Parts-whole (now ws) s ⌝ }
+    ensures { λ v. ⌜ v ≡ answer (message-check (taken (now (ws .entry)) s) (length (now (lent .entry)))) ⌝ }
+    ensures { λ v. ⌜ now (lent .exit) ≡ words-after v (now (ws .entry)) s (now (lent .entry)) ⌝ }
+{
+    let afters = ends(ws, s);
+    let program = program_verdict(ws, s, &afters);
+    if !is_safe(program) {
+        return program;
+    }
+    let owners = inners(ws, s, &afters);
+    evidence_verdict(ws, s, &afters, &owners, lent)
+}
+
+// The verdict on a message whose parts are whole; its words are decoded into lent ones.
+fn decoded_verdict(bytes: &[u8], s: Sizes, words: &mut [u16], lent: &mut [u32]) -> Verdict
+    requires { ⌜ Whole-message (now bytes) s ⌝ }
+    requires { ⌜ length (now bytes) ≤ 2 * length (now words) ⌝ }
+    ensures { λ v. ⌜ v ≡ verdict (now (bytes .entry)) (length (now (lent .entry))) ⌝ }
+    ensures { λ v. ⌜ now (lent .exit) ≡ lent-after (now (bytes .entry)) (now (lent .entry)) ⌝ }
+{
+    decode(bytes, words);
+    let count = bytes.len() / 2;
+    words_verdict(&words[..count], s, lent)
+}
+
+// Of a short message.
+fn short_verdict(bytes: &[u8], s: Sizes, lent: &mut [u32]) -> Verdict
+    requires { ⌜ Whole-message (now bytes) s ⌝ }
+    requires { ⌜ length (now bytes) ≤ 4096 ⌝ }
+    ensures { λ v. ⌜ v ≡ verdict (now (bytes .entry)) (length (now (lent .entry))) ⌝ }
+    ensures { λ v. ⌜ now (lent .exit) ≡ lent-after (now (bytes .entry)) (now (lent .entry)) ⌝ }
+{
+    let mut words = [0u16; 2048];
+    decoded_verdict(bytes, s, &mut words, lent)
+}
+
+// Of a message of any length.
+fn long_verdict(bytes: &[u8], s: Sizes, lent: &mut [u32]) -> Verdict
+    requires { ⌜ Whole-message (now bytes) s ⌝ }
+    ensures { λ v. ⌜ v ≡ verdict (now (bytes .entry)) (length (now (lent .entry))) ⌝ }
+    ensures { λ v. ⌜ now (lent .exit) ≡ lent-after (now (bytes .entry)) (now (lent .entry)) ⌝ }
+{
+    let mut words = [0u16; MAX_WORDS];
+    decoded_verdict(bytes, s, &mut words, lent)
+}
+
+// The verdict on a message whose parts are whole.
+fn whole_verdict(bytes: &[u8], s: Sizes, lent: &mut [u32]) -> Verdict
+    requires { ⌜ Whole-message (now bytes) s ⌝ }
+    ensures { λ v. ⌜ v ≡ verdict (now (bytes .entry)) (length (now (lent .entry))) ⌝ }
+    ensures { λ v. ⌜ now (lent .exit) ≡ lent-after (now (bytes .entry)) (now (lent .entry)) ⌝ }
+{
+    if bytes.len() <= 4096 {
+        return short_verdict(bytes, s, lent);
+    }
+    long_verdict(bytes, s, lent)
+}
+
+// The verdict on any bytes; after safe the lent words are those of the system, and else as they came.
+pub fn verdict_of(bytes: &[u8], lent: &mut [u32]) -> Verdict
+    ensures { λ v. ⌜ v ≡ verdict (now (bytes .entry)) (length (now (lent .entry))) ⌝ }
+    ensures { λ v. ⌜ now (lent .exit) ≡ lent-after (now (bytes .entry)) (now (lent .entry)) ⌝ }
+{
+    match parts_of(bytes) {
+        Parts::Refused(v) => v,
+        Parts::Whole(s) => whole_verdict(bytes, s, lent),
+    }
+}

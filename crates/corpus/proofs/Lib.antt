@@ -1,0 +1,3 @@
+pub mod Digesting
+pub mod Marking
+pub mod Lining

@@ -1,0 +1,67 @@
+// The verifier: a message and lent words in; the verdict, the part handed on and the words written out.
+use answers::is_safe;
+use answers::number_of;
+use answers::places::place_of;
+use checks::verdict::verdict_of;
+use message::bads_at;
+use message::sizes_of;
+use model::Verdict;
+ghost use mathlib.Core.Path.{_≡_};
+ghost use mathlib.Core.List.{[], _∷_};
+ghost use lib.ListN.{length};
+ghost use Rattle.model.specs.Verdict.{number, place};
+ghost use Rattle.model.specs.Verify.{verdict, lent-after, part-handed};
+ghost use Rattle.verifier.specs.Promises.{Refusal-changes-nothing, Safe-exactly-when-sound, System-is-written, Runs-are-followed};
+
+// The part handed on after this verdict: after safe the program's own bytes of the message, else an empty part.
+fn part_of(message: &[u8], words: usize, v: Verdict) -> &[u8]
+    requires { ⌜ v ≡ verdict (now message) words ⌝ }
+    ensures { λ r. ⌜ now r ≡ part-handed (now (message .entry)) words ⌝ }
+{
+    if !is_safe(v) {
+        return &message[..0];
+    }
+    let s = sizes_of(message);
+    let end = 2 * bads_at(s);
+    &message[..end]
+}
+
+// The entry. Gives the part handed on; number and place of the verdict to `answer`; after safe the system to the lent words.
+pub fn verify<'a>(message: &'a [u8], lent: &mut [u32], answer: &mut [usize; 2]) -> &'a [u8]
+    ensures { λ _. ⌜ now (answer .exit) ≡ number (verdict (now (message .entry)) (length (now (lent .entry)))) ∷ place (verdict (now (message .entry)) (length (now (lent .entry)))) ∷ [] ⌝ }
+    ensures { λ part. ⌜ now part ≡ part-handed (now (message .entry)) (length (now (lent .entry))) ⌝ }
+    ensures { λ _. ⌜ now (lent .exit) ≡ lent-after (now (message .entry)) (now (lent .entry)) ⌝ }
+    ensures { λ part. ⌜ Refusal-changes-nothing (number (verdict (now (message .entry)) (length (now (lent .entry))))) (now (lent .entry)) (now (lent .exit)) (now part) ⌝ }
+    ensures { λ _. ⌜ Safe-exactly-when-sound (number (verdict (now (message .entry)) (length (now (lent .entry))))) (now (message .entry)) (length (now (lent .entry))) ⌝ }
+    ensures { λ _. ⌜ System-is-written (number (verdict (now (message .entry)) (length (now (lent .entry))))) (now (message .entry)) (now (lent .entry)) (now (lent .exit)) ⌝ }
+    ensures { λ _. ⌜ Runs-are-followed (number (verdict (now (message .entry)) (length (now (lent .entry))))) (now (message .entry)) (now (lent .exit)) ⌝ }
+{
+    let words = lent.len();
+    let v = verdict_of(message, lent);
+    *answer = [number_of(v), place_of(v)];
+    part_of(message, words, v)
+}
+
+// The same for C and Rust: the number; the place, and the length of the part, which begins where the message does.
+#[no_mangle]
+pub extern "C" fn delungkaw_verify(
+    message: &[u8],
+    lent: &mut [u32],
+    position: &mut usize,
+    handed: &mut usize,
+) -> u32
+    ensures { λ r. ⌜ r ≡ number (verdict (now (message .entry)) (length (now (lent .entry)))) ⌝ }
+    ensures { λ _. ⌜ now (position .exit) ≡ place (verdict (now (message .entry)) (length (now (lent .entry)))) ⌝ }
+    ensures { λ _. ⌜ now (handed .exit) ≡ length (part-handed (now (message .entry)) (length (now (lent .entry)))) ⌝ }
+    ensures { λ _. ⌜ now (lent .exit) ≡ lent-after (now (message .entry)) (now (lent .entry)) ⌝ }
+    ensures { λ r. ⌜ Refusal-changes-nothing r (now (lent .entry)) (now (lent .exit)) (part-handed (now (message .entry)) (length (now (lent .entry)))) ⌝ }
+    ensures { λ r. ⌜ Safe-exactly-when-sound r (now (message .entry)) (length (now (lent .entry))) ⌝ }
+    ensures { λ r. ⌜ System-is-written r (now (message .entry)) (now (lent .entry)) (now (lent .exit)) ⌝ }
+    ensures { λ r. ⌜ Runs-are-followed r (now (message .entry)) (now (lent .exit)) ⌝ }
+{
+    let mut answer = [0usize; 2];
+    let part = verify(message, lent, &mut answer);
+    *handed = part.len();
+    *position = answer[1];
+    answer[0] as u32
+}

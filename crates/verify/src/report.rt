@@ -1,0 +1,119 @@
+// What is told of a message, as text.
+use text::put_byte;
+use text::put_end;
+use text::put_line;
+use text::put_pair;
+use verifier::verify;
+ghost use mathlib.Core.Path.{_≡_};
+ghost use Prim.Native.Nat.{_+_, _*_, _≤_, _<_};
+ghost use lib.ListN.{length, getD, replicate};
+ghost use Rattle.io.specs.Counts.{Counts};
+ghost use Rattle.text.specs.Text.{put-at, pair};
+ghost use Rattle.verify.specs.Told.{lent-words, most-text, sizes-text, row-text, rows-text, system-text, told};
+
+// The words lent.
+const LENT: usize = 16384;
+
+// So many words, all 0.
+fn blank_words() -> [u32; LENT]
+    ensures { λ r. ⌜ r ≡ replicate lent-words 0 ⌝ }
+{
+    [0; LENT]
+}
+
+// Room for the longest text.
+pub fn room() -> [u8; 350000]
+    ensures { λ r. ⌜ most-text ≡ length r ⌝ }
+{
+    [0; 350000]
+}
+
+// A word as a number.
+fn wide(word: u32) -> u64
+    ensures { λ r. ⌜ r ≡ word ⌝ }
+{
+    word as u64
+}
+
+// Word i of the words and the next.
+fn put_two(out: &mut [u8], at: usize, ws: &[u32], i: usize) -> usize
+    requires { ⌜ at + 41 ≤ length (now out) ⌝ }
+    requires { ⌜ i + 2 ≤ length (now ws) ⌝ }
+    ensures { λ r. ⌜ now (out .exit) ≡ put-at at (pair (getD (now (ws .entry)) i 0) (getD (now (ws .entry)) (i + 1) 0)) (now (out .entry)) ⌝ }
+    ensures { λ r. ⌜ r ≡ at + length (pair (getD (now (ws .entry)) i 0) (getD (now (ws .entry)) (i + 1) 0)) ⌝ }
+{
+    let a = wide(ws[i]);
+    let b = wide(ws[i + 1]);
+    put_pair(out, at, a, b)
+}
+
+// The four sizes of a system on a line.
+fn put_sizes(out: &mut [u8], at: usize, ws: &[u32]) -> usize
+    requires { ⌜ at + 84 ≤ length (now out) ⌝ }
+    requires { ⌜ 4 ≤ length (now ws) ⌝ }
+    ensures { λ r. ⌜ now (out .exit) ≡ put-at at (sizes-text (now (ws .entry))) (now (out .entry)) ⌝ }
+    ensures { λ r. ⌜ r ≡ at + length (sizes-text (now (ws .entry))) ⌝ }
+{
+    let half = put_two(out, at, ws, 0);
+    let space = put_byte(out, half, b' ');
+    let end = put_two(out, space, ws, 2);
+    put_end(out, end)
+}
+
+// Row r of a system of so many rows, its tag and its number, on a line.
+fn put_row(out: &mut [u8], at: usize, ws: &[u32], rows: usize, r: usize) -> usize
+    requires { ⌜ at + 42 ≤ length (now out) ⌝ }
+    requires { ⌜ (rows ≡ getD (now ws) 3 0) × (4 + 2 * rows ≤ length (now ws)) ⌝ }
+    requires { ⌜ r < rows ⌝ }
+    ensures { λ q. ⌜ now (out .exit) ≡ put-at at (row-text (now (ws .entry)) r) (now (out .entry)) ⌝ }
+    ensures { λ q. ⌜ q ≡ at + length (row-text (now (ws .entry)) r) ⌝ }
+{
+    let tag = wide(ws[4 + r]);
+    let number = wide(ws[4 + rows + r]);
+    put_line(out, at, tag, number)
+}
+
+// The rows of a system.
+fn put_rows(out: &mut [u8], at: usize, ws: &[u32], rows: usize) -> usize
+    requires { ⌜ at + 42 * rows ≤ length (now out) ⌝ }
+    requires { ⌜ (rows ≡ getD (now ws) 3 0) × (4 + 2 * rows ≤ length (now ws)) ⌝ }
+    ensures { λ r. ⌜ now (out .exit) ≡ put-at at (rows-text (now (ws .entry)) rows) (now (out .entry)) ⌝ }
+    ensures { λ r. ⌜ r ≡ at + length (rows-text (now (ws .entry)) rows) ⌝ }
+{
+    let mut here = at;
+    for r in 0..rows {
+        here = put_row(out, here, ws, rows, r);
+    }
+    here
+}
+
+// A system: its sizes and its rows.
+fn put_system(out: &mut [u8], at: usize, ws: &[u32]) -> usize
+    requires { ⌜ at + 84 + 42 * getD (now ws) 3 0 ≤ length (now out) ⌝ }
+    requires { ⌜ 4 + 2 * getD (now ws) 3 0 ≤ length (now ws) ⌝ }
+    ensures { λ r. ⌜ now (out .exit) ≡ put-at at (system-text (now (ws .entry))) (now (out .entry)) ⌝ }
+    ensures { λ r. ⌜ r ≡ at + length (system-text (now (ws .entry))) ⌝ }
+{
+    let rows = wide(ws[3]) as usize;
+    let first = put_sizes(out, at, ws);
+    put_rows(out, first, ws, rows)
+}
+
+// What is told of a message: the text, and how long it is.
+pub fn tell(message: &[u8], out: &mut [u8]) -> usize
+    requires { ⌜ most-text ≤ length (now out) ⌝ }
+    ensures { λ r. ⌜ now (out .exit) ≡ put-at 0 (told (now (message .entry))) (now (out .entry)) ⌝ }
+    ensures { λ r. ⌜ r ≡ length (told (now (message .entry))) ⌝ }
+    ensures { λ r. ⌜ Counts r (now (out .exit)) ⌝ }
+{
+    let mut lent = blank_words();
+    let mut answer: [usize; 2] = [0, 0];
+    verify(message, &mut lent, &mut answer);
+    let number = answer[0];
+    let place = answer[1];
+    let at = put_line(out, 0, number as u64, place as u64);
+    if number != 0 {
+        return at;
+    }
+    put_system(out, at, &lent)
+}
