@@ -5,16 +5,19 @@ use super::compare::{Cases, Seen, Verifier, see};
 use super::damage::Case;
 use crate::limits;
 
-/// FNV-1a, 32 bits.
-pub fn digest(bytes: impl Iterator<Item = u8>) -> u32 {
-    bytes.fold(2_166_136_261, |hash: u32, byte| (hash ^ byte as u32).wrapping_mul(16_777_619))
+/// The first bytes of a stored corpus.
+const MAGIC: &[u8; 8] = b"ORACLE01";
+
+/// FNV-1a, 64 bits.
+pub fn digest(bytes: impl Iterator<Item = u8>) -> u64 {
+    bytes.fold(0xcbf2_9ce4_8422_2325, |hash, byte| (hash ^ byte as u64).wrapping_mul(0x0000_0100_0000_01b3))
 }
 
 /// The expected line of a case.
 pub fn line(case: &Case, seen: &Seen) -> String {
     let lent = digest(seen.lent.iter().flat_map(|word| word.to_le_bytes()));
     let part = digest(case.message[seen.outcome.part.clone()].iter().copied());
-    format!("{} {} {lent} {part}\n", seen.outcome.number, seen.outcome.place)
+    format!("{} {} {lent:016x} {part:016x}\n", seen.outcome.number, seen.outcome.place)
 }
 
 pub struct Corpus {
@@ -70,32 +73,33 @@ pub fn collect(seed: u64, count: usize, verifier: Verifier) -> Result<Corpus, St
     }
 }
 
-/// The records one after another.
+/// The stored bytes: the magic, the count of cases, the cases.
 pub fn stream(cases: &[Case]) -> Vec<u8> {
-    let mut bytes = Vec::new();
+    let mut bytes = MAGIC.to_vec();
+    bytes.extend((cases.len() as u32).to_le_bytes());
     for case in cases {
-        bytes.extend((case.message.len() as u32).to_le_bytes());
         bytes.extend((case.lent as u32).to_le_bytes());
+        bytes.extend((case.message.len() as u32).to_le_bytes());
         bytes.extend(&case.message);
     }
     bytes
 }
 
-/// Reads the records back; none if the last is not whole.
+/// Reads the cases back; none if they are not whole.
 pub fn read(bytes: &[u8]) -> Option<Vec<Case>> {
-    let mut rest = bytes;
+    let mut rest = bytes.strip_prefix(MAGIC)?;
     let number = |rest: &mut &[u8]| {
         let (four, left) = rest.split_first_chunk::<4>()?;
         *rest = left;
         Some(u32::from_le_bytes(*four) as usize)
     };
     let mut cases = Vec::new();
-    while !rest.is_empty() {
-        let length = number(&mut rest)?;
+    for _ in 0..number(&mut rest)? {
         let lent = number(&mut rest)?;
+        let length = number(&mut rest)?;
         let (message, left) = rest.split_at_checked(length)?;
         cases.push(Case { message: message.to_vec(), lent });
         rest = left;
     }
-    Some(cases)
+    rest.is_empty().then_some(cases)
 }
