@@ -73,7 +73,7 @@ pub fn collect(seed: u64, count: usize, verifier: Verifier) -> Result<Corpus, St
     }
 }
 
-/// The stored bytes: the magic, the count of cases, the cases.
+/// The name, the count of cases, and the records one after another.
 pub fn stream(cases: &[Case]) -> Vec<u8> {
     let mut bytes = MAGIC.to_vec();
     bytes.extend((cases.len() as u32).to_le_bytes());
@@ -85,7 +85,7 @@ pub fn stream(cases: &[Case]) -> Vec<u8> {
     bytes
 }
 
-/// Reads the cases back; none if they are not whole.
+/// Reads the records back; none if they are not whole, or something is left.
 pub fn read(bytes: &[u8]) -> Option<Vec<Case>> {
     let mut rest = bytes.strip_prefix(MAGIC)?;
     let number = |rest: &mut &[u8]| {
@@ -93,8 +93,9 @@ pub fn read(bytes: &[u8]) -> Option<Vec<Case>> {
         *rest = left;
         Some(u32::from_le_bytes(*four) as usize)
     };
+    let count = number(&mut rest)?;
     let mut cases = Vec::new();
-    for _ in 0..number(&mut rest)? {
+    for _ in 0..count {
         let lent = number(&mut rest)?;
         let length = number(&mut rest)?;
         let (message, left) = rest.split_at_checked(length)?;
