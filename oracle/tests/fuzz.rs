@@ -1,5 +1,7 @@
 //! Two readings of the hard checks agree on random messages, and safe stations keep demand 3.
 
+mod common;
+
 use oracle::fuzz::{compare, corpus};
 use oracle::verify::Outcome;
 use oracle::{naive, stress, verify};
@@ -43,6 +45,20 @@ fn a_corpus_comes_back_with_every_verdict() {
         let seen = compare::see(&naive::verify, case).unwrap();
         assert_eq!(corpus::line(case, &seen).trim_end(), line);
     }
+}
+
+#[test]
+fn the_corpus_of_the_proved_program_is_as_verify_says() {
+    let stored = std::fs::read(common::path("crates/corpus/stdin")).unwrap();
+    let lines = std::fs::read_to_string(common::path("crates/corpus/stdout")).unwrap();
+    let cases = corpus::read(&stored).unwrap();
+    assert_eq!(cases.len(), lines.lines().count());
+    for (case, line) in cases.iter().zip(lines.lines()) {
+        let seen = compare::see(&verify::verify, case).unwrap();
+        assert_eq!(corpus::line(case, &seen).trim_end(), line);
+    }
+    let seen = |number: usize| lines.lines().any(|line| line.starts_with(&format!("{number} ")));
+    assert!((0..=14).all(seen));
 }
 
 #[test]

@@ -36,7 +36,7 @@ pub fn command(args: &[String]) -> Answer {
             return Err(format!("case {i}: the texts differ (line {line:?}); the message is kept in {KEPT}"));
         }
         let outcome = verify::verify(&case.message, &mut vec![0; limits::LENT]);
-        tally.verdicts[outcome.number.min(14) as usize] += 1;
+        tally.count(outcome.number, &case.message);
     }
     Ok(tally.words())
 }

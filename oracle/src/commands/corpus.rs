@@ -18,7 +18,7 @@ pub fn check(args: &[String]) -> Answer {
     let [records, expected] = args else { return Err("check-corpus: two files are wanted".to_string()) };
     let bytes = std::fs::read(records).map_err(|e| format!("{records}: {e}"))?;
     let lines = super::read_text(expected)?;
-    let cases = corpus::read(&bytes).ok_or(format!("{records}: not whole records"))?;
+    let cases = corpus::read(&bytes).ok_or(format!("{records}: not a whole corpus"))?;
     for (i, (case, line)) in cases.iter().zip(lines.lines()).enumerate() {
         let seen = compare::see(&verify::verify, case)?;
         if corpus::line(case, &seen).trim_end() != line {

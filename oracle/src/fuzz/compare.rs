@@ -88,9 +88,14 @@ impl Tally {
         self.verdicts.iter().sum()
     }
 
-    /// A safe message seen.
-    fn measure(&mut self, message: &[u8]) {
-        self.largest.iter_mut().zip(sizes(message)).for_each(|(largest, size)| *largest = size.max(*largest));
+    /// Counts a message with this verdict; false if there is no such verdict.
+    pub fn count(&mut self, number: u32, message: &[u8]) -> bool {
+        let Some(seen) = self.verdicts.get_mut(number as usize) else { return false };
+        *seen += 1;
+        if number == 0 {
+            self.largest.iter_mut().zip(sizes(message)).for_each(|(largest, size)| *largest = size.max(*largest));
+        }
+        true
     }
 
     pub fn words(&self) -> String {
@@ -167,15 +172,10 @@ pub fn fuzz(seed: u64, count: usize, first: Verifier, second: Verifier) -> Resul
         let case = cases.next_case();
         let failed = |word: String| (case.clone(), format!("case {i}: {word}"));
         let outcome = compare(first, second, &case).map_err(failed)?;
-        match tally.verdicts.get_mut(outcome.number as usize) {
-            Some(seen) => *seen += 1,
-            None => return Err(failed(format!("verdict {}", outcome.number))),
+        if !tally.count(outcome.number, &case.message) {
+            return Err(failed(format!("verdict {}", outcome.number)));
         }
-        if outcome.number != 0 {
-            continue;
-        }
-        tally.measure(&case.message);
-        if cases.rng.chance(1, 2) {
+        if outcome.number == 0 && cases.rng.chance(1, 2) {
             let rules = check_demand_3(&case.message, &numbers(&mut cases.rng)).map_err(failed)?;
             tally.runs += 1;
             tally.steps += rules.len();

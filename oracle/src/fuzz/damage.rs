@@ -2,6 +2,7 @@
 
 use super::build::Station;
 use super::rng::Rng;
+use crate::limits::{self, Limit};
 use crate::message::{self, Columns, Message};
 
 /// What a verifier is given.
@@ -100,34 +101,35 @@ fn length(rng: &mut Rng, bytes: &mut Vec<u8>) {
     }
 }
 
-/// The words of all sizes and their most.
-fn size_words(m: &Message) -> Vec<(usize, u16)> {
+/// The words of all sizes with their limits.
+fn size_words(m: &Message) -> [(usize, Limit); 11] {
     let (b, t, c) = (m.bads_at, m.tables_at, m.bounds_at);
-    vec![
-        (0, 1024),
-        (1, 512),
-        (2, 64),
-        (3, 64),
-        (b, 16),
-        (b + 1, 256),
-        (t, 4096),
-        (t + 1, 512),
-        (t + 2, 512),
-        (c, 256),
-        (c + 1, 8192),
+    [
+        (0, limits::ROWS),
+        (1, limits::NAMES),
+        (2, limits::CONSTRUCTORS),
+        (3, limits::FUNCTIONS),
+        (b, limits::BADS),
+        (b + 1, limits::BAD_ROWS),
+        (t, limits::FLOW),
+        (t + 1, limits::MAIL),
+        (t + 2, limits::STATES),
+        (c, limits::BOUNDS),
+        (c + 1, limits::BOUND_ENTRIES),
     ]
 }
 
 fn size(rng: &mut Rng, original: &Message, bytes: &mut Vec<u8>) {
     let mut words = message::to_words(bytes);
     let sizes = size_words(original);
-    let (at, most) = sizes[rng.below(sizes.len())];
+    let (at, (least, most)) = sizes[rng.below(sizes.len())];
     if let Some(word) = words.get_mut(at) {
-        *word = match rng.below(8) {
+        *word = match rng.below(9) {
             0..=2 => most + 1,
             3 => 0,
             4 => odd_word(rng, *word),
             5 => most,
+            6 => least.wrapping_sub(1),
             _ => odd_word(rng, most),
         };
     }
@@ -160,11 +162,26 @@ fn structured(rng: &mut Rng, m: &mut Message, station: &Station) {
 }
 
 fn row(rng: &mut Rng, m: &mut Message) {
+    const TAGS: [u16; 20] = [1, 2, 3, 4, 5, 6, 7, 8, 9, 10, 11, 20, 21, 22, 23, 24, 25, 30, 31, 32];
     let i = rng.below(m.program.len());
-    match rng.below(3) {
-        0 => m.program.first[i] = [1, 2, 3, 4, 5, 6, 7, 8, 9, 10, 11, 20, 21, 22, 23, 24, 25, 30, 31, 32][rng.below(20)],
+    match rng.below(6) {
+        0..=1 => m.program.first[i] = TAGS[rng.below(TAGS.len())],
+        2 => row_limit(rng, m),
         _ => m.program.second[i] = odd_word(rng, m.program.second[i]),
     }
+}
+
+/// A row with a count or a number that stands at its limit, or just past it.
+fn row_limit(rng: &mut Rng, m: &mut Message) {
+    let rows = rows_with(m, &[9, 10, 22, 25, 20, 31, 1, 21]);
+    let Some(&i) = rng.pick(&rows) else { return };
+    let most = match m.program.first[i] {
+        9 | 25 => 16,
+        10 | 22 => 8,
+        20 | 31 => (m.constructors as u16).saturating_sub(1),
+        _ => (m.names as u16).saturating_sub(1),
+    };
+    m.program.second[i] = most + rng.below(2) as u16;
 }
 
 /// Some rows at random.
@@ -180,7 +197,8 @@ fn soup(rng: &mut Rng, m: &mut Message) {
 /// A pattern put into constructors of one argument, perhaps too deep.
 fn deepen(rng: &mut Rng, m: &mut Message) {
     let rows = rows_with(m, &[30, 31, 32]);
-    let of_one: Vec<usize> = (0..m.constructors.min(m.program.len())).filter(|&c| m.program.pair(c) == (10, 1)).collect();
+    let of_one: Vec<usize> =
+        (0..m.constructors.min(m.program.len())).filter(|&c| m.program.pair(c) == (10, 1)).collect();
     let (Some(&i), Some(&constructor)) = (rng.pick(&rows), rng.pick(&of_one)) else { return };
     for _ in 0..rng.range(1, 4) {
         insert(&mut m.program, i, 31, constructor as u16);
