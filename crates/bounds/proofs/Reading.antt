@@ -1,5 +1,5 @@
 -- One pass over the entries of the ceilings: the first wrong entry from entry e on, by the least counter number allowed and the ceilings that are left.
-use Prim.Native.Nat.{ℕ, zero, suc, _+_, _-_, _≤_, _<_}
+use Prim.Native.Nat.{ℕ, zero, suc, _+_, _-_, _^_, _≤_, _<_, zero-le}
 use native.Mathlib.Omega.{arith}
 use mathlib.Core.Path.{_≡_, refl, _∙_, ap}
 use mathlib.Core.Bool.{true, false}
@@ -14,6 +14,7 @@ use Rattle.model.specs.Message.{bounds-at}
 use Rattle.model.specs.Reader.{Read, past, wrong, fits, read, complete, first-wrong}
 use Rattle.model.specs.Bounds.{bound-entries, Ahead, from-counter, bound-step, bounds-of, bound-check}
 use Rattle.model.specs.Verify.{answer}
+use Rattle.model.specs.Demands.{Within-limits}
 use Rattle.model.proofs.Logic.{and-left, and-right}
 use Rattle.model.proofs.Reader.{read-none, read-end, read-stop, read-go}
 use Rattle.bounds.specs.Parts.{in-ceiling}
@@ -71,6 +72,17 @@ behind-end n i h = rw (ne-eqb i n (λ z. omega arith), complete)
 at-end : (n : ℕ) → complete n (past n) ≡ none
 unfolding complete
 at-end n = rw (eq-eqb n n refl, complete)
+
+-- the part of ceilings stands low among the numbers
+pub begins-low : (s : Sizes) → Within-limits s → bounds-at s + 2 + s .limits < 2 ^ 32
+unfolding bounds-at
+begins-low s h = omega arith
+
+pub fewer-left : (n i : ℕ) → i < n → n - (i + 1) < n - i
+fewer-left n i h = omega arith
+
+sub-none : (k : ℕ) → k ≡ k - 0
+sub-none k = omega arith
 
 module _ (ws : List ℕ) (s : Sizes) (n : ℕ) where
   abbrev entries : Columns
@@ -158,3 +170,40 @@ module _ (ws : List ℕ) (s : Sizes) (n : ℕ) where
 
       pub turn-next : (x ≡ n → ⊥) → in-ceiling n least x limit ≡ true → wrong-from e least (s .bounds - closed) ≡ wrong-from (e + 1) (x + 1) (s .bounds - closed)
       turn-next a b = rw one-more (wrong-next e least (s .bounds - (closed + 1)) (x + 1) inside (says _ (entry-fits n least x limit a b)))
+
+  -- the same as the code meets them, in the turn of entry e: `closed` ceilings are closed before it, the part of ceilings begins at word `begin`
+  abbrev so-far : ℕ → ℕ → ℕ → Type 0
+  so-far e least closed = (wrong-from 0 0 (s .bounds) ≡ wrong-from e least (s .bounds - closed)) × (closed ≤ s .bounds) × (e ≤ s .limits)
+
+  pub at-first : so-far 0 0 0
+  at-first = (ap (wrong-from 0 0) (sub-none (s .bounds)), zero-le, zero-le)
+
+  module _ (e least closed : ℕ) (h : so-far e least closed) where
+    pub passed-all : s .limits ≤ e → s .bounds ≤ closed → Safe ≡ answer (bound-check ws s n)
+    passed-all a b = passed (h .0 ∙ wrong-none e least _ (omega (arith, a, h .2)) (omega (arith, b)))
+
+    module _ (begin : ℕ) (z : begin ≡ bounds-at s) where
+      refused-by : (r : ℕ) → wrong-from 0 0 (s .bounds) ≡ some r → Ceiling (begin + 2 + r) ≡ answer (bound-check ws s n)
+      refused-by r w = refused r (begin + 2) w (ap (λ k. k + 2) z)
+
+      pub refused-behind : e < s .limits → closed ≡ s .bounds → Ceiling (begin + 2 + e) ≡ answer (bound-check ws s n)
+      refused-behind a b = refused-by e (h .0 ∙ wrong-behind e least _ a (omega (arith, b)))
+
+      pub refused-early : s .limits ≤ e → closed < s .bounds → Ceiling (begin + 2 + s .limits) ≡ answer (bound-check ws s n)
+      refused-early a b = refused-by (s .limits) (h .0 ∙ stop-early e least closed b (omega (arith, a, h .2)))
+
+    module _ (more : closed ≡ s .bounds → ⊥) (inside : e < s .limits) (x limit : ℕ) (counter : x ≡ left entries e) (value : limit ≡ right entries e) where
+      still : closed < s .bounds
+      still = omega (arith, more, h .1)
+
+      pub refused-open : (begin : ℕ) → begin ≡ bounds-at s → x ≡ n → (limit ≡ 0 → ⊥) → Ceiling (begin + 2 + e) ≡ answer (bound-check ws s n)
+      refused-open begin z a b = refused-by begin z e (h .0 ∙ stop-open e least closed still x limit inside counter value a b)
+
+      pub refused-wrong : (begin : ℕ) → begin ≡ bounds-at s → (x ≡ n → ⊥) → in-ceiling n least x limit ≡ false → Ceiling (begin + 2 + e) ≡ answer (bound-check ws s n)
+      refused-wrong begin z a b = refused-by begin z e (h .0 ∙ stop-wrong e least closed still x limit inside counter value a b)
+
+      pub closed-so-far : x ≡ n → limit ≡ 0 → (least′ closed′ : ℕ) → least′ ≡ 0 → closed′ ≡ closed + 1 → so-far (e + 1) least′ closed′
+      closed-so-far a b least′ closed′ p q = rw (p, q) (h .0 ∙ turn-closed e least closed still x limit inside counter value a b, omega (arith, still), omega (arith, inside))
+
+      pub next-so-far : (x ≡ n → ⊥) → in-ceiling n least x limit ≡ true → (least′ closed′ : ℕ) → least′ ≡ x + 1 → closed′ ≡ closed → so-far (e + 1) least′ closed′
+      next-so-far a b least′ closed′ p q = rw (p, q) (h .0 ∙ turn-next e least closed still x limit inside counter value a b, h .1, omega (arith, inside))

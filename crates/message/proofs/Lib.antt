@@ -1,3 +1,4 @@
 pub mod Words
+mod Sized
 pub mod Checks
 pub mod Whole

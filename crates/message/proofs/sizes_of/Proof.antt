@@ -1,6 +1,6 @@
 -- Each size is read where the model reads it; that a size is a word keeps every sum small.
-use Rattle.model.specs.Message.{sizes}
 use borrow.Author.Needs.{needs}
+use Rattle.message.proofs.Sized.{sized}
 use Rattle.message.proofs.sizes_of.Statement.{statement}
 use Rattle.message.proofs.sizes_of.Tie as tie
 
@@ -80,8 +80,7 @@ size-at-requires-11 : tie.Need-size-at-requires-11
 size-at-requires-11 c κs = search needs
 
 returns : tie.Need-returns
-unfolding sizes
-returns c = (cc, search needs)
+returns c = (sized _ _ _ _ _ _ _ _ _ _ _ _ (c .before .before .before .before .before .before .before .before .before .before .size-at .ensures .0) (c .before .before .before .before .before .size-at6 .ensures .0) (c .before .before .before .before .size-at7 .ensures .0) (c .before .before .before .size-at8 .ensures .0) (c .before .before .size-at9 .ensures .0) (c .before .before .before .before .before .before .before .before .before .size-at2 .ensures .0) (c .before .before .before .before .before .before .before .before .size-at3 .ensures .0) (c .before .before .before .before .before .before .before .size-at4 .ensures .0) (c .before .before .before .before .before .before .size-at5 .ensures .0) (c .before .size-at10 .ensures .0) (c .size-at11 .ensures .0), search needs)
 
 pub sizes-of-spec : {M : Type 1} → statement M
 sizes-of-spec =

@@ -1,12 +1,11 @@
 -- The loops' invariants: some candidate covers exactly where one of those from a on does; the suspects before i do not exceed.
-use Prim.Native.Nat.{ℕ, _-_, _≤_, _<_}
+use Prim.Native.Nat.{ℕ, _-_, _≤_, _<_, zero-le}
 use native.Mathlib.Omega.{arith}
 use mathlib.Core.Path.{_≡_, refl, sym, _∙_}
 use mathlib.Core.Bool.{true}
 use mathlib.Core.Logic.{⊎-elim}
 use lib.ListN.{getD}
 use borrow.Author.Tests.{not-true, not-false}
-use borrow.Author.Needs.{needs}
 use Rattle.model.specs.Index.{any}
 use Rattle.model.specs.Markings.{usable}
 use Rattle.model.specs.Bounds.{highest}
@@ -39,61 +38,61 @@ is-ceiling : (c : tie.After-shared-slice-known4 Inv-loop μ-loop Inv-candidates 
 is-ceiling c = c .before .before .before .before .before .before .before .before .pre .1 .1 .1 .1 .ceiling _ (c .before .candidates-test .taken)
 
 is-usable-requires : tie.Need-is-usable-requires Inv-loop μ-loop Inv-candidates μ-candidates
-is-usable-requires c κs = (search needs, (within-more _ _ _ (search needs) (c .before .before .before .pre .1 .0 .1), search needs))
+is-usable-requires c κs = let p = c .before .before .before .pre in (omega (arith, p .0), (within-more _ _ _ (p .1 .0 .0) (p .1 .0 .1), omega (arith, p .0 .1, p .1 .1 .0)))
 
 returns : tie.Need-returns Inv-loop μ-loop Inv-candidates μ-candidates
 returns c = let a = c .before .before .before .before .before .args in unusable (a .limits .now) _ (a .k) _ _ (sym (c .before .is-usable .ensures) ∙ not-true _ (c .if1 .taken))
 
 candidates-holds : tie.Need-candidates-holds Inv-loop μ-loop Inv-candidates μ-candidates
-candidates-holds c = (refl, search needs)
+candidates-holds c = (refl, zero-le)
 
 mul-k2 : tie.Need-mul-k2 Inv-loop μ-loop Inv-candidates μ-candidates
-mul-k2 c = search needs
+mul-k2 c = let p = c .before .before .before .before .before .before .before .pre in record { fits = omega (arith, c .candidates-test .taken, p .0 .0, p .1 .1 .1 .1 .few) }
 
 shared-slice-read-k2 : tie.Need-shared-slice-read-k2 Inv-loop μ-loop Inv-candidates μ-candidates
-shared-slice-read-k2 c = search needs
+shared-slice-read-k2 c = omega (arith, c .before .candidates-test .taken, c .before .before .before .before .before .before .before .before .pre .1 .1 .1 .1 .room)
 
 cast-k2 : tie.Need-cast-k2 Inv-loop μ-loop Inv-candidates μ-candidates
 cast-k2 c = omega (arith, c .shared-slice-known4 .given (c .before .before .candidates .a))
 
 loop-holds : tie.Need-loop-holds Inv-loop μ-loop Inv-candidates μ-candidates
-loop-holds c = (refl, search needs, λ j h. absurd (omega arith))
+loop-holds c = (refl, zero-le, λ j h. absurd (omega (arith, h)))
 
 suspect-requires : tie.Need-suspect-requires Inv-loop μ-loop Inv-candidates μ-candidates
 suspect-requires c κs =
     let p = c .before .before .before .before .before .before .before .before .before .before .pre in
     let z = is-ceiling (c .before .before) in
-    ((omega (arith, p .0), omega (arith, p .0)), (search needs, omega (arith, p .0, p .1 .1 .1 .0 .room)))
+    ((omega (arith, p .0), omega (arith, z, p .0 .0)), (c .loop-test .taken, omega (arith, p .0, p .1 .1 .1 .0 .room)))
 
 passes-requires : tie.Need-passes-requires Inv-loop μ-loop Inv-candidates μ-candidates
 passes-requires c κs =
     let p = c .before .before .before .before .before .before .before .before .before .before .before .before .pre in
     let z = is-ceiling (c .before .before .before .before) in
-    ((omega (arith, p .0), omega (arith, p .0)), ((search needs, p .1 .0 .1 .kind), (omega (arith, p .0, p .1 .1 .0), omega (arith, p .0, p .1 .1 .0))))
+    ((omega (arith, p .0), omega (arith, z, p .0 .0)), ((omega (arith, c .if2 .taken, p .1 .0 .0), p .1 .0 .1 .kind), (omega (arith, p .0 .1, p .1 .1 .0), omega (arith, z, p .1 .1 .0))))
 
 add-a : tie.Need-add-a Inv-loop μ-loop Inv-candidates μ-candidates
-add-a c = search needs
+add-a c = let p = c .before .before .before .before .before .before .before .before .before .before .before .before .before .before .pre in record { fits = omega (arith, c .before .before .before .before .before .loop .inv .0, c .before .before .before .before .before .before .before .candidates-test .taken, p .0 .0, p .1 .1 .1 .1 .few) }
 
 candidates-less : tie.Need-candidates-less Inv-loop μ-loop Inv-candidates μ-candidates
-candidates-less c = search needs
+candidates-less c = omega (arith, c .before .before .before .before .before .loop .inv .0, c .before .before .before .before .before .before .before .candidates-test .taken)
 
 candidates-again : tie.Need-candidates-again Inv-loop μ-loop Inv-candidates μ-candidates
 candidates-again c =
     let h = c .before .before .before .before .before .loop in
     let d = c .before .before .before .before .before .before .before .before .candidates in
     let q = c .before .before .before .before .before .before .before .before .before .before .before .before .before .before .args in
-    (candidate-fails _ _ (q .k) _ (q .list .now) _ (d .a) (c .before .before .before .before .before .before .before .candidates-test .taken) (d .inv .0) _ _ (h .inv .0) (search needs) (sym (c .before .passes .ensures) ∙ not-true _ (c .if3 .taken)), omega (arith, h .inv .0, c .before .before .before .before .before .before .before .candidates-test .taken))
+    (candidate-fails _ _ (q .k) _ (q .list .now) _ (d .a) (c .before .before .before .before .before .before .before .candidates-test .taken) (d .inv .0) _ _ (h .inv .0) (c .before .before .if2 .taken) (sym (c .before .passes .ensures) ∙ not-true _ (c .if3 .taken)), omega (arith, h .inv .0, c .before .before .before .before .before .before .before .candidates-test .taken))
 
 add-i : tie.Need-add-i Inv-loop μ-loop Inv-candidates μ-candidates
-add-i c = search needs
+add-i c = record { fits = omega (arith, c .before .before .loop-test .taken) }
 
 loop-less : tie.Need-loop-less Inv-loop μ-loop Inv-candidates μ-candidates
-loop-less c = search needs
+loop-less c = omega (arith, c .before .before .loop-test .taken)
 
 loop-again : tie.Need-loop-again Inv-loop μ-loop Inv-candidates μ-candidates
 loop-again c =
     let h = c .before .before .before .loop in
-    (h .inv .0, search needs, passing-next _ _ _ _ _ _ _ _ (c .before .suspect .ensures) (⊎-elim (λ w l. sym (w .1 .ensures) ∙ not-false _ (w .2 .left)) (λ w l. absurd (omega arith)) (c .if2 .came)) (h .inv .2))
+    (h .inv .0, omega (arith, c .before .before .loop-test .taken), passing-next _ _ _ _ _ _ _ _ (c .before .suspect .ensures) (⊎-elim (λ w l. sym (w .1 .ensures) ∙ not-false _ (w .2 .left)) (λ w l. absurd (omega (arith, w .left, l))) (c .if2 .came)) (h .inv .2))
 
 returns-2 : tie.Need-returns-2 Inv-loop μ-loop Inv-candidates μ-candidates
 returns-2 c =
@@ -101,12 +100,12 @@ returns-2 c =
     let p = d .pre in
     let h = c .before .loop in
     covered (d .args .limits .now) _ (d .args .k) _ _ (used (c .before .before .before .before .before))
-    (sym (listed-covers _ _ _ _ _ _ _ (p .1 .0 .1 .kind) (p .1 .1 .1 .1)) ∙ candidate-covers _ _ (d .args .k) _ (d .args .list .now) _ _ (c .before .before .before .candidates-test .taken) (c .before .before .before .before .candidates .inv .0) _ _ _ (p .1 .1 .1 .0) (p .1 .0 .1) (p .0 .0) (p .0 .1) (is-ceiling (c .before .before)) (search needs) (h .inv .2))
+    (sym (listed-covers _ _ _ _ _ _ _ (p .1 .0 .1 .kind) (p .1 .1 .1 .1)) ∙ candidate-covers _ _ (d .args .k) _ (d .args .list .now) _ _ (c .before .before .before .candidates-test .taken) (c .before .before .before .before .candidates .inv .0) _ _ _ (p .1 .1 .1 .0) (p .1 .0 .1) (p .0 .0) (p .0 .1) (is-ceiling (c .before .before)) (c .loop-test .left) (h .inv .2))
 
 returns-3 : tie.Need-returns-3 Inv-loop μ-loop Inv-candidates μ-candidates
 returns-3 c =
     let d = c .before .before .before .before .before .before .before in
-    led-out (d .args .limits .now) _ (d .args .k) _ _ (used (c .before .before)) (sym (listed-covers _ _ _ _ _ _ _ (d .pre .1 .0 .1 .kind) (d .pre .1 .1 .1 .1)) ∙ (c .before .candidates .inv .0 ∙ any-end _ _ _ (search needs)))
+    led-out (d .args .limits .now) _ (d .args .k) _ _ (used (c .before .before)) (sym (listed-covers _ _ _ _ _ _ _ (d .pre .1 .0 .1 .kind) (d .pre .1 .1 .1 .1)) ∙ (c .before .candidates .inv .0 ∙ any-end _ _ _ (c .candidates-test .left)))
 
 pub leads-out-spec : {M : Type 1} → statement M
 leads-out-spec =

@@ -1,34 +1,34 @@
+use native.Mathlib.Omega.{arith}
 use Rattle.scopes.proofs.Standing.{stands-1, stands-2, stands-3, stands-4, stands-5, stands-6, stands-7, stands-8, stands-9, stands-none}
-use borrow.Author.Needs.{needs}
 use Rattle.scopes.proofs.heads.head_at.Statement.{statement}
 use Rattle.scopes.proofs.heads.head_at.Tie as tie
 
 add-next : tie.Need-add-next
-add-next c = search needs
+add-next c = record { fits = omega (arith, c .before .before .pre .1 .1 .1, c .before .before .pre .0 .rows) }
 
 add-behind : tie.Need-add-behind
-add-behind c = search needs
+add-behind c = record { fits = omega (arith, c .before .before .pre .1 .1 .1, c .before .before .pre .0 .rows) }
 
 add-last : tie.Need-add-last
-add-last c = search needs
+add-last c = record { fits = omega (arith, c .before .before .pre .1 .1 .1, c .before .before .pre .0 .rows) }
 
 num-requires : tie.Need-num-requires
-num-requires c κs = search needs
+num-requires c κs = c .before .before .pre .0
 
 num-requires-2 : tie.Need-num-requires-2
-num-requires-2 c κs = search needs
+num-requires-2 c κs = c .before .before .before .pre .0
 
 num-requires-3 : tie.Need-num-requires-3
-num-requires-3 c κs = search needs
+num-requires-3 c κs = c .before .before .before .before .pre .0
 
 rest-requires : tie.Need-rest-requires
-rest-requires c κs = search needs
+rest-requires c κs = c .before .before .before .before .before .pre
 
 tag-requires : tie.Need-tag-requires
-tag-requires c κs = search needs
+tag-requires c κs = c .before .before .before .before .before .before .pre .0
 
 num-requires-4 : tie.Need-num-requires-4
-num-requires-4 c κs = search needs
+num-requires-4 c κs = c .before .before .before .before .before .before .before .before .pre .0
 
 returns : tie.Need-returns
 returns c = stands-1 _ _ _ _ _ _ _ (c .before .tag .ensures) (c .before .before .before .before .before .num .ensures) (c .before .before .before .before .num2 .ensures) (c .before .before .before .num3 .ensures) (c .before .before .rest .ensures) (c .match .keys1)

@@ -1,42 +1,41 @@
 use native.Mathlib.Omega.{arith}
 use Prim.Native.Nat.{_+_}
 use Rattle.scopes.proofs.Ends.{rest-2, rest-3, rest-4, rest-5, rest-6, rest-none, num-word}
-use borrow.Author.Needs.{needs}
 use Rattle.scopes.proofs.layout.rest_row.Statement.{statement}
 use Rattle.scopes.proofs.layout.rest_row.Tie as tie
 
 add-next : tie.Need-add-next
-add-next c = search needs
+add-next c = record { fits = omega (arith, c .before .before .pre .1 .0, c .before .before .pre .0 .rows) }
 
 add-second : tie.Need-add-second
-add-second c = search needs
+add-second c = record { fits = omega (arith, c .before .before .pre .1 .0, c .before .before .pre .0 .rows) }
 
 add-third : tie.Need-add-third
-add-third c = search needs
+add-third c = record { fits = omega (arith, c .before .before .pre .1 .0, c .before .before .pre .0 .rows) }
 
 tag-requires : tie.Need-tag-requires
-tag-requires c κs = search needs
+tag-requires c κs = c .before .before .pre .0
 
 num-requires : tie.Need-num-requires
-num-requires c κs = search needs
+num-requires c κs = c .before .before .before .before .pre .0
 
 num-requires-2 : tie.Need-num-requires-2
-num-requires-2 c κs = search needs
+num-requires-2 c κs = c .before .before .before .before .before .pre .0
 
 add-result : tie.Need-add-result
 add-result c = omega (arith, c .num2 .ensures, num-word (c .before .before .before .before .before .before .args .ws .now) (c .before .before .before .before .before .before .args .s) (c .before .num .result) (λ i. c .before .before .before .before .before .shared-slice-known .given i .fits))
 
 num-requires-3 : tie.Need-num-requires-3
-num-requires-3 c κs = search needs
+num-requires-3 c κs = c .before .before .before .before .pre .0
 
 add-body : tie.Need-add-body
 add-body c = omega (arith, c .num3 .ensures, num-word (c .before .before .before .before .before .args .ws .now) (c .before .before .before .before .before .args .s) (c .before .before .before .before .before .args .r + 1) (λ i. c .before .before .before .before .shared-slice-known .given i .fits))
 
 entry-requires : tie.Need-entry-requires
-entry-requires c κs = search needs
+entry-requires c κs = tt
 
 num-requires-4 : tie.Need-num-requires-4
-num-requires-4 c κs = search needs
+num-requires-4 c κs = c .before .before .before .before .pre .0
 
 add-result-2 : tie.Need-add-result-2
 add-result-2 c = omega (arith, c .num4 .ensures, num-word (c .before .before .before .before .before .args .ws .now) (c .before .before .before .before .before .args .s) (c .before .before .before .before .before .args .r + 2) (λ i. c .before .before .before .before .shared-slice-known .given i .fits))

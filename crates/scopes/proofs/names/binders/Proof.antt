@@ -1,5 +1,6 @@
 use Prim.Native.Nat.{_≤_, _-_}
 use native.Mathlib.Omega.{arith}
+use native.Mathlib.Nat.{le-refl}
 use mathlib.Core.Path.{_≡_, refl, sym, _∙_, ap}
 use lib.ListN.{length, length-set, getD-replicate}
 use Rattle.model.specs.Words.{columns}
@@ -7,7 +8,6 @@ use Rattle.model.specs.Rows.{program}
 use Rattle.model.specs.Scopes.{binds, binds-name}
 use Rattle.model.proofs.Index.{first-end}
 use Rattle.scopes.proofs.Binding.{Binders, binders-set, binders-keep, binders-all, binds-no-name, binds-nothing}
-use borrow.Author.Needs.{needs}
 use Rattle.scopes.proofs.names.binders.Statement.{statement}
 use Rattle.scopes.proofs.names.binders.Tie as tie
 
@@ -18,77 +18,77 @@ abbrev μ-loop : tie.MeasureT-loop
 μ-loop ws s table₀ r₀ table r = r
 
 cast-table : tie.Need-cast-table Inv-loop μ-loop
-cast-table c = search needs
+cast-table c = omega (arith, c .before .before .pre .rows)
 
 loop-holds : tie.Need-loop-holds Inv-loop μ-loop
 unfolding program columns
 loop-holds c =
     let a = c .before .before .args in
-    (search needs, refl, λ n h. getD-replicate 512 n (a .s .rows) 0 (omega arith) ∙ sym (first-end (a .s .rows) (a .s .rows) (binds-name _ n) (omega arith)))
+    (le-refl _, refl, λ n h. getD-replicate 512 n (a .s .rows) 0 (omega (arith, h, c .before .before .pre .names)) ∙ sym (first-end (a .s .rows) (a .s .rows) (binds-name _ n) (le-refl _)))
 
 sub-r : tie.Need-sub-r Inv-loop μ-loop
-sub-r c = search needs
+sub-r c = omega (arith, c .loop-test .taken)
 
 num-requires : tie.Need-num-requires Inv-loop μ-loop
-num-requires c κs = search needs
+num-requires c κs = c .before .before .before .before .pre
 
 tag-requires : tie.Need-tag-requires Inv-loop μ-loop
-tag-requires c κs = search needs
+tag-requires c κs = c .before .before .before .before .before .before .before .pre
 
 binds-requires : tie.Need-binds-requires Inv-loop μ-loop
-binds-requires c κs = search needs
+binds-requires c κs = tt
 
 cast-table-2 : tie.Need-cast-table-2 Inv-loop μ-loop
-cast-table-2 c = search needs
+cast-table-2 c = omega (arith, c .before .before .before .before .before .before .before .loop .inv .0, c .before .before .before .before .before .before .before .before .before .before .pre .rows)
 
 mul-table : tie.Need-mul-table Inv-loop μ-loop
-mul-table c = search needs
+mul-table c = record { fits = omega (arith, c .before .before .before .if1 .taken, c .before .before .before .before .before .before .before .before .before .before .pre .names) }
 
 array-write-table : tie.Need-array-write-table Inv-loop μ-loop
-array-write-table c = search needs
+array-write-table c = omega (arith, c .before .before .before .if1 .taken, c .before .before .before .before .before .before .before .before .before .before .pre .names, c .before .before .before .before .before .before .before .loop .inv .1)
 
 loop-less : tie.Need-loop-less Inv-loop μ-loop
-loop-less c = search needs
+loop-less c = omega (arith, c .before .before .before .before .before .before .loop-test .taken)
 
 loop-again : tie.Need-loop-again Inv-loop μ-loop
 unfolding program columns
 loop-again c =
     let l = c .before .before .before .before .before .before .before .loop in (
-      omega arith,
+      omega (arith, l .inv .0),
       length-set (l .table) _ _ ∙ l .inv .1,
-      binders-set _ (l .r) (l .r - 1) _ (l .table) (omega arith) (omega arith) (c .before .before .before .before .before .num .ensures) (omega arith) (omega arith)
+      binders-set _ (l .r) (l .r - 1) _ (l .table) (omega (arith, c .before .before .before .before .before .before .loop-test .taken)) (omega (arith, c .before .before .before .before .before .before .loop-test .taken, l .inv .0)) (c .before .before .before .before .before .num .ensures) (omega (arith, l .inv .1, c .before .before .before .before .before .before .before .before .before .before .pre .names)) (c .before .before .before .if1 .taken)
           (ap binds (sym (c .before .before .tag .ensures)) ∙ (sym (c .before .binds .ensures) ∙ c .if2 .taken)) (l .inv .2),
     )
 
 loop-less-2 : tie.Need-loop-less-2 Inv-loop μ-loop
-loop-less-2 c = search needs
+loop-less-2 c = omega (arith, c .before .before .before .before .before .before .loop-test .taken)
 
 loop-again-2 : tie.Need-loop-again-2 Inv-loop μ-loop
 unfolding program columns
 loop-again-2 c =
     let l = c .before .before .before .before .before .before .before .loop in (
-      omega arith,
+      omega (arith, l .inv .0),
       l .inv .1,
-      binders-keep _ (l .r) (l .r - 1) (l .table) (omega arith) (omega arith)
+      binders-keep _ (l .r) (l .r - 1) (l .table) (omega (arith, c .before .before .before .before .before .before .loop-test .taken)) (omega (arith, c .before .before .before .before .before .before .loop-test .taken, l .inv .0))
           (λ m h. binds-nothing _ (l .r - 1) m (ap binds (sym (c .before .before .tag .ensures)) ∙ (sym (c .before .binds .ensures) ∙ c .if2 .left))) (l .inv .2),
     )
 
 loop-less-3 : tie.Need-loop-less-3 Inv-loop μ-loop
-loop-less-3 c = search needs
+loop-less-3 c = omega (arith, c .before .before .before .loop-test .taken)
 
 loop-again-3 : tie.Need-loop-again-3 Inv-loop μ-loop
 unfolding program columns
 loop-again-3 c =
     let l = c .before .before .before .before .loop in (
-      omega arith,
+      omega (arith, l .inv .0),
       l .inv .1,
-      binders-keep _ (l .r) (l .r - 1) (l .table) (omega arith) (omega arith)
+      binders-keep _ (l .r) (l .r - 1) (l .table) (omega (arith, c .before .before .before .loop-test .taken)) (omega (arith, c .before .before .before .loop-test .taken, l .inv .0))
           (λ m h. binds-no-name _ (l .r - 1) m _ (c .before .before .num .ensures) (c .if1 .left) h) (l .inv .2),
     )
 
 returns : tie.Need-returns Inv-loop μ-loop
 unfolding program columns
-returns c = let l = c .before .loop in record { binders = binders-all _ (l .r) (l .table) (omega arith) (l .inv .2) }
+returns c = let l = c .before .loop in record { binders = binders-all _ (l .r) (l .table) (c .loop-test .left) (l .inv .2) }
 
 pub binders-spec : {M : Type 1} → statement M
 binders-spec =

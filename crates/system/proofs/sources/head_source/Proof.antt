@@ -1,57 +1,57 @@
 use native.Mathlib.Omega.{arith}
-use borrow.Author.Needs.{needs}
+use mathlib.Core.Path.{sym, _∙_}
 use Rattle.system.proofs.Placed.{head-low}
 use Rattle.system.proofs.Sourced.{case-sourced, receive-sourced, rest-sourced}
 use Rattle.system.proofs.sources.head_source.Statement.{statement}
 use Rattle.system.proofs.sources.head_source.Tie as tie
 
 tag-requires : tie.Need-tag-requires
-tag-requires c κs = search needs
+tag-requires c κs = c .before .before .before .pre .0 .whole
 
 give-source-requires : tie.Need-give-source-requires
-give-source-requires c κs = search needs
+give-source-requires c κs = let p = c .before .before .before .before .before .pre in (p .0, (p .1 .1 .0, sym (c .before .tag .ensures) ∙ c .match .keys1))
 
 call-source-requires : tie.Need-call-source-requires
-call-source-requires c κs = search needs
+call-source-requires c κs = (c .before .before .before .before .before .pre .0, sym (c .before .tag .ensures) ∙ c .match .keys2)
 
 send-source-requires : tie.Need-send-source-requires
-send-source-requires c κs = search needs
+send-source-requires c κs = let p = c .before .before .before .before .before .pre in (p .0, (p .1 .0, sym (c .before .tag .ensures) ∙ c .match .keys3))
 
 spawn-source-requires : tie.Need-spawn-source-requires
-spawn-source-requires c κs = search needs
+spawn-source-requires c κs = let p = c .before .before .before .before .before .pre in (p .0, (p .1 .0, sym (c .before .tag .ensures) ∙ c .match .keys4))
 
 num-requires : tie.Need-num-requires
-num-requires c κs = search needs
+num-requires c κs = c .before .before .before .before .before .pre .0 .whole
 
 add-t10 : tie.Need-add-t10
-add-t10 c = let a = c .before .before .before .before .before .before in let l = head-low (a .pre .0) (a .args .at) _ (a .pre .1 .1 .1) (c .before .before .tag .ensures) in record { fits = omega arith }
+add-t10 c = let a = c .before .before .before .before .before .before in let l = head-low (a .pre .0) (a .args .at) _ (a .pre .1 .1 .1) (c .before .before .tag .ensures) in record { fits = omega (arith, l) }
 
 add-num : tie.Need-add-num
-add-num c = let a = c .before .before .before .before .before .before in let l = head-low (a .pre .0) (a .args .at) _ (a .pre .1 .1 .1) (c .before .before .tag .ensures) in record { fits = omega arith }
+add-num c = let a = c .before .before .before .before .before .before in let l = head-low (a .pre .0) (a .args .at) _ (a .pre .1 .1 .1) (c .before .before .tag .ensures) in record { fits = omega (arith, l) }
 
 num-requires-2 : tie.Need-num-requires-2
-num-requires-2 c κs = search needs
+num-requires-2 c κs = c .before .before .before .before .before .before .pre .0 .whole
 
 add-t13 : tie.Need-add-t13
-add-t13 c = let a = c .before .before .before .before .before in let l = head-low (a .pre .0) (a .args .at) _ (a .pre .1 .1 .1) (c .before .tag .ensures) in record { fits = omega arith }
+add-t13 c = let a = c .before .before .before .before .before in let l = head-low (a .pre .0) (a .args .at) _ (a .pre .1 .1 .1) (c .before .tag .ensures) in record { fits = omega (arith, l) }
 
 num-requires-3 : tie.Need-num-requires-3
-num-requires-3 c κs = search needs
+num-requires-3 c κs = c .before .before .before .before .before .pre .0 .whole
 
 behind-requires : tie.Need-behind-requires
-behind-requires c κs = search needs
+behind-requires c κs = let p = c .before .before .before .before .before .pre in (p .0, (p .1 .0, p .1 .1 .1))
 
 returns : tie.Need-returns
-returns c = search needs
+returns c = c .give-source .ensures
 
 returns-2 : tie.Need-returns-2
-returns-2 c = search needs
+returns-2 c = c .call-source .ensures
 
 returns-3 : tie.Need-returns-3
-returns-3 c = search needs
+returns-3 c = c .send-source .ensures
 
 returns-4 : tie.Need-returns-4
-returns-4 c = search needs
+returns-4 c = c .spawn-source .ensures
 
 returns-5 : tie.Need-returns-5
 returns-5 c = case-sourced _ _ _ _ _ (c .before .before .before .tag .ensures) _ _ (c .before .before .match .keys5) (c .before .num .ensures) (c .num2 .ensures)
