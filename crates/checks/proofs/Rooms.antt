@@ -15,7 +15,7 @@ use Rattle.model.specs.Letters.{letters}
 use Rattle.model.specs.Counters.{letter-keys}
 use Rattle.model.proofs.Logic.{and-left, and-right}
 use Rattle.counters.proofs.Keys.{product-most}
-use Rattle.checks.specs.Stages.{is-small}
+use Rattle.checks.specs.Stages.{within}
 
 -- of sizes up to these
 pub record Rooms (ws : List ℕ) (s : Sizes) (rows names constructors mails : ℕ) : Type 0 where
@@ -32,31 +32,31 @@ rooms ws s R N C M r v c m =
       keys = product-most (s .rows + 1) (s .constructors + 2) (R + 1) (C + 2) (omega arith) (omega arith);
     }
 
--- the test of a small message, by how far it goes
-module _ (s : Sizes) where
-  pub mails-decide : s .rows ≤ 64 → s .names ≤ 64 → s .constructors ≤ 8 → leb (s .mails) 64 ≡ is-small s
-  unfolding is-small
-  mails-decide r v c = rw (le-leb (s .rows) 64 r, le-leb (s .names) 64 v, le-leb (s .constructors) 8 c)
+-- the test of a message's sizes, by how far it goes
+module _ (R N C M : ℕ) (s : Sizes) where
+  pub mails-decide : s .rows ≤ R → s .names ≤ N → s .constructors ≤ C → leb (s .mails) M ≡ within R N C M s
+  unfolding within
+  mails-decide r v c = rw (le-leb (s .rows) R r, le-leb (s .names) N v, le-leb (s .constructors) C c)
 
-  pub constructors-decide : s .rows ≤ 64 → s .names ≤ 64 → 8 < s .constructors → leb (s .constructors) 8 ≡ is-small s
-  unfolding is-small
-  constructors-decide r v c = rw (le-leb (s .rows) 64 r, le-leb (s .names) 64 v, lt-leb (s .constructors) 8 c)
+  pub constructors-decide : s .rows ≤ R → s .names ≤ N → C < s .constructors → leb (s .constructors) C ≡ within R N C M s
+  unfolding within
+  constructors-decide r v c = rw (le-leb (s .rows) R r, le-leb (s .names) N v, lt-leb (s .constructors) C c)
 
-  pub names-decide : s .rows ≤ 64 → 64 < s .names → leb (s .names) 64 ≡ is-small s
-  unfolding is-small
-  names-decide r v = rw (le-leb (s .rows) 64 r, lt-leb (s .names) 64 v)
+  pub names-decide : s .rows ≤ R → N < s .names → leb (s .names) N ≡ within R N C M s
+  unfolding within
+  names-decide r v = rw (le-leb (s .rows) R r, lt-leb (s .names) N v)
 
-  pub rows-decide : 64 < s .rows → leb (s .rows) 64 ≡ is-small s
-  unfolding is-small
-  rows-decide r = rw (lt-leb (s .rows) 64 r)
+  pub rows-decide : R < s .rows → leb (s .rows) R ≡ within R N C M s
+  unfolding within
+  rows-decide r = rw (lt-leb (s .rows) R r)
 
   -- what it says
-  pub small-is : is-small s ≡ true → (s .rows ≤ 64) × (s .names ≤ 64) × (s .constructors ≤ 8) × (s .mails ≤ 64)
-  unfolding is-small
-  small-is h =
-      let behind = and-right (leb (s .rows) 64) _ h in
-      let last = and-right (leb (s .names) 64) _ behind in
-      (leb-true _ _ (and-left _ _ h), leb-true _ _ (and-left _ _ behind), leb-true _ _ (and-left _ _ last), leb-true _ _ (and-right (leb (s .constructors) 8) _ last))
+  pub within-is : within R N C M s ≡ true → (s .rows ≤ R) × (s .names ≤ N) × (s .constructors ≤ C) × (s .mails ≤ M)
+  unfolding within
+  within-is h =
+      let behind = and-right (leb (s .rows) R) _ h in
+      let last = and-right (leb (s .names) N) _ behind in
+      (leb-true _ _ (and-left _ _ h), leb-true _ _ (and-left _ _ behind), leb-true _ _ (and-left _ _ last), leb-true _ _ (and-right (leb (s .constructors) C) _ last))
 
 -- an array of zeros, as a function makes it (its length is a variable here: to count it out would take long)
 pub zeros : (n : ℕ) → (length {A = ℕ} (replicate n 0) ≡ n) × ((k : ℕ) → getD {A = ℕ} (replicate n 0) k 0 ≡ 0)

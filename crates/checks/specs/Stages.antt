@@ -21,9 +21,17 @@ use Rattle.evidence.specs.Whole.{Parts-whole}
 use Rattle.flow.specs.Branches.{Branches}
 use Rattle.counters.specs.Letters.{Letters, Named}
 
--- small in all that the scratch depends on
+-- no more than so many rows, names, constructors and mail entries
+unfoldable pub within : ℕ → ℕ → ℕ → ℕ → Sizes → Bool
+within rows names constructors mails s =
+    leb (s .rows) rows && (leb (s .names) names && (leb (s .constructors) constructors && leb (s .mails) mails))
+
+-- small, and middling, in all that the scratch depends on
 unfoldable pub is-small : Sizes → Bool
-is-small s = leb (s .rows) 64 && (leb (s .names) 64 && (leb (s .constructors) 8 && leb (s .mails) 64))
+is-small = within 64 64 8 64
+
+unfoldable pub is-middling : Sizes → Bool
+is-middling = within 256 256 16 64
 
 -- the message of these words and sizes
 unfoldable pub taken : List ℕ → Sizes → Message

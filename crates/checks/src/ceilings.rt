@@ -132,6 +132,13 @@ fn few_limits() -> [u16; 8192]
     [0u16; 8192]
 }
 
+// No limits yet: of up to 64 ceilings.
+fn some_limits() -> [u16; 32768]
+    ensures { λ r. ⌜ (length r ≡ 32768) × ((k : ℕ) → getD r k 0 ≡ 0) ⌝ }
+{
+    [0u16; 32768]
+}
+
 // No limits yet: of as many ceilings as there may be.
 fn no_limits() -> [u16; 131072]
     ensures { λ r. ⌜ (length r ≡ 131072) × ((k : ℕ) → getD r k 0 ≡ 0) ⌝ }
@@ -159,6 +166,41 @@ fn small_bounds(
 {
     let mut limits = few_limits();
     let mut pairs = [0u16; 12288];
+    limits_on(
+        ws,
+        s,
+        afters,
+        inners,
+        cases,
+        receives,
+        names,
+        index,
+        n,
+        &mut limits,
+        &mut pairs,
+    )
+}
+
+// Refusals 11 to 13 of up to 64 ceilings.
+fn middle_bounds(
+    ws: &[u16],
+    s: Sizes,
+    afters: &[u16],
+    inners: &[u16],
+    cases: &[u8],
+    receives: &[u8],
+    names: &[u16],
+    index: &[u16],
+    n: usize,
+) -> Verdict
+    requires { ⌜ Counted (now ws) s (now afters) (now inners) (now cases) (now receives) (now names) (now index) ⌝ }
+    requires { ⌜ n ≡ counter-count (program (now ws) s) (tables (now ws) s) ⌝ }
+    requires { ⌜ In-form (now ws) s n ⌝ }
+    requires { ⌜ s .bounds ≤ 64 ⌝ }
+    ensures { λ v. ⌜ v ≡ answer (limits-on (now (ws .entry)) s n) ⌝ }
+{
+    let mut limits = some_limits();
+    let mut pairs = [0u16; 49152];
     limits_on(
         ws,
         s,
@@ -208,6 +250,32 @@ fn large_bounds(
     )
 }
 
+// Refusals 11 to 13 of ceilings in form.
+fn limits_verdict(
+    ws: &[u16],
+    s: Sizes,
+    afters: &[u16],
+    inners: &[u16],
+    cases: &[u8],
+    receives: &[u8],
+    names: &[u16],
+    index: &[u16],
+    n: usize,
+) -> Verdict
+    requires { ⌜ Counted (now ws) s (now afters) (now inners) (now cases) (now receives) (now names) (now index) ⌝ }
+    requires { ⌜ n ≡ counter-count (program (now ws) s) (tables (now ws) s) ⌝ }
+    requires { ⌜ In-form (now ws) s n ⌝ }
+    ensures { λ v. ⌜ v ≡ answer (limits-on (now (ws .entry)) s n) ⌝ }
+{
+    if s.bounds <= 16 {
+        return small_bounds(ws, s, afters, inners, cases, receives, names, index, n);
+    }
+    if s.bounds <= 64 {
+        return middle_bounds(ws, s, afters, inners, cases, receives, names, index, n);
+    }
+    large_bounds(ws, s, afters, inners, cases, receives, names, index, n)
+}
+
 // Refusals 10 to 13: ceilings in form, the start, bads met, leaks.
 pub fn bounds_verdict(
     ws: &[u16],
@@ -227,8 +295,5 @@ pub fn bounds_verdict(
     if !is_safe(form) {
         return form;
     }
-    if s.bounds <= 16 {
-        return small_bounds(ws, s, afters, inners, cases, receives, names, index, n);
-    }
-    large_bounds(ws, s, afters, inners, cases, receives, names, index, n)
+    limits_verdict(ws, s, afters, inners, cases, receives, names, index, n)
 }

@@ -65,6 +65,25 @@ fn small_tables(
     tables_on(ws, s, afters, inners, &mut cells, cases, receives)
 }
 
+// Of a middling message.
+fn middle_tables(
+    ws: &[u16],
+    s: Sizes,
+    afters: &[u16],
+    inners: &[u16],
+    cases: &mut [u8],
+    receives: &mut [u8],
+) -> Verdict
+    requires { ⌜ Formed (now ws) s (now afters) (now inners) ⌝ }
+    requires { ⌜ (s .rows ≤ length (now cases)) × ((s .rows / 2 + 1) * s .mails ≤ length (now receives)) ⌝ }
+    requires { ⌜ (s .rows ≤ 256) × (s .names ≤ 256) ⌝ }
+    ensures { λ v. ⌜ v ≡ answer (tables-check (now (ws .entry)) s) ⌝ }
+    ensures { λ v. ⌜ (is-safe v ≡ true → Branches (program (now (ws .entry)) s) (tables (now (ws .entry)) s) (now (cases .exit)) (now (receives .exit))) ⌝ }
+{
+    let mut cells = [0u8; 131072];
+    tables_on(ws, s, afters, inners, &mut cells, cases, receives)
+}
+
 // Of any message.
 fn large_tables(
     ws: &[u16],
@@ -100,6 +119,11 @@ pub fn tables_verdict(
     if s.rows <= 64 {
         if s.names <= 64 {
             return small_tables(ws, s, afters, inners, cases, receives);
+        }
+    }
+    if s.rows <= 256 {
+        if s.names <= 256 {
+            return middle_tables(ws, s, afters, inners, cases, receives);
         }
     }
     large_tables(ws, s, afters, inners, cases, receives)

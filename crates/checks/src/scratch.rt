@@ -1,4 +1,4 @@
-// The scratch of a message: as much as it needs, in two sizes, so that a small message does not pay for a large one.
+// The scratch of a message: as much as it needs, in three sizes, so that a small message does not pay for a large one.
 use crate::stages::evidence_on;
 use model::Sizes;
 use model::Verdict;
@@ -7,13 +7,20 @@ ghost use Prim.Native.Nat.{_≤_};
 ghost use lib.ListN.{length};
 ghost use Rattle.model.specs.Verify.{answer};
 ghost use Rattle.listing.specs.Space.{words-after};
-ghost use Rattle.checks.specs.Stages.{evidence-on, Formed, is-small};
+ghost use Rattle.checks.specs.Stages.{evidence-on, Formed, is-small, is-middling};
 
 // Small in all that the scratch depends on.
 pub fn is_small(s: Sizes) -> bool
     ensures { λ b. ⌜ b ≡ is-small s ⌝ }
 {
     s.rows <= 64 && (s.names <= 64 && (s.constructors <= 8 && s.mails <= 64))
+}
+
+// Middling in all that the scratch depends on.
+pub fn is_middling(s: Sizes) -> bool
+    ensures { λ b. ⌜ b ≡ is-middling s ⌝ }
+{
+    s.rows <= 256 && (s.names <= 256 && (s.constructors <= 16 && s.mails <= 64))
 }
 
 // Refusals 6 to 14 of a small message.
@@ -27,6 +34,36 @@ fn small_evidence(ws: &[u16], s: Sizes, afters: &[u16], inners: &[u16], lent: &m
     let mut receives = [0u8; 2112];
     let mut names = [0u16; 640];
     let mut index = [0u16; 651];
+    evidence_on(
+        ws,
+        s,
+        afters,
+        inners,
+        &mut cases,
+        &mut receives,
+        &mut names,
+        &mut index,
+        lent,
+    )
+}
+
+// Refusals 6 to 14 of a middling message.
+fn middle_evidence(
+    ws: &[u16],
+    s: Sizes,
+    afters: &[u16],
+    inners: &[u16],
+    lent: &mut [u32],
+) -> Verdict
+    requires { ⌜ Formed (now ws) s (now afters) (now inners) ⌝ }
+    requires { ⌜ (s .rows ≤ 256) × (s .names ≤ 256) × (s .constructors ≤ 16) × (s .mails ≤ 64) ⌝ }
+    ensures { λ v. ⌜ v ≡ answer (evidence-on (now (ws .entry)) s (length (now (lent .entry)))) ⌝ }
+    ensures { λ v. ⌜ now (lent .exit) ≡ words-after v (now (ws .entry)) s (now (lent .entry)) ⌝ }
+{
+    let mut cases = [0u8; 256];
+    let mut receives = [0u8; 8256];
+    let mut names = [0u16; 4608];
+    let mut index = [0u16; 4627];
     evidence_on(
         ws,
         s,
@@ -77,6 +114,9 @@ pub fn evidence_verdict(
 {
     if is_small(s) {
         return small_evidence(ws, s, afters, inners, lent);
+    }
+    if is_middling(s) {
+        return middle_evidence(ws, s, afters, inners, lent);
     }
     large_evidence(ws, s, afters, inners, lent)
 }

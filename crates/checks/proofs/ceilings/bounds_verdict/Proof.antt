@@ -27,21 +27,13 @@ returns : tie.Need-returns
 returns c =
     ends _ (limits-on _ _ _) _ _ (c .before .before .bound-check .ensures) (c .before .is-safe .ensures) (not-true _ (c .if1 .taken)) ∙ sym (ap answer (bounds-is _ _ _ (c .before .before .before .counter-count .ensures)))
 
-small-bounds-requires : tie.Need-small-bounds-requires
-small-bounds-requires c κs =
-    (c .before .before .before .before .before .before .before .before .before .before .before .before .before .pre, (c .before .before .before .before .before .counter-count .ensures, (bound-none _ _ _ .0 (passed _ _ _ (bound-refuses _ _ _) (c .before .before .before .before .bound-check .ensures) (c .before .before .before .is-safe .ensures) (not-false _ (c .before .before .if1 .left))), c .if2 .taken)))
+limits-verdict-requires : tie.Need-limits-verdict-requires
+limits-verdict-requires c κs =
+    (c .before .before .before .before .before .before .before .before .before .before .before .pre, (c .before .before .before .counter-count .ensures, bound-none _ _ _ .0 (passed _ _ _ (bound-refuses _ _ _) (c .before .before .bound-check .ensures) (c .before .is-safe .ensures) (not-false _ (c .if1 .left)))))
 
 returns-2 : tie.Need-returns-2
 returns-2 c =
-    goes-on _ _ _ (passed _ _ _ (bound-refuses _ _ _) (c .before .before .before .before .before .bound-check .ensures) (c .before .before .before .before .is-safe .ensures) (not-false _ (c .before .before .before .if1 .left))) (c .small-bounds .ensures) ∙ sym (ap answer (bounds-is _ _ _ (c .before .before .before .before .before .before .counter-count .ensures)))
-
-large-bounds-requires : tie.Need-large-bounds-requires
-large-bounds-requires c κs =
-    (c .before .before .before .before .before .before .before .before .before .before .before .before .before .pre, (c .before .before .before .before .before .counter-count .ensures, bound-none _ _ _ .0 (passed _ _ _ (bound-refuses _ _ _) (c .before .before .before .before .bound-check .ensures) (c .before .before .before .is-safe .ensures) (not-false _ (c .before .before .if1 .left)))))
-
-returns-3 : tie.Need-returns-3
-returns-3 c =
-    goes-on _ _ _ (passed _ _ _ (bound-refuses _ _ _) (c .before .before .before .before .before .bound-check .ensures) (c .before .before .before .before .is-safe .ensures) (not-false _ (c .before .before .before .if1 .left))) (c .large-bounds .ensures) ∙ sym (ap answer (bounds-is _ _ _ (c .before .before .before .before .before .before .counter-count .ensures)))
+    goes-on _ _ _ (passed _ _ _ (bound-refuses _ _ _) (c .before .before .before .bound-check .ensures) (c .before .before .is-safe .ensures) (not-false _ (c .before .if1 .left))) (c .limits-verdict .ensures) ∙ sym (ap answer (bounds-is _ _ _ (c .before .before .before .before .counter-count .ensures)))
 
 pub bounds-verdict-spec : {M : Type 1} → statement M
 bounds-verdict-spec =
@@ -51,7 +43,5 @@ bounds-verdict-spec =
     bound-check-requires
     is-safe-requires
     returns
-    small-bounds-requires
-    returns-2
-    large-bounds-requires
-    returns-3)
+    limits-verdict-requires
+    returns-2)

@@ -1,0 +1,32 @@
+use native.Mathlib.Omega.{arith}
+use borrow.Author.Needs.{needs}
+use Rattle.checks.proofs.ceilings.middle_bounds.Statement.{statement}
+use Rattle.checks.proofs.ceilings.middle_bounds.Tie as tie
+
+some-limits-requires : tie.Need-some-limits-requires
+some-limits-requires c κs = search needs
+
+slice-aggregate-limits-on : tie.Need-slice-aggregate-limits-on
+slice-aggregate-limits-on c = search needs
+
+slice-aggregate-limits-on-2 : tie.Need-slice-aggregate-limits-on-2
+slice-aggregate-limits-on-2 c = search needs
+
+limits-on-requires : tie.Need-limits-on-requires
+limits-on-requires c κs =
+    let o = c .before .before .before .before .before .before .before .before .before .before in
+    let z = c .before .before .some-limits .ensures in
+    (o .pre .0, (o .pre .1 .0, (o .pre .1 .1 .0, (z .1, (omega (arith, z .0, o .pre .1 .1 .1), omega (arith, o .pre .1 .1 .1))))))
+
+returns : tie.Need-returns
+returns c = search needs
+
+pub middle-bounds-spec : {M : Type 1} → statement M
+middle-bounds-spec =
+    tie.close
+    (tie.spec
+    some-limits-requires
+    slice-aggregate-limits-on
+    slice-aggregate-limits-on-2
+    limits-on-requires
+    returns)
