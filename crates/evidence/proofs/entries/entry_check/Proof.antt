@@ -1,6 +1,6 @@
-use Prim.Native.Nat.{_+_}
+use Prim.Native.Nat.{_+_, zero-le}
+use native.Mathlib.Nat.{le-refl}
 use native.Mathlib.Omega.{arith}
-use borrow.Author.Needs.{needs}
 use Rattle.evidence.specs.declared.entries.Table.the-variants.{Flow, Mail, States}
 use Rattle.evidence.proofs.Tables.{list-held, Searched, flow-refused, mail-refused, states-refused, all-passed}
 use Rattle.evidence.proofs.entries.entry_check.Statement.{statement}
@@ -17,44 +17,44 @@ states : (c : tie.After-first-misplaced3) → Searched (c .before .before .befor
 states c = record { list = c .before .list3 .ensures; found = c .first-misplaced3 .ensures }
 
 list-requires : tie.Need-list-requires
-list-requires c κs = search needs
+list-requires c κs = (c .before .pre .limits, zero-le)
 
 first-misplaced-requires : tie.Need-first-misplaced-requires
 first-misplaced-requires c κs =
-    let o = c .before .before in let a = o .args in (o .pre .program, list-held (a .ws .now) (a .s) (a .s .flows) 0 _ (o .pre) (c .list .ensures) (search needs) .0)
+    let o = c .before .before in let a = o .args in (o .pre .program, list-held (a .ws .now) (a .s) (a .s .flows) 0 _ (o .pre) (c .list .ensures) (omega arith) .0)
 
 add-at : tie.Need-add-at
-add-at c = let o = c .before .before .before .before .before .before in let a = o .args in omega (arith, list-held (a .ws .now) (a .s) (a .s .flows) 0 _ (o .pre) (c .before .before .before .before .list .ensures) (search needs), o .good, c .before .if1 .taken)
+add-at c = let o = c .before .before .before .before .before .before in let a = o .args in omega (arith, list-held (a .ws .now) (a .s) (a .s .flows) 0 _ (o .pre) (c .before .before .before .before .list .ensures) (omega arith), o .good, c .before .if1 .taken)
 
 returns : tie.Need-returns
 returns c = flow-refused _ _ _ _ (flow (c .before .before .before)) (c .before .if1 .taken)
 
 list-requires-2 : tie.Need-list-requires-2
-list-requires-2 c κs = search needs
+list-requires-2 c κs = (c .before .before .before .before .before .pre .limits, omega arith)
 
 first-misplaced-requires-2 : tie.Need-first-misplaced-requires-2
 first-misplaced-requires-2 c κs =
-    let o = c .before .before .before .before .before .before in let a = o .args in (o .pre .program, list-held (a .ws .now) (a .s) (a .s .mails) (a .s .flows) _ (o .pre) (c .list2 .ensures) (search needs) .0)
+    let o = c .before .before .before .before .before .before in let a = o .args in (o .pre .program, list-held (a .ws .now) (a .s) (a .s .mails) (a .s .flows) _ (o .pre) (c .list2 .ensures) (omega arith) .0)
 
 add-at-2 : tie.Need-add-at-2
-add-at-2 c = let o = c .before .before .before .before .before .before .before .before .before .before in let a = o .args in omega (arith, list-held (a .ws .now) (a .s) (a .s .mails) (a .s .flows) _ (o .pre) (c .before .before .before .before .list2 .ensures) (search needs), o .good, c .before .if2 .taken)
+add-at-2 c = let o = c .before .before .before .before .before .before .before .before .before .before in let a = o .args in omega (arith, list-held (a .ws .now) (a .s) (a .s .mails) (a .s .flows) _ (o .pre) (c .before .before .before .before .list2 .ensures) (omega arith), o .good, c .before .if2 .taken)
 
 returns-2 : tie.Need-returns-2
 returns-2 c =
     mail-refused _ _ _ _ (flow (c .before .before .before .before .before .before .before)) _ _ (c .before .before .before .before .before .if1 .left) (mail (c .before .before .before)) (c .before .if2 .taken)
 
 add-list : tie.Need-add-list
-add-list c = search needs
+add-list c = let l = c .before .before .before .before .before .before .before .before .before .before .pre .limits in record { fits = omega (arith, l .flows, l .mails) }
 
 list-requires-3 : tie.Need-list-requires-3
-list-requires-3 c κs = search needs
+list-requires-3 c κs = (c .before .before .before .before .before .before .before .before .before .before .pre .limits, le-refl _)
 
 first-misplaced-requires-3 : tie.Need-first-misplaced-requires-3
 first-misplaced-requires-3 c κs =
-    let o = c .before .before .before .before .before .before .before .before .before .before .before in let a = o .args in (o .pre .program, list-held (a .ws .now) (a .s) (a .s .states) (a .s .flows + a .s .mails) _ (o .pre) (c .list3 .ensures) (search needs) .0)
+    let o = c .before .before .before .before .before .before .before .before .before .before .before in let a = o .args in (o .pre .program, list-held (a .ws .now) (a .s) (a .s .states) (a .s .flows + a .s .mails) _ (o .pre) (c .list3 .ensures) (omega arith) .0)
 
 add-at-3 : tie.Need-add-at-3
-add-at-3 c = let o = c .before .before .before .before .before .before .before .before .before .before .before .before .before .before .before in let a = o .args in omega (arith, list-held (a .ws .now) (a .s) (a .s .states) (a .s .flows + a .s .mails) _ (o .pre) (c .before .before .before .before .list3 .ensures) (search needs), o .good, c .before .if3 .taken)
+add-at-3 c = let o = c .before .before .before .before .before .before .before .before .before .before .before .before .before .before .before in let a = o .args in omega (arith, list-held (a .ws .now) (a .s) (a .s .states) (a .s .flows + a .s .mails) _ (o .pre) (c .before .before .before .before .list3 .ensures) (omega arith), o .good, c .before .if3 .taken)
 
 returns-3 : tie.Need-returns-3
 returns-3 c =

@@ -6,10 +6,10 @@ use Rattle.flow.proofs.branches.fill_branches.Statement.{statement}
 use Rattle.flow.proofs.branches.fill_branches.Tie as tie
 
 mul-cells : tie.Need-mul-cells
-mul-cells c = let top = c .before .before .before .before .before .before .pre .0 .whole .rows in omega arith
+mul-cells c = omega (arith, c .before .before .before .before .before .before .pre .0 .whole .rows)
 
 clear-requires : tie.Need-clear-requires
-clear-requires c κs = search needs
+clear-requires c κs = c .before .before .before .before .before .before .before .pre .1 .0
 
 fill-codes-requires : tie.Need-fill-codes-requires
 fill-codes-requires c κs = let b = c .before .before .before .before .before .before .before .before .before .before .before in
@@ -17,7 +17,7 @@ fill-codes-requires c κs = let b = c .before .before .before .before .before .b
     (b .pre .0, (omega (arith, b .pre .1 .0), zeros-clear _ _ _ refl (c .before .before .before .clear .ensures)))
 
 fill-heads-requires : tie.Need-fill-heads-requires
-fill-heads-requires c κs = search needs
+fill-heads-requires c κs = let p = c .before .before .before .before .before .before .before .before .before .before .before .before .before .before .before .before .before .pre in (p .0, (c .before .before .before .before .before .fill-codes .ensures, p .1 .1))
 
 same-length : tie.Need-same-length
 same-length c = search needs
@@ -29,7 +29,7 @@ same-length-3 : tie.Need-same-length-3
 same-length-3 c = search needs
 
 returns : tie.Need-returns
-returns c = search needs
+returns c = c .before .before .before .before .fill-heads .ensures
 
 pub fill-branches-spec : {M : Type 1} → statement M
 fill-branches-spec = tie.close (tie.spec mul-cells clear-requires fill-codes-requires fill-heads-requires same-length same-length-2 same-length-3 returns)

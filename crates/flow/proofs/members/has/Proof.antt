@@ -17,7 +17,7 @@ loop-holds : tie.Need-loop-holds Inv-loop μ-loop
 loop-holds c = left-all _ _ _ _ _ _
 
 sub-mid : tie.Need-sub-mid Inv-loop μ-loop
-sub-mid c = omega arith
+sub-mid c = omega (arith, c .loop-test .taken)
 
 add-mid : tie.Need-add-mid Inv-loop μ-loop
 add-mid c = omega arith
@@ -38,7 +38,7 @@ middle c = record {
   up = c .before .before .before .before .before .pre;
   still = c .before .before .before .loop .inv;
   from = omega arith;
-  upto = omega arith;
+  upto = omega (arith, c .before .before .loop-test .taken);
   first = c .before .column .ensures;
   second = c .column2 .ensures;
 }
@@ -47,13 +47,13 @@ add-lo : tie.Need-add-lo Inv-loop μ-loop
 add-lo c = omega arith
 
 loop-less : tie.Need-loop-less Inv-loop μ-loop
-loop-less c = omega arith
+loop-less c = omega (arith, c .before .before .before .loop-test .taken)
 
 loop-again : tie.Need-loop-again Inv-loop μ-loop
 loop-again c = left-up (middle (c .before)) (inl (c .if1 .taken))
 
 loop-less-2 : tie.Need-loop-less-2 Inv-loop μ-loop
-loop-less-2 c = omega arith
+loop-less-2 c = omega (arith, c .before .before .before .before .loop-test .taken)
 
 loop-again-2 : tie.Need-loop-again-2 Inv-loop μ-loop
 loop-again-2 c = left-down (middle (c .before .before)) (inl (c .if2 .taken))
@@ -62,19 +62,19 @@ add-lo-2 : tie.Need-add-lo-2 Inv-loop μ-loop
 add-lo-2 c = omega arith
 
 loop-less-3 : tie.Need-loop-less-3 Inv-loop μ-loop
-loop-less-3 c = omega arith
+loop-less-3 c = omega (arith, c .before .before .before .before .before .loop-test .taken)
 
 loop-again-3 : tie.Need-loop-again-3 Inv-loop μ-loop
-loop-again-3 c = left-up (middle (c .before .before .before)) (inr (omega arith, c .if3 .taken))
+loop-again-3 c = left-up (middle (c .before .before .before)) (inr (omega (arith, c .before .before .if1 .left, c .before .if2 .left), c .if3 .taken))
 
 loop-less-4 : tie.Need-loop-less-4 Inv-loop μ-loop
-loop-less-4 c = omega arith
+loop-less-4 c = omega (arith, c .before .before .before .before .before .before .loop-test .taken)
 
 loop-again-4 : tie.Need-loop-again-4 Inv-loop μ-loop
-loop-again-4 c = left-down (middle (c .before .before .before .before)) (inr (omega arith, c .if4 .taken))
+loop-again-4 c = left-down (middle (c .before .before .before .before)) (inr (omega (arith, c .before .before .before .if1 .left, c .before .before .if2 .left), c .if4 .taken))
 
 returns : tie.Need-returns Inv-loop μ-loop
-returns c = left-found (middle (c .before .before .before .before)) (omega arith) (omega arith)
+returns c = left-found (middle (c .before .before .before .before)) (omega (arith, c .before .before .before .if1 .left, c .before .before .if2 .left)) (omega (arith, c .before .if3 .left, c .if4 .left))
 
 returns-2 : tie.Need-returns-2 Inv-loop μ-loop
 returns-2 c = left-none (c .loop-test .left) (c .before .loop .inv)

@@ -223,7 +223,7 @@ case-entered t c =
     (branches-25 _ _ _ _ (c .before .before .if1 .left) ∙ yes-fits _ (sym (c .before .is-branch-count .ensures) ∙ c .if2 .taken))
 
 case-branches-branches-requires : (t : ℕ) → case-branches-lts.Need-branches-requires (case-branches-claims t) (case-branches-at t) case-branches-reads.Post
-case-branches-branches-requires t c κs = let w = case-entered t c in (omega arith, (search needs, omega arith))
+case-branches-branches-requires t c κs = let w = case-entered t c in (omega (arith, w .0, c .before .before .before .before .before .before .pre .0), (c .before .before .before .before .before .before .pre .1 .0, omega (arith, w .0)))
 
 case-branches-returns-2 : (t : ℕ) → case-branches-lts.Need-returns-2 (case-branches-claims t) (case-branches-at t) case-branches-reads.Post
 case-branches-returns-2 t c = c .branches .ensures ∙ sym (case-entered t (c .before) .1)
@@ -255,22 +255,22 @@ receive-follows t c =
 lead-follows : (t : ℕ) (c : expression-lts.Else6 (expression-claims t) (expression-at t) expression-reads.Post) → let a = c .before .before .before .before .before .before .before .before .args in let p = program (a .ws .now) (a .s) in (a .r < a .s .rows) × (from p (expression ∷ []) (a .r) ≡ from p (lead (kind (tag p (a .r))) ++ expression ∷ []) (a .r + 1))
 lead-follows t c =
     let e = c .before .before .before .before .before .tag .ensures in
-    takes-row _ _ expression _ _ _ _ refl (c .before .before .before .before .before .before .num .ensures) (bound-says _ _ _ _ (omega arith) (omega arith) ∙ yes-fits _ (lt-ltb _ _ (c .if6 .left)))
+    takes-row _ _ expression _ _ _ _ refl (c .before .before .before .before .before .before .num .ensures) (bound-says _ _ _ _ (omega (arith, e, c .before .before .before .if4 .left)) (omega (arith, e, c .before .before .if5 .taken)) ∙ yes-fits _ (lt-ltb _ _ (c .if6 .left)))
 
 expression-case-branches-requires : (t : ℕ) → expression-lts.Need-case-branches-requires (expression-claims t) (expression-at t) expression-reads.Post
-expression-case-branches-requires t c κs = let w = case-follows t c in (omega arith, (search needs, omega arith))
+expression-case-branches-requires t c κs = let w = case-follows t c in (omega (arith, w .0, c .before .before .before .before .before .before .pre .0), (c .before .before .before .before .before .before .pre .1 .0, omega (arith, w .0)))
 
 expression-is-branch-count-requires : (t : ℕ) → expression-lts.Need-is-branch-count-requires (expression-claims t) (expression-at t) expression-reads.Post
 expression-is-branch-count-requires t c κs = search needs
 
 expression-branches-requires : (t : ℕ) → expression-lts.Need-branches-requires (expression-claims t) (expression-at t) expression-reads.Post
-expression-branches-requires t c κs = let w = receive-follows t c in (omega arith, (search needs, omega arith))
+expression-branches-requires t c κs = let w = receive-follows t c in (omega (arith, w .0, c .before .before .before .before .before .before .pre .0), (c .before .before .before .before .before .before .pre .1 .0, omega (arith, w .0)))
 
 expression-returns : (t : ℕ) → expression-lts.Need-returns (expression-claims t) (expression-at t) expression-reads.Post
-expression-returns t c = let e = c .before .before .before .before .before .tag .ensures in refuses-row _ _ expression _ _ _ (c .before .before .before .before .before .tag .ensures) (c .before .before .before .before .before .before .num .ensures) (bound-says _ _ _ _ (omega arith) (omega arith) ∙ no-fits _ (le-ltb _ _ (c .if6 .taken)))
+expression-returns t c = let e = c .before .before .before .before .before .tag .ensures in refuses-row _ _ expression _ _ _ (c .before .before .before .before .before .tag .ensures) (c .before .before .before .before .before .before .num .ensures) (bound-says _ _ _ _ (omega (arith, c .before .before .before .if4 .left)) (omega (arith, c .before .before .if5 .taken)) ∙ no-fits _ (le-ltb _ _ (c .if6 .taken)))
 
 expression-lead-requires : (t : ℕ) → expression-lts.Need-lead-requires (expression-claims t) (expression-at t) expression-reads.Post
-expression-lead-requires t c κs = let w = lead-follows t c in (omega arith, (search needs, w .0))
+expression-lead-requires t c κs = let w = lead-follows t c in (omega (arith, w .0, c .before .before .before .before .before .before .before .before .pre .0), (c .before .before .before .before .before .before .before .before .pre .1 .0, w .0))
 
 expression-enum-known-q : (t : ℕ) → expression-lts.Need-enum-known-q (expression-claims t) (expression-at t) expression-reads.Post
 expression-enum-known-q t c = search needs
@@ -279,7 +279,7 @@ expression-expression-requires : (t : ℕ) → expression-lts.Need-expression-re
 expression-expression-requires t c κs =
     let w = lead-follows t (c .before .before .before .before) in
     let a = c .before .before .before .before .before .before .before .before .before .before .before .before .args in
-    let v = past-upto (a .ws .now) (a .s) (lead _) _ (a .r + 1) _ (omega arith) (c .before .before .before .lead .ensures) (c .before .q .given .1) in
+    let v = past-upto (a .ws .now) (a .s) (lead _) _ (a .r + 1) _ (omega (arith, w .0)) (c .before .before .before .lead .ensures) (c .before .q .given .1) in
     (omega arith, (search needs, v .1))
 
 expression-enum-known-q-2 : (t : ℕ) → expression-lts.Need-enum-known-q-2 (expression-claims t) (expression-at t) expression-reads.Post
@@ -313,25 +313,25 @@ expression-returns-9 t c =
     then-wrong _ (lead _) (expression ∷ []) _ _ _ (c .before .before .before .lead .ensures) (c .before .q2 .given .1) ∙ sym (lead-follows t (c .before .before .before .before) .1)
 
 expression-returns-10 : (t : ℕ) → expression-lts.Need-returns-10 (expression-claims t) (expression-at t) expression-reads.Post
-expression-returns-10 t c = refuses-row _ _ expression _ _ _ (c .before .before .before .before .tag .ensures) (c .before .before .before .before .before .num .ensures) (no-head-says _ _ _ _ (λ a. omega arith))
+expression-returns-10 t c = refuses-row _ _ expression _ _ _ (c .before .before .before .before .tag .ensures) (c .before .before .before .before .before .num .ensures) (no-head-says _ _ _ _ (λ a. omega (arith, c .before .if5 .left, c .before .before .before .match .rest)))
 
 expression-returns-11 : (t : ℕ) → expression-lts.Need-returns-11 (expression-claims t) (expression-at t) expression-reads.Post
-expression-returns-11 t c = refuses-row _ _ expression _ _ _ (c .before .before .before .before .before .before .tag .ensures) (c .before .before .before .before .before .before .before .num .ensures) (no-head-says _ _ _ _ (λ a. omega arith))
+expression-returns-11 t c = refuses-row _ _ expression _ _ _ (c .before .before .before .before .before .before .tag .ensures) (c .before .before .before .before .before .before .before .num .ensures) (no-head-says _ _ _ _ (λ a. omega (arith, c .before .before .before .if5 .left, c .before .before .before .before .before .match .rest)))
 
 expression-returns-12 : (t : ℕ) → expression-lts.Need-returns-12 (expression-claims t) (expression-at t) expression-reads.Post
-expression-returns-12 t c = refuses-row _ _ expression _ _ _ (c .before .before .before .before .before .before .before .before .tag .ensures) (c .before .before .before .before .before .before .before .before .before .num .ensures) (no-head-says _ _ _ _ (λ a. omega arith))
+expression-returns-12 t c = refuses-row _ _ expression _ _ _ (c .before .before .before .before .before .before .before .before .tag .ensures) (c .before .before .before .before .before .before .before .before .before .num .ensures) (no-head-says _ _ _ _ (λ a. omega (arith, c .before .before .before .before .before .if5 .left, c .before .before .before .before .before .before .before .match .rest)))
 
 expression-returns-13 : (t : ℕ) → expression-lts.Need-returns-13 (expression-claims t) (expression-at t) expression-reads.Post
-expression-returns-13 t c = refuses-row _ _ expression _ _ _ (c .before .before .tag .ensures) (c .before .before .before .num .ensures) (no-head-says _ _ _ _ (λ a. omega arith))
+expression-returns-13 t c = refuses-row _ _ expression _ _ _ (c .before .before .tag .ensures) (c .before .before .before .num .ensures) (no-head-says _ _ _ _ (λ a. omega (arith, a, c .if4 .taken, c .before .match .rest)))
 
 expression-returns-14 : (t : ℕ) → expression-lts.Need-returns-14 (expression-claims t) (expression-at t) expression-reads.Post
-expression-returns-14 t c = refuses-row _ _ expression _ _ _ (c .before .before .before .before .before .tag .ensures) (c .before .before .before .before .before .before .num .ensures) (no-head-says _ _ _ _ (λ a. omega arith))
+expression-returns-14 t c = refuses-row _ _ expression _ _ _ (c .before .before .before .before .before .tag .ensures) (c .before .before .before .before .before .before .num .ensures) (no-head-says _ _ _ _ (λ a. omega (arith, c .before .before .if5 .left, c .before .before .before .before .match .rest)))
 
 expression-returns-15 : (t : ℕ) → expression-lts.Need-returns-15 (expression-claims t) (expression-at t) expression-reads.Post
-expression-returns-15 t c = refuses-row _ _ expression _ _ _ (c .before .before .before .before .before .before .before .tag .ensures) (c .before .before .before .before .before .before .before .before .num .ensures) (no-head-says _ _ _ _ (λ a. omega arith))
+expression-returns-15 t c = refuses-row _ _ expression _ _ _ (c .before .before .before .before .before .before .before .tag .ensures) (c .before .before .before .before .before .before .before .before .num .ensures) (no-head-says _ _ _ _ (λ a. omega (arith, c .before .before .before .before .if5 .left, c .before .before .before .before .before .before .match .rest)))
 
 expression-returns-16 : (t : ℕ) → expression-lts.Need-returns-16 (expression-claims t) (expression-at t) expression-reads.Post
-expression-returns-16 t c = refuses-row _ _ expression _ _ _ (c .before .before .before .before .before .before .before .before .tag .ensures) (c .before .before .before .before .before .before .before .before .before .num .ensures) (no-head-says _ _ _ _ (λ a. omega arith))
+expression-returns-16 t c = refuses-row _ _ expression _ _ _ (c .before .before .before .before .before .before .before .before .tag .ensures) (c .before .before .before .before .before .before .before .before .before .num .ensures) (no-head-says _ _ _ _ (λ a. omega (arith, c .before .before .before .before .before .if5 .left, c .before .before .before .before .before .before .before .match .rest)))
 
 lead-add-next : (t : ℕ) → lead-lts.Need-add-next (lead-claims t) (lead-at t) lead-reads.Post
 lead-add-next t c = search needs
