@@ -1,13 +1,8 @@
+pub mod Limited
 pub mod Reading
 pub mod Filling
 pub mod Repeated
 pub mod Ceilings
 pub mod Start
-pub mod Steps
-pub mod Suspects
-pub mod PairTable
-pub mod Escapes
-pub mod Candidates
-pub mod Held
 pub mod BadRows
 pub mod Meeting

@@ -8,7 +8,7 @@ use Rattle.model.specs.declared.Sizes.{Sizes}
 use Rattle.model.specs.Limits.{maxCounters}
 use Rattle.model.specs.Words.{Columns}
 use Rattle.model.specs.Reader.{past, read, after, first-wrong}
-use Rattle.model.specs.Bounds.{Bounds, bound-entries, bound-step, bounds-of, bound-entry, limit-from}
+use Rattle.model.specs.Bounds.{Bound, Bounds, bound-entries, bound-step, bounds-of, bound-entry, limit-from}
 
 -- refusal 10 refuses nothing: the entries are the ceilings and nothing else
 abbrev pub In-form : List ℕ → Sizes → ℕ → Type 0
@@ -21,6 +21,10 @@ cell k x = k * maxCounters + x
 -- so many ceilings take one for each counter
 abbrev pub limit-cells : ℕ → ℕ
 limit-cells ceilings = ceilings * maxCounters
+
+-- the ceiling that the table holds for k
+abbrev pub row : List ℕ → ℕ → Bound
+row limits k x = getD limits (cell k x) 0
 
 pub record Limits-table (bs : Bounds) (limits : List ℕ) : Type 0 where
   pub room : limit-cells (bs .size) ≤ length limits

@@ -13,8 +13,7 @@ ghost use Rattle.model.specs.Heads.{start};
 ghost use Rattle.model.specs.Tables.{tables, state, state-index};
 ghost use Rattle.model.specs.Bounds.{bounds, allowed, highest, start-check};
 ghost use Rattle.model.specs.Verify.{answer};
-ghost use Rattle.bounds.specs.Limits.{limit-cells, cell, Limits-table};
-ghost use Rattle.bounds.specs.Pairs.{row};
+ghost use Rattle.bounds.specs.Limits.{limit-cells, cell, Limits-table, row};
 ghost use Rattle.bounds.specs.Parts.{Whole};
 
 // The limit of counter x under ceiling k.

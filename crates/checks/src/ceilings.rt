@@ -4,7 +4,7 @@ use bounds::bads::met_check;
 use bounds::entries::bound_check;
 use bounds::entries::fill_limits;
 use bounds::limits::start_check;
-use bounds::pairs::fill_pairs;
+use covers::pairs::fill_pairs;
 use closed::opening::start;
 use counters::lists::state_index;
 use counters::numbers::counter_count;
@@ -23,7 +23,7 @@ ghost use Rattle.model.specs.Counters.{counter-count};
 ghost use Rattle.model.specs.Bounds.{bounds, met-check};
 ghost use Rattle.model.specs.Verify.{answer, bounds-check};
 ghost use Rattle.bounds.specs.Limits.{limit-cells, In-form, Limits-table};
-ghost use Rattle.bounds.specs.Pairs.{pair-cells};
+ghost use Rattle.covers.specs.Pairs.{pair-cells};
 ghost use Rattle.checks.specs.Stages.{taken, limits-on, Closed, Counted};
 
 // The counter of the start.

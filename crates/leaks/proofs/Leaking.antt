@@ -25,7 +25,7 @@ use Rattle.system.specs.declared.sources.Source.{Source}
 use Rattle.system.specs.Sources.{outer-from, outer-to, inner-count}
 use Rattle.system.specs.Slots.{slot-rules, slot, inner-rules, source-rules}
 use Rattle.bounds.specs.Limits.{Starts-table}
-use Rattle.bounds.proofs.Held.{leads-out-append}
+use Rattle.covers.proofs.Held.{leads-out-append}
 use Rattle.leaks.specs.Leaks.{first-leak}
 
 -- the first index that passes one of two tests

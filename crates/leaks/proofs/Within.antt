@@ -26,11 +26,12 @@ use Rattle.system.specs.declared.sources.Source.the-variants.{Nothing, Rest, Gi
 use Rattle.system.specs.declared.slots.Slot.{Slot}
 use Rattle.system.specs.declared.slots.Slot.the-variants.{Empty, Quiet, Reads, Puts, Starts}
 use Rattle.system.specs.Slots.{slot-rules, filled, give-slot, call-slot, send-slot, spawn-slot, case-slot, receive-slot, slot}
-use Rattle.bounds.specs.declared.Step.{Step}
+use Rattle.covers.specs.declared.Step.{Step}
 use Rattle.bounds.specs.Limits.{Limits-table}
-use Rattle.bounds.specs.Pairs.{row, held}
-use Rattle.bounds.specs.Steps.{effect-of, rule-of-step, escapes, Step-within}
-use Rattle.bounds.proofs.Held.{escapes-message, leads-out-one}
+use Rattle.bounds.specs.Limits.{row}
+use Rattle.covers.specs.Pairs.{held}
+use Rattle.covers.specs.Steps.{effect-of, rule-of-step, escapes, Step-within}
+use Rattle.covers.proofs.Held.{escapes-message, leads-out-one}
 use Rattle.leaks.specs.Leaks.{first-leak, no-rule, step-of, Ceilings}
 use Rattle.leaks.proofs.Leaking.{first-same}
 
@@ -104,6 +105,10 @@ step-within n (Reads from to a) e w = record { from = w .0; read = λ z. w .1; k
 step-within n (Puts from to a) e w = record { from = w; read = λ z. absurd (omega arith); kind = omega arith }
 step-within n (Starts from to a) e w = record { from = w; read = λ z. absurd (omega arith); kind = omega arith }
 
+-- from the highest counts of ceiling k the step leads out of all ceilings, as the table holds them
+abbrev pub out : ℕ → ℕ → List ℕ → Step → ℕ → Bool
+out ceilings n limits σ k = escapes (held ceilings n limits) (rule-of-step σ) (highest (row limits k))
+
 -- by the code's values: the step of slot (j, k) of state i
 module _ {ws : List ℕ} {s : Sizes} (h : Ready ws s) (n : ℕ) (limits pairs : List ℕ) (c : Ceilings ws s n limits pairs) (i j k : ℕ) (src : Source) (inside : i < s .states) (x : Slot) (σ : Step) (is-slot : x ≡ slot (program ws s) (tables ws s) i src j k) (is-step : σ ≡ step-of x) where
   abbrev here : Slot
@@ -123,12 +128,12 @@ module _ {ws : List ℕ} {s : Sizes} (h : Ready ws s) (n : ℕ) (limits pairs : 
     within-here = rw step-here (step-within n here filled-here (slot-within h n (c .counted) i j k src inside))
 
     -- ceiling m leaks by it exactly where the step leads out
-    leaks-here : (m : ℕ) → m < s .bounds → leads-out (bounds ws s n) (slot-rules here) (highest (bounds ws s n .limit m)) ≡ escapes (held (s .bounds) n limits) (rule-of-step σ) (highest (row limits m))
+    leaks-here : (m : ℕ) → m < s .bounds → leads-out (bounds ws s n) (slot-rules here) (highest (bounds ws s n .limit m)) ≡ out (s .bounds) n limits σ m
     leaks-here m l =
         ap (λ ρs. leads-out (bounds ws s n) ρs (highest (bounds ws s n .limit m))) (slot-rule here filled-here ∙ ap (λ z. rule-of-step z ∷ []) (sym step-here)) ∙
         (leads-out-one (bounds ws s n) (rule-of-step σ) (highest (bounds ws s n .limit m)) ∙
         sym (escapes-message ws s n m limits σ (c .limits-table) l within-here))
 
-    pub first-here : (best r : ℕ) → best ≤ s .bounds → r ≡ first 0 best (λ m. escapes (held (s .bounds) n limits) (rule-of-step σ) (highest (row limits m))) → r ≡ first-leak (bounds ws s n) best (slot-rules here)
+    pub first-here : (best r : ℕ) → best ≤ s .bounds → r ≡ first 0 best (out (s .bounds) n limits σ) → r ≡ first-leak (bounds ws s n) best (slot-rules here)
     unfolding first-leak
     first-here best r low e = e ∙ sym (first-same best _ _ (λ m l. leaks-here m (omega arith)))

@@ -12,9 +12,9 @@ use Rattle.model.specs.Rules.{Rule}
 use Rattle.model.specs.Bounds.{Bounds, bounds, highest, leads-out}
 use Rattle.system.specs.declared.slots.Slot.{Slot}
 use Rattle.system.specs.declared.slots.Slot.the-variants.{Empty, Quiet, Reads, Puts, Starts}
-use Rattle.bounds.specs.declared.Step.{Step}
+use Rattle.covers.specs.declared.Step.{Step}
 use Rattle.bounds.specs.Limits.{Limits-table}
-use Rattle.bounds.specs.Pairs.{Pairs-table}
+use Rattle.covers.specs.Pairs.{Pairs-table}
 
 -- the first of the ceilings below `most` from whose highest counts a rule leads out of all ceilings; `most` where none does
 unfoldable pub first-leak : Bounds → ℕ → List Rule → ℕ

@@ -1,7 +1,11 @@
 // Refusal 13: from counts under a ceiling, a rule leads out of all ceilings.
-use bounds::Step;
+use covers::Step;
 use bounds::entries::bounds_at;
-use bounds::leak::first_out;
+use covers::steps::SUSPECTS;
+use covers::steps::is_usable;
+use covers::steps::list_candidates;
+use covers::steps::passes;
+use covers::steps::suspect;
 use model::Sizes;
 use model::Verdict;
 use system::slots::Slot;
@@ -98,7 +102,30 @@ fn inner_leak(
         if step.kind == NO_RULE {
             continue 'rules;
         }
-        best = first_out(limits, pairs, s.bounds, n, best, step);
+        let mut list = [0u16; 256];
+        let m = list_candidates(limits, s.bounds, n, step, &mut list);
+        'ceilings: for k in 0..best {
+            if !is_usable(limits, k, step) {
+                continue 'ceilings;
+            }
+            'candidates: for a in 0..m {
+                let k2 = list[a] as usize;
+                for b in 0..SUSPECTS {
+                    let y = suspect(pairs, k, k2, step, b);
+                    if y < n {
+                        // the first limit exceeded
+                        if !passes(limits, k, k2, step, y) {
+                            continue 'candidates;
+                        }
+                    }
+                }
+                // the first ceiling that covers
+                continue 'ceilings;
+            }
+            // the first ceiling that leaks
+            best = k;
+            continue 'rules;
+        }
     }
     best
 }

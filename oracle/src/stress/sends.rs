@@ -55,6 +55,12 @@ pub fn hostile() -> Result<Vec<Sample>, String> {
             sends(29, 24, 19, bounds::leaking),
         )?,
         sample("leak-sends", "255 like ceilings, 53,761 rules", 0, sends(224, 16, 14, bounds::alike))?,
+        sample(
+            "leak-full",
+            "255 like ceilings over 512 counters, 8,192 entries in all, 65,025 rules",
+            0,
+            sends(254, 32, 7, bounds::alike),
+        )?,
         sample("leak-wide", "17 ceilings of all 466 counters, 53,761 rules", 0, sends(224, 16, 14, bounds::wide))?,
         sample(
             "leak-receives",

@@ -1,4 +1,4 @@
-use Rattle.bounds.proofs.Steps.{highest-omega, highest-limit}
+use Rattle.bounds.proofs.Limited.{highest-omega, highest-limit}
 use borrow.Author.Needs.{needs}
 use Rattle.bounds.proofs.limits.highest.Statement.{statement}
 use Rattle.bounds.proofs.limits.highest.Tie as tie

@@ -1,6 +1,6 @@
 use borrow.Author.Tests.{eq-eqb, ne-eqb}
 use Rattle.model.specs.Bounds.{allowed}
-use Rattle.bounds.proofs.Steps.{or-first, or-second}
+use Rattle.bounds.proofs.Limited.{or-first, or-second}
 use Rattle.bounds.proofs.limits.is_allowed.Statement.{statement}
 use Rattle.bounds.proofs.limits.is_allowed.Tie as tie
 

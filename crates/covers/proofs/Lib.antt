@@ -1,0 +1,6 @@
+pub mod Stepping
+pub mod Suspects
+pub mod PairTable
+pub mod Escapes
+pub mod Candidates
+pub mod Held
