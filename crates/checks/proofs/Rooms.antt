@@ -4,9 +4,7 @@ use native.Mathlib.Omega.{arith}
 use mathlib.Core.Path.{_≡_, sym, _∙_}
 use mathlib.Core.Bool.{Bool, true, false}
 use mathlib.Core.List.{List}
-use lib.ListN.{length, getD, replicate, length-replicate, getD-replicate, List·getD-eq-default}
 use lib.Dec.{leb}
-use native.Mathlib.Decide.{decLt}
 use borrow.Author.Tests.{le-leb, lt-leb, leb-true}
 use Rattle.model.specs.declared.Sizes.{Sizes}
 use Rattle.model.specs.Rows.{program, size}
@@ -57,9 +55,3 @@ module _ (R N C M : ℕ) (s : Sizes) where
       let behind = and-right (leb (s .rows) R) _ h in
       let last = and-right (leb (s .names) N) _ behind in
       (leb-true _ _ (and-left _ _ h), leb-true _ _ (and-left _ _ behind), leb-true _ _ (and-left _ _ last), leb-true _ _ (and-right (leb (s .constructors) C) _ last))
-
--- an array of zeros, as a function makes it (its length is a variable here: to count it out would take long)
-pub zeros : (n : ℕ) → (length {A = ℕ} (replicate n 0) ≡ n) × ((k : ℕ) → getD {A = ℕ} (replicate n 0) k 0 ≡ 0)
-zeros n =
-    let size = length-replicate {A = ℕ} n 0 in
-    (size, λ k. elim (decLt k n) [ yes h ↦ getD-replicate n k 0 0 h | no h ↦ List·getD-eq-default (replicate n 0) 0 (omega arith) ])

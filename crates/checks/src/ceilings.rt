@@ -4,14 +4,20 @@ use bounds::bads::met_check;
 use bounds::entries::bound_check;
 use bounds::entries::fill_limits;
 use bounds::limits::start_check;
-use covers::pairs::fill_pairs;
 use closed::opening::start;
 use counters::lists::state_index;
 use counters::numbers::counter_count;
+use covers::pairs::fill_pairs;
 use items::fill_items;
 use leaks::leak_check;
 use model::Sizes;
 use model::Verdict;
+use rooms::words_12288;
+use rooms::words_131072;
+use rooms::words_196608;
+use rooms::words_32768;
+use rooms::words_49152;
+use rooms::words_8192;
 ghost use mathlib.Core.Path.{_≡_};
 ghost use Prim.Native.Nat.{ℕ, _≤_};
 ghost use lib.ListN.{length, getD};
@@ -125,27 +131,6 @@ fn limits_on(
     )
 }
 
-// No limits yet: of few ceilings.
-fn few_limits() -> [u16; 8192]
-    ensures { λ r. ⌜ (length r ≡ 8192) × ((k : ℕ) → getD r k 0 ≡ 0) ⌝ }
-{
-    [0u16; 8192]
-}
-
-// No limits yet: of up to 64 ceilings.
-fn some_limits() -> [u16; 32768]
-    ensures { λ r. ⌜ (length r ≡ 32768) × ((k : ℕ) → getD r k 0 ≡ 0) ⌝ }
-{
-    [0u16; 32768]
-}
-
-// No limits yet: of as many ceilings as there may be.
-fn no_limits() -> [u16; 131072]
-    ensures { λ r. ⌜ (length r ≡ 131072) × ((k : ℕ) → getD r k 0 ≡ 0) ⌝ }
-{
-    [0u16; 131072]
-}
-
 // Refusals 11 to 13 of few ceilings.
 fn small_bounds(
     ws: &[u16],
@@ -164,8 +149,8 @@ fn small_bounds(
     requires { ⌜ s .bounds ≤ 16 ⌝ }
     ensures { λ v. ⌜ v ≡ answer (limits-on (now (ws .entry)) s n) ⌝ }
 {
-    let mut limits = few_limits();
-    let mut pairs = [0u16; 12288];
+    let mut limits = words_8192();
+    let mut pairs = words_12288();
     limits_on(
         ws,
         s,
@@ -199,8 +184,8 @@ fn middle_bounds(
     requires { ⌜ s .bounds ≤ 64 ⌝ }
     ensures { λ v. ⌜ v ≡ answer (limits-on (now (ws .entry)) s n) ⌝ }
 {
-    let mut limits = some_limits();
-    let mut pairs = [0u16; 49152];
+    let mut limits = words_32768();
+    let mut pairs = words_49152();
     limits_on(
         ws,
         s,
@@ -233,8 +218,8 @@ fn large_bounds(
     requires { ⌜ In-form (now ws) s n ⌝ }
     ensures { λ v. ⌜ v ≡ answer (limits-on (now (ws .entry)) s n) ⌝ }
 {
-    let mut limits = no_limits();
-    let mut pairs = [0u16; 196608];
+    let mut limits = words_131072();
+    let mut pairs = words_196608();
     limits_on(
         ws,
         s,

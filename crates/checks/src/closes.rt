@@ -6,6 +6,9 @@ use evidence::entries::entry_check;
 use flow::branches::fill_branches;
 use model::Sizes;
 use model::Verdict;
+use rooms::bytes_131072;
+use rooms::bytes_32768;
+use rooms::bytes_524288;
 ghost use mathlib.Core.Path.{_≡_};
 ghost use mathlib.Core.Bool.{true};
 ghost use Prim.Native.Nat.{_+_, _*_, _/_, _≤_};
@@ -61,7 +64,7 @@ fn small_tables(
     ensures { λ v. ⌜ v ≡ answer (tables-check (now (ws .entry)) s) ⌝ }
     ensures { λ v. ⌜ (is-safe v ≡ true → Branches (program (now (ws .entry)) s) (tables (now (ws .entry)) s) (now (cases .exit)) (now (receives .exit))) ⌝ }
 {
-    let mut cells = [0u8; 32768];
+    let mut cells = bytes_32768();
     tables_on(ws, s, afters, inners, &mut cells, cases, receives)
 }
 
@@ -80,7 +83,7 @@ fn middle_tables(
     ensures { λ v. ⌜ v ≡ answer (tables-check (now (ws .entry)) s) ⌝ }
     ensures { λ v. ⌜ (is-safe v ≡ true → Branches (program (now (ws .entry)) s) (tables (now (ws .entry)) s) (now (cases .exit)) (now (receives .exit))) ⌝ }
 {
-    let mut cells = [0u8; 131072];
+    let mut cells = bytes_131072();
     tables_on(ws, s, afters, inners, &mut cells, cases, receives)
 }
 
@@ -98,7 +101,7 @@ fn large_tables(
     ensures { λ v. ⌜ v ≡ answer (tables-check (now (ws .entry)) s) ⌝ }
     ensures { λ v. ⌜ (is-safe v ≡ true → Branches (program (now (ws .entry)) s) (tables (now (ws .entry)) s) (now (cases .exit)) (now (receives .exit))) ⌝ }
 {
-    let mut cells = [0u8; 524288];
+    let mut cells = bytes_524288();
     tables_on(ws, s, afters, inners, &mut cells, cases, receives)
 }
 

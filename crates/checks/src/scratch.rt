@@ -2,6 +2,12 @@
 use crate::stages::evidence_on;
 use model::Sizes;
 use model::Verdict;
+use rooms::bytes_262656;
+use rooms::bytes_8256;
+use rooms::words_33792;
+use rooms::words_4608;
+use rooms::words_4627;
+use rooms::words_67651;
 ghost use mathlib.Core.Path.{_≡_};
 ghost use Prim.Native.Nat.{_≤_};
 ghost use lib.ListN.{length};
@@ -61,9 +67,9 @@ fn middle_evidence(
     ensures { λ v. ⌜ now (lent .exit) ≡ words-after v (now (ws .entry)) s (now (lent .entry)) ⌝ }
 {
     let mut cases = [0u8; 256];
-    let mut receives = [0u8; 8256];
-    let mut names = [0u16; 4608];
-    let mut index = [0u16; 4627];
+    let mut receives = bytes_8256();
+    let mut names = words_4608();
+    let mut index = words_4627();
     evidence_on(
         ws,
         s,
@@ -84,9 +90,9 @@ fn large_evidence(ws: &[u16], s: Sizes, afters: &[u16], inners: &[u16], lent: &m
     ensures { λ v. ⌜ now (lent .exit) ≡ words-after v (now (ws .entry)) s (now (lent .entry)) ⌝ }
 {
     let mut cases = [0u8; 1024];
-    let mut receives = [0u8; 262656];
-    let mut names = [0u16; 33792];
-    let mut index = [0u16; 67651];
+    let mut receives = bytes_262656();
+    let mut names = words_33792();
+    let mut index = words_67651();
     evidence_on(
         ws,
         s,

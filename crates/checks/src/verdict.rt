@@ -2,12 +2,13 @@
 use crate::reads::program_verdict;
 use crate::scratch::evidence_verdict;
 use answers::is_safe;
-use message::MAX_WORDS;
 use message::Parts;
 use message::decode;
 use message::parts_of;
 use model::Sizes;
 use model::Verdict;
+use rooms::words_2048;
+use rooms::words_29195;
 use scopes::inner::inners;
 use scopes::layout::ends;
 ghost use mathlib.Core.Path.{_≡_};
@@ -53,7 +54,7 @@ fn short_verdict(bytes: &[u8], s: Sizes, lent: &mut [u32]) -> Verdict
     ensures { λ v. ⌜ v ≡ verdict (now (bytes .entry)) (length (now (lent .entry))) ⌝ }
     ensures { λ v. ⌜ now (lent .exit) ≡ lent-after (now (bytes .entry)) (now (lent .entry)) ⌝ }
 {
-    let mut words = [0u16; 2048];
+    let mut words = words_2048();
     decoded_verdict(bytes, s, &mut words, lent)
 }
 
@@ -63,7 +64,7 @@ fn long_verdict(bytes: &[u8], s: Sizes, lent: &mut [u32]) -> Verdict
     ensures { λ v. ⌜ v ≡ verdict (now (bytes .entry)) (length (now (lent .entry))) ⌝ }
     ensures { λ v. ⌜ now (lent .exit) ≡ lent-after (now (bytes .entry)) (now (lent .entry)) ⌝ }
 {
-    let mut words = [0u16; MAX_WORDS];
+    let mut words = words_29195();
     decoded_verdict(bytes, s, &mut words, lent)
 }
 

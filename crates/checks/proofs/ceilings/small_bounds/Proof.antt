@@ -3,8 +3,11 @@ use borrow.Author.Needs.{needs}
 use Rattle.checks.proofs.ceilings.small_bounds.Statement.{statement}
 use Rattle.checks.proofs.ceilings.small_bounds.Tie as tie
 
-few-limits-requires : tie.Need-few-limits-requires
-few-limits-requires c κs = search needs
+words-8192-requires : tie.Need-words-8192-requires
+words-8192-requires c κs = search needs
+
+words-12288-requires : tie.Need-words-12288-requires
+words-12288-requires c κs = search needs
 
 slice-aggregate-limits-on : tie.Need-slice-aggregate-limits-on
 slice-aggregate-limits-on c = search needs
@@ -14,9 +17,10 @@ slice-aggregate-limits-on-2 c = search needs
 
 limits-on-requires : tie.Need-limits-on-requires
 limits-on-requires c κs =
-    let o = c .before .before .before .before .before .before .before .before .before .before in
-    let z = c .before .before .few-limits .ensures in
-    (o .pre .0, (o .pre .1 .0, (o .pre .1 .1 .0, (z .1, (omega (arith, z .0, o .pre .1 .1 .1), omega (arith, o .pre .1 .1 .1))))))
+    let o = c .before .before .before .before .before .before .before .before .before .before .before in
+    let z = c .before .before .before .words-8192 .ensures in
+    let y = c .before .before .words-12288 .ensures .room in
+    (o .pre .0, (o .pre .1 .0, (o .pre .1 .1 .0, (z .zero, (omega (arith, z .room, o .pre .1 .1 .1), omega (arith, y, o .pre .1 .1 .1))))))
 
 returns : tie.Need-returns
 returns c = search needs
@@ -25,7 +29,8 @@ pub small-bounds-spec : {M : Type 1} → statement M
 small-bounds-spec =
     tie.close
     (tie.spec
-    few-limits-requires
+    words-8192-requires
+    words-12288-requires
     slice-aggregate-limits-on
     slice-aggregate-limits-on-2
     limits-on-requires

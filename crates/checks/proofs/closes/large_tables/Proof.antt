@@ -3,12 +3,15 @@ use borrow.Author.Needs.{needs}
 use Rattle.checks.proofs.closes.large_tables.Statement.{statement}
 use Rattle.checks.proofs.closes.large_tables.Tie as tie
 
+bytes-524288-requires : tie.Need-bytes-524288-requires
+bytes-524288-requires c κs = search needs
+
 slice-aggregate-tables-on : tie.Need-slice-aggregate-tables-on
 slice-aggregate-tables-on c = search needs
 
 tables-on-requires : tie.Need-tables-on-requires
 tables-on-requires c κs =
-    let o = c .before .before .before .before .before .before .before .before in (o .pre .0, ((omega (arith, o .pre .0 .parts .limits .rows), omega (arith, o .pre .0 .parts .limits .names)), o .pre .1))
+    let o = c .before .before .before .before .before .before .before .before .before in let z = c .before .before .before .bytes-524288 .ensures .room in (o .pre .0, ((omega (arith, z, o .pre .0 .parts .limits .rows), omega (arith, z, o .pre .0 .parts .limits .names)), o .pre .1))
 
 same-length : tie.Need-same-length
 same-length c = search needs
@@ -22,4 +25,4 @@ returns c = search needs
 pub large-tables-spec : {M : Type 1} → statement M
 large-tables-spec =
     tie.close
-    (tie.spec slice-aggregate-tables-on tables-on-requires same-length same-length-2 returns)
+    (tie.spec bytes-524288-requires slice-aggregate-tables-on tables-on-requires same-length same-length-2 returns)
