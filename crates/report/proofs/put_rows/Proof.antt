@@ -2,10 +2,10 @@ use Prim.Native.Nat.{_-_, _≤_}
 use mathlib.Core.Path.{_≡_, _∙_}
 use lib.ListN.{length}
 use borrow.Author.Needs.{needs}
-use Rattle.verify.specs.Told.{rows-text}
-use Rattle.verify.proofs.Rows.{Put, rows-none, rows-more, rows-all, rows-most}
-use Rattle.verify.proofs.report.put_rows.Statement.{statement}
-use Rattle.verify.proofs.report.put_rows.Tie as tie
+use Rattle.report.specs.System.{rows-text}
+use Rattle.report.proofs.Rows.{Put, rows-none, rows-more, rows-all, rows-most}
+use Rattle.report.proofs.put_rows.Statement.{statement}
+use Rattle.report.proofs.put_rows.Tie as tie
 
 abbrev Inv-loop : tie.InvT-loop
 Inv-loop out₀ at ws rows here₀ r₀ out here r = Put at (rows-text ws r) here out₀ out × (r ≤ rows) × (length out ≡ length out₀)

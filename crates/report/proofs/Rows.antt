@@ -11,7 +11,7 @@ use Rattle.model.specs.Listing.{listed-rows}
 use Rattle.text.specs.Text.{put-at, pair, line-end, line}
 use Rattle.text.proofs.Putting.{put-none, put-behind, behind, put-spaced, put-ended}
 use Rattle.text.proofs.Digits.{pair-most, line-most}
-use Rattle.verify.specs.Told.{sizes-text, row-text, rows-text, system-text}
+use Rattle.report.specs.System.{sizes-text, row-text, rows-text, system-text}
 
 -- the sizes take one line
 pub sizes-most : (ws : List ℕ) → length (sizes-text ws) ≤ 84

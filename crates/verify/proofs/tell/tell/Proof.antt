@@ -1,7 +1,7 @@
 use borrow.Author.Needs.{needs}
 use Rattle.verify.proofs.Telling.{tell-refused, tell-safe, system-inside, system-room}
-use Rattle.verify.proofs.report.tell.Statement.{statement}
-use Rattle.verify.proofs.report.tell.Tie as tie
+use Rattle.verify.proofs.tell.tell.Statement.{statement}
+use Rattle.verify.proofs.tell.tell.Tie as tie
 
 blank-words-requires : tie.Need-blank-words-requires
 blank-words-requires c κs = search needs

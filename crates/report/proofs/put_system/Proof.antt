@@ -1,7 +1,7 @@
 use borrow.Author.Needs.{needs}
-use Rattle.verify.proofs.Rows.{system-put, sizes-most}
-use Rattle.verify.proofs.report.put_system.Statement.{statement}
-use Rattle.verify.proofs.report.put_system.Tie as tie
+use Rattle.report.proofs.Rows.{system-put, sizes-most}
+use Rattle.report.proofs.put_system.Statement.{statement}
+use Rattle.report.proofs.put_system.Tie as tie
 
 shared-slice-read-wide : tie.Need-shared-slice-read-wide
 shared-slice-read-wide c = search needs

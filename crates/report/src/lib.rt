@@ -1,32 +1,13 @@
-// What is told of a message, as text.
+// A system as text, put into a lent slice from a position on. Each function gives the position behind what it put.
 use text::put_byte;
 use text::put_end;
 use text::put_line;
 use text::put_pair;
-use verifier::verify;
 ghost use mathlib.Core.Path.{_≡_};
 ghost use Prim.Native.Nat.{_+_, _*_, _≤_, _<_};
-ghost use lib.ListN.{length, getD, replicate};
-ghost use Rattle.io.specs.Counts.{Counts};
+ghost use lib.ListN.{length, getD};
 ghost use Rattle.text.specs.Text.{put-at, pair};
-ghost use Rattle.verify.specs.Told.{lent-words, most-text, sizes-text, row-text, rows-text, system-text, told};
-
-// The words lent.
-const LENT: usize = 16384;
-
-// So many words, all 0.
-fn blank_words() -> [u32; LENT]
-    ensures { λ r. ⌜ r ≡ replicate lent-words 0 ⌝ }
-{
-    [0; LENT]
-}
-
-// Room for the longest text.
-pub fn room() -> [u8; 350000]
-    ensures { λ r. ⌜ most-text ≡ length r ⌝ }
-{
-    [0; 350000]
-}
+ghost use Rattle.report.specs.System.{sizes-text, row-text, rows-text, system-text};
 
 // A word as a number.
 fn wide(word: u32) -> u64
@@ -88,7 +69,7 @@ fn put_rows(out: &mut [u8], at: usize, ws: &[u32], rows: usize) -> usize
 }
 
 // A system: its sizes and its rows.
-fn put_system(out: &mut [u8], at: usize, ws: &[u32]) -> usize
+pub fn put_system(out: &mut [u8], at: usize, ws: &[u32]) -> usize
     requires { ⌜ at + 84 + 42 * getD (now ws) 3 0 ≤ length (now out) ⌝ }
     requires { ⌜ 4 + 2 * getD (now ws) 3 0 ≤ length (now ws) ⌝ }
     ensures { λ r. ⌜ now (out .exit) ≡ put-at at (system-text (now (ws .entry))) (now (out .entry)) ⌝ }
@@ -97,23 +78,4 @@ fn put_system(out: &mut [u8], at: usize, ws: &[u32]) -> usize
     let rows = wide(ws[3]) as usize;
     let first = put_sizes(out, at, ws);
     put_rows(out, first, ws, rows)
-}
-
-// What is told of a message: the text, and how long it is.
-pub fn tell(message: &[u8], out: &mut [u8]) -> usize
-    requires { ⌜ most-text ≤ length (now out) ⌝ }
-    ensures { λ r. ⌜ now (out .exit) ≡ put-at 0 (told (now (message .entry))) (now (out .entry)) ⌝ }
-    ensures { λ r. ⌜ r ≡ length (told (now (message .entry))) ⌝ }
-    ensures { λ r. ⌜ Counts r (now (out .exit)) ⌝ }
-{
-    let mut lent = blank_words();
-    let mut answer: [usize; 2] = [0, 0];
-    verify(message, &mut lent, &mut answer);
-    let number = answer[0];
-    let place = answer[1];
-    let at = put_line(out, 0, number as u64, place as u64);
-    if number != 0 {
-        return at;
-    }
-    put_system(out, at, &lent)
 }

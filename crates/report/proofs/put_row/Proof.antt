@@ -1,7 +1,7 @@
 use borrow.Author.Needs.{needs}
-use Rattle.verify.proofs.Rows.{row-put}
-use Rattle.verify.proofs.report.put_row.Statement.{statement}
-use Rattle.verify.proofs.report.put_row.Tie as tie
+use Rattle.report.proofs.Rows.{row-put}
+use Rattle.report.proofs.put_row.Statement.{statement}
+use Rattle.report.proofs.put_row.Tie as tie
 
 add-wide : tie.Need-add-wide
 add-wide c = search needs

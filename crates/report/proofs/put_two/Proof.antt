@@ -1,9 +1,9 @@
 use borrow.Author.Needs.{needs}
 use mathlib.Core.Path.{_≡_, _∙_}
 use Rattle.text.specs.Text.{pair}
-use Rattle.verify.proofs.Rows.{pair-words}
-use Rattle.verify.proofs.report.put_two.Statement.{statement}
-use Rattle.verify.proofs.report.put_two.Tie as tie
+use Rattle.report.proofs.Rows.{pair-words}
+use Rattle.report.proofs.put_two.Statement.{statement}
+use Rattle.report.proofs.put_two.Tie as tie
 
 mul-wide : tie.Need-mul-wide
 mul-wide c = search needs

@@ -1,9 +1,9 @@
 use borrow.Author.Needs.{needs}
 use lib.ListN.{getD}
 use Rattle.text.proofs.Digits.{pair-most}
-use Rattle.verify.proofs.Rows.{sizes-put}
-use Rattle.verify.proofs.report.put_sizes.Statement.{statement}
-use Rattle.verify.proofs.report.put_sizes.Tie as tie
+use Rattle.report.proofs.Rows.{sizes-put}
+use Rattle.report.proofs.put_sizes.Statement.{statement}
+use Rattle.report.proofs.put_sizes.Tie as tie
 
 put-two-requires : tie.Need-put-two-requires
 put-two-requires c κs = search needs
