@@ -2,10 +2,10 @@ use native.Mathlib.Omega.{arith}
 use mathlib.Core.Path.{ap, _∙_}
 use Rattle.model.specs.Message.{bads-at}
 use borrow.Author.Tests.{not-true, not-false}
-use Rattle.verifier.proofs.Promised.{empty-part, program-part, part-length}
+use Rattle.handed.proofs.Part.{empty-part, program-part, part-length}
 use borrow.Author.Needs.{needs}
-use Rattle.verifier.proofs.part_of.Statement.{statement}
-use Rattle.verifier.proofs.part_of.Tie as tie
+use Rattle.handed.proofs.part_of.Statement.{statement}
+use Rattle.handed.proofs.part_of.Tie as tie
 
 is-safe-requires : tie.Need-is-safe-requires
 is-safe-requires c κs = search needs
