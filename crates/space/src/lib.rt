@@ -1,6 +1,6 @@
 // Refusal 14, and the listing.
-use crate::totals::listing_length;
-use crate::writing::write_listing;
+use listing::totals::listing_length;
+use listing::writing::write_listing;
 use model::Sizes;
 use model::Verdict;
 ghost use mathlib.Core.Path.{_≡_};
@@ -9,8 +9,8 @@ ghost use Rattle.model.specs.Rows.{program};
 ghost use Rattle.model.specs.Tables.{tables};
 ghost use Rattle.model.specs.Listing.{space-check};
 ghost use Rattle.model.specs.Verify.{answer};
 ghost use Rattle.listing.specs.Prepared.{Prepared};
-ghost use Rattle.listing.specs.Space.{words-after};
+ghost use Rattle.space.specs.Space.{words-after};
 
 // The listing written, or refusal 14 where it has no room.
 pub fn space_verdict(

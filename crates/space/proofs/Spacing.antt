@@ -13,7 +13,7 @@ use Rattle.model.specs.Rows.{program}
 use Rattle.model.specs.Tables.{tables}
 use Rattle.model.specs.Listing.{system-words, written, space-check}
 use Rattle.model.specs.Verify.{answer, if-safe}
-use Rattle.listing.specs.Space.{words-after}
+use Rattle.space.specs.Space.{words-after}
 
 module _ (ws : List ℕ) (s : Sizes) (lent : List ℕ) where
   abbrev needed : ℕ
