@@ -22,7 +22,7 @@ use Rattle.model.proofs.Exact.Answer.{check-refuses}
 use Rattle.message.proofs.Words.{words-length}
 use Rattle.message.proofs.Whole.{Whole-message}
 use Rattle.evidence.specs.Whole.{Parts-whole}
-use Rattle.listing.specs.Space.{words-after}
+use Rattle.space.specs.Space.{words-after}
 use Rattle.answers.specs.Safe.{is-safe}
 use Rattle.checks.specs.Stages.{taken, tables-check, limits-on, bounds-on, counters-on, evidence-on}
 use Rattle.answers.proofs.Passing.{safe-only, else-is, ends, goes-on}

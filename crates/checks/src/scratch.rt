@@ -12,7 +12,7 @@ ghost use mathlib.Core.Path.{_≡_};
 ghost use Prim.Native.Nat.{_≤_};
 ghost use lib.ListN.{length};
 ghost use Rattle.model.specs.Verify.{answer};
-ghost use Rattle.listing.specs.Space.{words-after};
+ghost use Rattle.space.specs.Space.{words-after};
 ghost use Rattle.checks.specs.Stages.{evidence-on, Formed, is-small, is-middling};
 
 // Small in all that the scratch depends on.

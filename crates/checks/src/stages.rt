@@ -3,9 +3,9 @@ use crate::ceilings::bounds_verdict;
 use crate::closes::tables_verdict;
 use crate::counts::counters_verdict;
 use answers::is_safe;
-use listing::space::space_verdict;
 use model::Sizes;
 use model::Verdict;
+use space::space_verdict;
 ghost use mathlib.Core.Path.{_≡_};
 ghost use Prim.Native.Nat.{_+_, _*_, _/_, _≤_, _<_};
 ghost use lib.ListN.{length};
@@ -13,7 +13,7 @@ ghost use Rattle.model.specs.Rows.{program};
 ghost use Rattle.model.specs.Letters.{letters};
 ghost use Rattle.model.specs.Counters.{letter-keys};
 ghost use Rattle.model.specs.Verify.{answer};
-ghost use Rattle.listing.specs.Space.{words-after};
+ghost use Rattle.space.specs.Space.{words-after};
 ghost use Rattle.checks.specs.Stages.{bounds-on, counters-on, evidence-on, Formed, Closed, Counted};
 
 // Refusals 10 to 14, and the listing written after none.

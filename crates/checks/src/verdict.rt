@@ -17,7 +17,7 @@ ghost use lib.ListN.{length};
 ghost use Rattle.model.specs.Verify.{message-check, answer, verdict, lent-after};
 ghost use Rattle.message.proofs.Whole.{Whole-message};
 ghost use Rattle.evidence.specs.Whole.{Parts-whole};
-ghost use Rattle.listing.specs.Space.{words-after};
+ghost use Rattle.space.specs.Space.{words-after};
 ghost use Rattle.checks.specs.Stages.{taken};
 
 // Refusals 3 to 14 of the words of a message whose parts are whole.

@@ -3,4 +3,3 @@ pub mod Few
 pub mod Putting
 pub mod Whole
 pub mod Prepare
-pub mod Spacing

@@ -1,4 +1,3 @@
 // The derived system as words: its length, and the writing of it.
-pub mod space;
 pub mod totals;
 pub mod writing;

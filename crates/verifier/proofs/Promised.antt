@@ -1,28 +1,22 @@
 -- The demands, of what the entry gives back.
-use Prim.Native.Nat.{ℕ, _*_, _≤_}
+use Prim.Native.Nat.{ℕ, _≤_}
 use native.Mathlib.Omega.{arith}
 use mathlib.Core.Logic.{_↔_}
 use mathlib.Core.Path.{_≡_, refl, sym, ap, subst, _∙_}
-use mathlib.Core.Bool.{Bool, true, false}
 use mathlib.Core.List.{List, [], _∷_}
-use lib.ListN.{length, take, length-take}
+use lib.ListN.{length}
 use lib.Dec.{eqb}
 use borrow.Author.Tests.{eq-eqb}
 use Rattle.model.specs.declared.Verdict.{Verdict}
 use Rattle.model.specs.declared.Verdict.the-variants.{Safe, Length, Size, Row, Name, Scope, Bad, Entry, Open, Counters, Ceiling, Start, Met, Leak, Space}
 use Rattle.model.specs.Verdict.{number}
-use Rattle.model.specs.Words.{words}
-use Rattle.model.specs.Message.{sizes, bads-at, bounds-at, end-at}
-use Rattle.model.proofs.Exact.Checks.{then-none}
-use Rattle.model.proofs.Exact.Answer.{verdict-safe}
-use Rattle.message.proofs.Whole.{whole-check}
-use Rattle.model.specs.Verify.{message, check, verdict, if-safe, lent-after, part-handed}
+use Rattle.model.specs.Verify.{message, verdict, lent-after, part-handed}
 use Rattle.model.specs.Listing.{listed-rules}
 use Rattle.model.specs.Demands.{Bytes, All-runs-followed}
 use Rattle.model.proofs.Demands as demands
 use Rattle.answers.specs.Safe.{is-safe}
 use Rattle.verifier.specs.Promises.{Refusal-changes-nothing, Safe-exactly-when-sound, System-is-written, Runs-are-followed}
-use Rattle.answers.proofs.Passing.{safe-only, else-is}
+use Rattle.answers.proofs.Passing.{safe-only}
 
 -- only safe has the number 0
 zero-safe : (v : Verdict) → number v ≡ 0 → v ≡ Safe
@@ -62,33 +56,6 @@ module _ (bytes lent : List ℕ) where
       (λ n. Refusal-changes-nothing n lent out (part-handed bytes (length lent)) × (Safe-exactly-when-sound n bytes (length lent) × (System-is-written n bytes lent out × Runs-are-followed n bytes out)))
       (sym e)
       (nothing-changed out _ h refl, (sound-exactly b, (system-put out h, runs-followed out b h)))
-
--- the part handed on
-module _ (bytes : List ℕ) (n : ℕ) (w : Verdict) (told : w ≡ verdict bytes n) (f : Bool) (tested : f ≡ is-safe w) where
-  pub empty-part : f ≡ false → take 0 bytes ≡ part-handed bytes n
-  unfolding part-handed
-  empty-part h =
-      ap (λ k. take k bytes)
-      (sym (subst (λ x. if-safe x (2 * bads-at (message bytes .sizes)) 0 ≡ 0) told (else-is w _ 0 (sym tested ∙ h))))
-
-  safe-told : f ≡ true → verdict bytes n ≡ Safe
-  safe-told h = sym told ∙ safe-only w (sym tested ∙ h)
-
-  pub program-part : f ≡ true → (k : ℕ) → k ≡ bads-at (sizes (words bytes)) → take (2 * k) bytes ≡ part-handed bytes n
-  unfolding part-handed message if-safe
-  program-part h k e = rw (safe-told h, e)
-
-  -- it lies within the message
-  pub part-fits : f ≡ true → (k : ℕ) → k ≡ bads-at (sizes (words bytes)) → 2 * k ≤ length bytes
-  unfolding bads-at end-at bounds-at message check
-  part-fits h k e =
-      let passes = then-none _ _ .0 (verdict-safe bytes n .0 (safe-told h)) .0 in
-      let whole = whole-check bytes passes in
-      omega (arith, whole .bytes-end)
-
-  -- ... and so its length is its end
-  pub part-length : f ≡ true → (k : ℕ) → k ≡ bads-at (sizes (words bytes)) → 2 * k ≡ length (take (2 * k) bytes)
-  part-length h k e = let fits = part-fits h k e in let l = length-take (2 * k) bytes in omega arith
 
 -- two numbers told
 pub both : (a b x y : ℕ) → a ≡ x → b ≡ y → _≡_ {A = List ℕ} (a ∷ b ∷ []) (x ∷ y ∷ [])

@@ -1,30 +1,14 @@
 // The verifier: a message and lent words in; the verdict, the part handed on and the words written out.
-use answers::is_safe;
 use answers::number_of;
 use answers::places::place_of;
 use checks::verdict::verdict_of;
-use message::bads_at;
-use message::sizes_of;
-use model::Verdict;
+use handed::part_of;
 ghost use mathlib.Core.Path.{_≡_};
 ghost use mathlib.Core.List.{[], _∷_};
 ghost use lib.ListN.{length};
 ghost use Rattle.model.specs.Verdict.{number, place};
 ghost use Rattle.model.specs.Verify.{verdict, lent-after, part-handed};
 ghost use Rattle.verifier.specs.Promises.{Refusal-changes-nothing, Safe-exactly-when-sound, System-is-written, Runs-are-followed};
-
-// The part handed on after this verdict: after safe the program's own bytes of the message, else an empty part.
-fn part_of(message: &[u8], words: usize, v: Verdict) -> &[u8]
-    requires { ⌜ v ≡ verdict (now message) words ⌝ }
-    ensures { λ r. ⌜ now r ≡ part-handed (now (message .entry)) words ⌝ }
-{
-    if !is_safe(v) {
-        return &message[..0];
-    }
-    let s = sizes_of(message);
-    let end = 2 * bads_at(s);
-    &message[..end]
-}
 
 // The entry. Gives the part handed on; number and place of the verdict to `answer`; after safe the system to the lent words.
 pub fn verify<'a>(message: &'a [u8], lent: &mut [u32], answer: &mut [usize; 2]) -> &'a [u8]

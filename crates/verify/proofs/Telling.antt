@@ -19,8 +19,9 @@ use Rattle.model.proofs.Listed.{lines, length-written, length-system}
 use Rattle.text.specs.Text.{put-at, line}
 use Rattle.text.proofs.Putting.{put-length}
 use Rattle.text.proofs.Digits.{line-most}
-use Rattle.verify.specs.Told.{lent-words, most-text, system-text, told}
-use Rattle.verify.proofs.Rows.{Put, put-then, system-most}
+use Rattle.report.specs.System.{system-text}
+use Rattle.report.proofs.Rows.{Put, put-then, system-most}
+use Rattle.verify.specs.Told.{lent-words, most-text, told}
 
 -- only safe has the number 0
 number-safe : (v : Verdict) → number v ≡ 0 → v ≡ Safe

@@ -1,8 +1,8 @@
 // Reads a message from standard input, lends 16,384 words, and prints the verdict's number and place; if it is safe, the system too.
-mod report;
+mod tell;
 
-use report::room;
-use report::tell;
+use tell::room;
+use tell::tell;
 
 // A message has 58,390 bytes at the most. What is longer is settled by its beginning: the sizes that the limits allow end before
 // the buffer does, so the answer is the same as for the whole.
