@@ -1,9 +1,9 @@
 use mathlib.Core.Path.{ap}
 use borrow.Author.Needs.{needs}
-use Rattle.evidence.specs.Stacks.{stack}
-use Rattle.evidence.proofs.Parts.{done-bads, not-done}
-use Rattle.evidence.proofs.bads.is_done.Statement.{statement}
-use Rattle.evidence.proofs.bads.is_done.Tie as tie
+use Rattle.bads.specs.Stacks.{stack}
+use Rattle.bads.proofs.Parts.{done-bads, not-done}
+use Rattle.bads.proofs.is_done.Statement.{statement}
+use Rattle.bads.proofs.is_done.Tie as tie
 
 enum-known-expected : tie.Need-enum-known-expected
 enum-known-expected c = search needs

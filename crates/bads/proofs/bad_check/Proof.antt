@@ -2,9 +2,9 @@ use Prim.Native.Nat.{_≤_, _-_}
 use native.Mathlib.Omega.{arith}
 use mathlib.Core.Path.{_≡_}
 use borrow.Author.Needs.{needs}
-use Rattle.evidence.proofs.BadRows.{first-bad, bad-from, begins, rows-held, turn-wrong, turn-next, ended-safe, ended-early}
-use Rattle.evidence.proofs.bads.bad_check.Statement.{statement}
-use Rattle.evidence.proofs.bads.bad_check.Tie as tie
+use Rattle.bads.proofs.BadRows.{first-bad, bad-from, begins, rows-held, turn-wrong, turn-next, ended-safe, ended-early}
+use Rattle.bads.proofs.bad_check.Statement.{statement}
+use Rattle.bads.proofs.bad_check.Tie as tie
 
 abbrev Inv-loop : tie.InvT-loop
 Inv-loop ws s rows expected₀ r₀ expected r = (r ≤ s .conditions) × (first-bad ws s ≡ bad-from ws s expected r)

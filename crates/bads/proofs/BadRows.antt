@@ -15,16 +15,17 @@ use Rattle.model.specs.Reader.{first-wrong}
 use Rattle.model.specs.Rows.{program}
 use Rattle.model.specs.Bads.{Part, bad, bad-rows, bad-step, bad-check}
 use Rattle.model.specs.Verify.{answer}
 use Rattle.evidence.specs.declared.arrays.Arrays.{Arrays}
-use Rattle.evidence.specs.declared.bads.Expected.{Expected}
-use Rattle.evidence.specs.declared.bads.Expected.the-variants.{Bads}
-use Rattle.evidence.specs.declared.bads.Step.{Step}
-use Rattle.evidence.specs.declared.bads.Step.the-variants.{Wrong, Next}
 use Rattle.evidence.specs.Whole.{Parts-whole}
-use Rattle.evidence.specs.Arrays.{arrays, Held, bad-arrays}
-use Rattle.evidence.specs.Reading.{row-step, wrong-from}
-use Rattle.evidence.specs.Stacks.{stack, stacks, no-more}
-use Rattle.evidence.proofs.Reading.{wrong-start, wrong-stop, wrong-go, wrong-none, wrong-end}
+use Rattle.evidence.specs.Arrays.{arrays, Held}
+use Rattle.bads.specs.declared.Expected.{Expected}
+use Rattle.bads.specs.declared.Expected.the-variants.{Bads}
+use Rattle.bads.specs.declared.Step.{Step}
+use Rattle.bads.specs.declared.Step.the-variants.{Wrong, Next}
+use Rattle.bads.specs.Rows.{bad-arrays}
+use Rattle.bads.specs.Reading.{row-step, wrong-from}
+use Rattle.bads.specs.Stacks.{stack, stacks, no-more}
+use Rattle.bads.proofs.Reading.{wrong-start, wrong-stop, wrong-go, wrong-none, wrong-end}
 
 pub bad-arrays-are : (s : Sizes) (l r : ℕ) → l ≡ 6 + 2 * s .rows → r ≡ 6 + 2 * s .rows + s .conditions → _≡_ {A = Arrays} (record { size = s .conditions; lefts = l; rights = r }) (bad-arrays s)
 unfolding bad-arrays bads-at

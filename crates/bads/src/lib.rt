@@ -1,9 +1,9 @@
 // Refusal 6: the rows of bads are in form, name classes, heads and letters of the program, and are B bads.
-use crate::arrays::Arrays;
-use crate::arrays::left;
-use crate::arrays::right;
-use crate::ranges::is_class;
-use crate::ranges::is_head;
+use evidence::arrays::Arrays;
+use evidence::arrays::left;
+use evidence::arrays::right;
+use evidence::ranges::is_class;
+use evidence::ranges::is_head;
 use model::Sizes;
 use model::Verdict;
 ghost use mathlib.Core.Path.{_≡_};
@@ -12,10 +12,10 @@ ghost use Rattle.model.specs.Bads.{bad-step, bad-check};
 ghost use Rattle.model.specs.Verify.{answer};
 ghost use Rattle.model.specs.Demands.{Within-limits};
 ghost use Rattle.program.specs.Rows.{Whole};
 ghost use Rattle.evidence.specs.Whole.{Parts-whole};
-ghost use Rattle.evidence.specs.Arrays.{bad-arrays};
-ghost use Rattle.evidence.specs.Reading.{row-step};
-ghost use Rattle.evidence.specs.Stacks.{stack, stacks, is-subject, item-step, no-more};
+ghost use Rattle.bads.specs.Rows.{bad-arrays};
+ghost use Rattle.bads.specs.Reading.{row-step};
+ghost use Rattle.bads.specs.Stacks.{stack, stacks, is-subject, item-step, no-more};
 
 // What the next row is to be, and how many bads begin behind it.
 pub enum Expected {

@@ -1,8 +1,8 @@
 use mathlib.Core.Path.{sym, _∙_}
 use borrow.Author.Needs.{needs}
-use Rattle.evidence.proofs.Parts.{bads-over, bad-begins, subject-fits, subject-wrong, minimum-fits, minimum-zero, no-minimum, bad-ends, end-number, further-item}
-use Rattle.evidence.proofs.bads.read_row.Statement.{statement}
-use Rattle.evidence.proofs.bads.read_row.Tie as tie
+use Rattle.bads.proofs.Parts.{bads-over, bad-begins, subject-fits, subject-wrong, minimum-fits, minimum-zero, no-minimum, bad-ends, end-number, further-item}
+use Rattle.bads.proofs.read_row.Statement.{statement}
+use Rattle.bads.proofs.read_row.Tie as tie
 
 enum-known-expected : tie.Need-enum-known-expected
 enum-known-expected c = search needs

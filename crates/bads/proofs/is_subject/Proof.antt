@@ -2,9 +2,9 @@ use mathlib.Core.Path.{_∙_}
 use borrow.Author.Needs.{needs}
 use Rattle.model.specs.Rows.{program}
 use Rattle.model.specs.Letters.{letters}
-use Rattle.evidence.proofs.Parts.{subject-head, subject-letter, no-subject}
-use Rattle.evidence.proofs.bads.is_subject.Statement.{statement}
-use Rattle.evidence.proofs.bads.is_subject.Tie as tie
+use Rattle.bads.proofs.Parts.{subject-head, subject-letter, no-subject}
+use Rattle.bads.proofs.is_subject.Statement.{statement}
+use Rattle.bads.proofs.is_subject.Tie as tie
 
 is-head-requires : tie.Need-is-head-requires
 is-head-requires c κs = search needs

@@ -1,8 +1,8 @@
 use mathlib.Core.Path.{sym, _∙_}
 use borrow.Author.Needs.{needs}
-use Rattle.evidence.proofs.Parts.{item-class, item-no-class, no-item}
-use Rattle.evidence.proofs.bads.item.Statement.{statement}
-use Rattle.evidence.proofs.bads.item.Tie as tie
+use Rattle.bads.proofs.Parts.{item-class, item-no-class, no-item}
+use Rattle.bads.proofs.item.Statement.{statement}
+use Rattle.bads.proofs.item.Tie as tie
 
 is-class-requires : tie.Need-is-class-requires
 is-class-requires c κs = search needs

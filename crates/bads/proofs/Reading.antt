@@ -8,7 +8,7 @@ use borrow.Author.Tests.{eq-eqb, ne-eqb}
 use Rattle.model.specs.Words.{Columns, left, right}
 use Rattle.model.specs.Reader.{Grammar, complete, first-wrong}
 use Rattle.model.proofs.Reader.{by-option, read-none, read-end, read-stop, read-go}
-use Rattle.evidence.specs.Reading.{row-step, wrong-from}
+use Rattle.bads.specs.Reading.{row-step, wrong-from}
 
 map-none : {A B : Type 0} (f : A → B) (x : Option A) → Option·map f x ≡ none → x ≡ none
 map-none f none h = refl

@@ -10,10 +10,10 @@ use Rattle.model.specs.Rows.{Program, tag, is-head}
 use Rattle.model.specs.Heads.{is-class}
 use Rattle.model.specs.Letters.{letters}
 use Rattle.model.specs.Bads.{Part, bad, subject, minimum, further, item}
-use Rattle.evidence.specs.declared.bads.Expected.{Expected}
-use Rattle.evidence.specs.declared.bads.Expected.the-variants.{Bads, Subject, Minimum, Further}
-use Rattle.evidence.specs.declared.bads.Step.{Step}
-use Rattle.evidence.specs.declared.bads.Step.the-variants.{Wrong, Next}
+use Rattle.bads.specs.declared.Expected.{Expected}
+use Rattle.bads.specs.declared.Expected.the-variants.{Bads, Subject, Minimum, Further}
+use Rattle.bads.specs.declared.Step.{Step}
+use Rattle.bads.specs.declared.Step.the-variants.{Wrong, Next}
 
 unfoldable pub stack : Expected → List Part
 stack (Bads k) = replicate k bad

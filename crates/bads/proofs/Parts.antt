@@ -1,4 +1,4 @@
--- The reader of bads (src/bads.rt): each way out of the code gives what the model's grammar gives. e is what is expected; the match has told which.
+-- The reader of bads (src/lib.rt): each way out of the code gives what the model's grammar gives. e is what is expected; the match has told which.
 use Prim.Native.Nat.{ℕ, zero, suc, _+_, _-_, _≤_, _<_}
 use native.Mathlib.Omega.{arith}
 use mathlib.Core.Path.{_≡_, refl, sym, _∙_, ap}
@@ -13,12 +13,12 @@ use Rattle.model.specs.Rows.{Program, tag, is-head}
 use Rattle.model.specs.Heads.{is-class}
 use Rattle.model.specs.Letters.{letters}
 use Rattle.model.specs.Bads.{Part, bad, further, item, bad-step}
-use Rattle.evidence.specs.declared.bads.Expected.{Expected}
-use Rattle.evidence.specs.declared.bads.Expected.the-variants.{Bads, Subject, Minimum, Further}
-use Rattle.evidence.specs.declared.bads.Step.the-variants.{Wrong, Next}
-use Rattle.evidence.specs.Reading.{row-step}
-use Rattle.evidence.specs.Stacks.{stack, stacks, is-subject, item-step, no-more}
 use Rattle.evidence.proofs.Tags.{or-nothing}
+use Rattle.bads.specs.declared.Expected.{Expected}
+use Rattle.bads.specs.declared.Expected.the-variants.{Bads, Subject, Minimum, Further}
+use Rattle.bads.specs.declared.Step.the-variants.{Wrong, Next}
+use Rattle.bads.specs.Reading.{row-step}
+use Rattle.bads.specs.Stacks.{stack, stacks, is-subject, item-step, no-more}
 
 module _ (p : Program) (t n : ℕ) where
   pub subject-head : t ≡ 41 → is-head (tag p n) ≡ is-subject p t n

@@ -1,8 +1,8 @@
 use mathlib.Core.Path.{refl}
 use borrow.Author.Needs.{needs}
-use Rattle.evidence.proofs.BadRows.{bad-arrays-are}
-use Rattle.evidence.proofs.bads.bad_rows.Statement.{statement}
-use Rattle.evidence.proofs.bads.bad_rows.Tie as tie
+use Rattle.bads.proofs.BadRows.{bad-arrays-are}
+use Rattle.bads.proofs.bad_rows.Statement.{statement}
+use Rattle.bads.proofs.bad_rows.Tie as tie
 
 mul-first : tie.Need-mul-first
 mul-first c = search needs
