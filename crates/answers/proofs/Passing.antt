@@ -58,9 +58,12 @@ refused none v e h = true-false (ap is-safe e) h
 refused (some w) v e h = ap some (sym e)
 
 -- the first check's refusal is the answer
-pub ends : (a b : Check) (v : Verdict) (f : Bool) → v ≡ answer a → f ≡ is-safe v → f ≡ false → v ≡ answer (a >> b)
+pub stops : (a b : Check) (v : Verdict) → a ≡ some v → v ≡ answer (a >> b)
 unfolding _>>_ answer
-ends a b v f e s h = rw (refused a v e (sym s ∙ h))
+stops a b v e = rw e
+
+pub ends : (a b : Check) (v : Verdict) (f : Bool) → v ≡ answer a → f ≡ is-safe v → f ≡ false → v ≡ answer (a >> b)
+ends a b v f e s h = stops a b v (refused a v e (sym s ∙ h))
 
 -- where the first finds nothing, the rest's answer is the answer
 pub goes-on : (a b : Check) (v : Verdict) → a ≡ none → v ≡ answer b → v ≡ answer (a >> b)

@@ -1,7 +1,7 @@
 // Refusals 6 to 8.
 use answers::is_safe;
+use bads::bad_check;
 use closed::states::open_check;
-use evidence::bads::bad_check;
 use evidence::entries::entry_check;
 use flow::branches::fill_branches;
 use model::Sizes;

@@ -1,8 +1,4 @@
-pub mod Answers
 pub mod Tags
 pub mod Elements
 pub mod Lists
 pub mod Tables
-pub mod Reading
-pub mod Parts
-pub mod BadRows

@@ -16,13 +16,13 @@ use Rattle.model.specs.Rows.{program}
 use Rattle.model.specs.Tables.{entries, tables, first-misplaced, list-check, entry-check}
 use Rattle.model.specs.Verify.{answer}
 use Rattle.model.proofs.Index.{first-is}
+use Rattle.answers.proofs.Passing.{stops, goes-on}
 use Rattle.evidence.specs.declared.arrays.Arrays.{Arrays}
 use Rattle.evidence.specs.declared.entries.Table.{Table}
 use Rattle.evidence.specs.declared.entries.Table.the-variants.{Flow, Mail, States}
 use Rattle.evidence.specs.Whole.{Parts-whole}
 use Rattle.evidence.specs.Arrays.{arrays, Held, list-arrays}
 use Rattle.evidence.specs.Ranges.{legal-left, legal-right, legal, in-place, misplaced}
-use Rattle.evidence.proofs.Answers.{answer-stop, answer-go}
 
 module _ (ws : List ℕ) (s : Sizes) where
   -- a list of the tables lies within the words
@@ -64,22 +64,22 @@ module _ (ws : List ℕ) (s : Sizes) where
   module _ (a : Arrays) (i : ℕ) (flow : Searched Flow (s .flows) 0 a i) where
     pub flow-refused : i < s .flows → Entry (a .lefts + i) ≡ answered
     unfolding entry-check tables legal-left legal-right
-    flow-refused h = answer-stop (checked Flow (s .flows) 0 (tables-at s + 3)) _ _ (refused Flow (s .flows) 0 _ a i flow h (omega arith))
+    flow-refused h = stops (checked Flow (s .flows) 0 (tables-at s + 3)) _ _ (refused Flow (s .flows) 0 _ a i flow h (omega arith))
 
     module _ (b : Arrays) (j : ℕ) (i-passed : s .flows ≤ i) (mail : Searched Mail (s .mails) (s .flows) b j) where
       pub mail-refused : j < s .mails → Entry (b .lefts + j) ≡ answered
       unfolding entry-check tables legal-left legal-right
       mail-refused h =
-          answer-go (checked Flow (s .flows) 0 (tables-at s + 3)) _ _ (passed Flow (s .flows) 0 _ a i flow i-passed)
-          (answer-stop (checked Mail (s .mails) (s .flows) (tables-at s + 3 + s .flows)) _ _ (refused Mail (s .mails) (s .flows) _ b j mail h (omega arith)))
+          goes-on (checked Flow (s .flows) 0 (tables-at s + 3)) _ _ (passed Flow (s .flows) 0 _ a i flow i-passed)
+          (stops (checked Mail (s .mails) (s .flows) (tables-at s + 3 + s .flows)) _ _ (refused Mail (s .mails) (s .flows) _ b j mail h (omega arith)))
 
       module _ (d : Arrays) (k : ℕ) (j-passed : s .mails ≤ j) (states : Searched States (s .states) (s .flows + s .mails) d k) where
         -- the flow and the mail list have passed, and the last list gives v
         last-list : (v : Verdict) → v ≡ answer (checked States (s .states) (s .flows + s .mails) (tables-at s + 3 + s .flows + s .mails)) → v ≡ answered
         unfolding entry-check tables legal-left legal-right
         last-list v h =
-            answer-go (checked Flow (s .flows) 0 (tables-at s + 3)) _ _ (passed Flow (s .flows) 0 _ a i flow i-passed)
-            (answer-go (checked Mail (s .mails) (s .flows) (tables-at s + 3 + s .flows)) _ _ (passed Mail (s .mails) (s .flows) _ b j mail j-passed) h)
+            goes-on (checked Flow (s .flows) 0 (tables-at s + 3)) _ _ (passed Flow (s .flows) 0 _ a i flow i-passed)
+            (goes-on (checked Mail (s .mails) (s .flows) (tables-at s + 3 + s .flows)) _ _ (passed Mail (s .mails) (s .flows) _ b j mail j-passed) h)
 
         pub states-refused : k < s .states → Entry (d .lefts + k) ≡ answered
         unfolding answer

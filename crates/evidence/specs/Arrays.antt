@@ -4,7 +4,7 @@ use mathlib.Core.List.{List}
 use lib.ListN.{length}
 use Rattle.model.specs.declared.Sizes.{Sizes}
 use Rattle.model.specs.Words.{Columns, columns}
-use Rattle.model.specs.Message.{bads-at, tables-at}
+use Rattle.model.specs.Message.{tables-at}
 use Rattle.evidence.specs.declared.arrays.Arrays.{Arrays}
 
 unfoldable pub arrays : List ℕ → Arrays → Columns
@@ -18,7 +18,3 @@ pub record Held (ws : List ℕ) (a : Arrays) : Type 0 where
 -- the list of n entries behind k others in the tables
 unfoldable pub list-arrays : Sizes → ℕ → ℕ → Arrays
 list-arrays s n k = record { size = n; lefts = tables-at s + 3 + k; rights = tables-at s + 3 + (s .flows + s .mails + s .states) + k }
-
--- the rows of bads
-unfoldable pub bad-arrays : Sizes → Arrays
-bad-arrays s = record { size = s .conditions; lefts = bads-at s + 2; rights = bads-at s + 2 + s .conditions }

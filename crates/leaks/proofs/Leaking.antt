@@ -21,8 +21,8 @@ use Rattle.model.specs.Bounds.{Bounds, bounds, bound-entries, bound-entry, high
 use Rattle.model.specs.Verify.{answer}
 use Rattle.model.proofs.Logic.{or-left, or-right, or-false}
 use Rattle.model.proofs.Index.{First, first-is, first-unique, gather-turn, gather-end}
-use Rattle.system.specs.declared.sources.Source.{Source}
-use Rattle.system.specs.Sources.{outer-from, outer-to, inner-count}
+use Rattle.sources.specs.declared.Source.{Source}
+use Rattle.sources.specs.Sources.{outer-from, outer-to, inner-count}
 use Rattle.system.specs.Slots.{slot-rules, slot, inner-rules, source-rules}
 use Rattle.bounds.specs.Limits.{Starts-table}
 use Rattle.covers.proofs.Held.{leads-out-append}

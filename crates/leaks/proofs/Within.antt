@@ -21,8 +21,8 @@ use Rattle.model.proofs.Exact.Members.{some-of-iff}
 use Rattle.model.proofs.Numbering.Letters.{Keys, member-letter, low-keys, letter-index-below}
 use Rattle.counters.specs.Ready.{Ready}
 use Rattle.counters.proofs.Keys.{letter-low, class-low}
-use Rattle.system.specs.declared.sources.Source.{Source}
-use Rattle.system.specs.declared.sources.Source.the-variants.{Nothing, Rest, Give, Call, Send, Spawn, Case, Receive}
+use Rattle.sources.specs.declared.Source.{Source}
+use Rattle.sources.specs.declared.Source.the-variants.{Nothing, Rest, Give, Call, Send, Spawn, Case, Receive}
 use Rattle.system.specs.declared.slots.Slot.{Slot}
 use Rattle.system.specs.declared.slots.Slot.the-variants.{Empty, Quiet, Reads, Puts, Starts}
 use Rattle.system.specs.Slots.{slot-rules, filled, give-slot, call-slot, send-slot, spawn-slot, case-slot, receive-slot, slot}

@@ -25,17 +25,17 @@ use Rattle.counters.specs.Ready.{Ready}
 use Rattle.counters.proofs.Facts.{rows-fit, columns-whole, flow-form, states-form}
 use Rattle.counters.proofs.Keys.{letters-few}
 use Rattle.counters.proofs.Rising.{place-upto, begins-order}
-use Rattle.system.specs.declared.sources.Source.{Source}
-use Rattle.system.specs.declared.sources.Source.the-variants.{Nothing, Rest, Give, Call, Send, Spawn, Case, Receive}
+use Rattle.sources.specs.declared.Source.{Source}
+use Rattle.sources.specs.declared.Source.the-variants.{Nothing, Rest, Give, Call, Send, Spawn, Case, Receive}
+use Rattle.sources.specs.Positions.{Run}
+use Rattle.sources.specs.Sources.{range-from, range-to, give-source, source, outer-from, outer-to, inner-count}
+use Rattle.sources.proofs.Placed.{rows-most}
+use Rattle.sources.proofs.Standing.{case-run, receive-run}
+use Rattle.sources.proofs.Sourced.{source-sound, state-class}
 use Rattle.system.specs.declared.slots.Slot.{Slot}
 use Rattle.system.specs.declared.slots.Slot.the-variants.{Empty, Quiet, Reads, Puts, Starts}
-use Rattle.system.specs.Positions.{Run}
-use Rattle.system.specs.Sources.{range-from, range-to, give-source, source, outer-from, outer-to, inner-count}
 use Rattle.system.specs.Slots.{slot-rules, filled, give-slot, call-slot, send-slot, spawn-slot, case-slot, receive-slot, slot, inner-rules, source-rules}
 use Rattle.system.proofs.Gathered.{rules-gathered}
-use Rattle.system.proofs.Placed.{rows-most}
-use Rattle.system.proofs.Standing.{case-run, receive-run}
-use Rattle.system.proofs.Sourced.{source-sound, state-class}
 use Rattle.listing.specs.declared.totals.Totals.{Totals}
 use Rattle.listing.specs.Lines.{Small, lines, counted}
 use Rattle.listing.specs.Prepared.{Low, Sourced}

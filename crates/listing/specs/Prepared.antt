@@ -5,10 +5,10 @@ use Rattle.model.specs.declared.Sizes.{Sizes}
 use Rattle.model.specs.Rows.{Program, program}
 use Rattle.model.specs.Tables.{tables}
 use Rattle.counters.specs.Ready.{Ready}
-use Rattle.system.specs.declared.sources.Source.{Source}
-use Rattle.system.specs.declared.sources.Source.the-variants.{Nothing, Rest, Give, Call, Send, Spawn, Case, Receive}
-use Rattle.system.specs.Positions.{Owners}
-use Rattle.system.specs.Sources.{Sound}
+use Rattle.sources.specs.declared.Source.{Source}
+use Rattle.sources.specs.declared.Source.the-variants.{Nothing, Rest, Give, Call, Send, Spawn, Case, Receive}
+use Rattle.sources.specs.Positions.{Owners}
+use Rattle.sources.specs.Sources.{Sound}
 use Rattle.system.specs.Slots.{Slots-ask}
 
 pub record Prepared (ws : List ℕ) (s : Sizes) (afters inners cases receives names index : List ℕ) : Type 0 where

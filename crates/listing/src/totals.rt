@@ -1,12 +1,12 @@
 // How many rules and rows the listing has.
 use model::Sizes;
+use sources::Source;
+use sources::inner_count;
+use sources::outer_from;
+use sources::outer_to;
+use sources::source_at;
 use system::slots::Slot;
 use system::slots::slot_at;
-use system::sources::Source;
-use system::sources::inner_count;
-use system::sources::outer_from;
-use system::sources::outer_to;
-use system::sources::source_at;
 ghost use mathlib.Core.Path.{_≡_};
 ghost use Prim.Native.Nat.{_+_, _≤_, _<_};
 ghost use lib.ListN.{length};
@@ -15,7 +15,7 @@ ghost use Rattle.model.specs.Tables.{tables};
 ghost use Rattle.model.specs.Rules.{rules};
 ghost use Rattle.model.specs.Listing.{system-words};
 ghost use Rattle.counters.specs.Ready.{Ready};
-ghost use Rattle.system.specs.Sources.{outer-to};
+ghost use Rattle.sources.specs.Sources.{outer-to};
 ghost use Rattle.system.specs.Slots.{slot-rules, Slots-ask, inner-rules, source-rules};
 ghost use Rattle.listing.specs.Lines.{counted};
 ghost use Rattle.listing.specs.Prepared.{Prepared, Sourced};

@@ -27,11 +27,11 @@ use Rattle.flow.specs.Branches.{code, value-code, name-code, Branches}
 use Rattle.counters.specs.Lists.{place}
 use Rattle.counters.proofs.Keys.{product-most}
 use Rattle.counters.proofs.Rising.{place-upto, begins-before, begins-within, begins-behind}
+use Rattle.sources.specs.Positions.{branch-row, Run, Ends}
+use Rattle.sources.specs.Sources.{range-from, range-to, Case-rows, Receive-rows}
+use Rattle.sources.proofs.Standing.{run-prefix, run-last, run-body, row-listed}
 use Rattle.system.specs.declared.slots.Slot.the-variants.{Empty, Quiet, Reads}
-use Rattle.system.specs.Positions.{branch-row, Run, Ends}
-use Rattle.system.specs.Sources.{range-from, range-to, Case-rows, Receive-rows, Codes}
-use Rattle.system.specs.Slots.{filled, case-slot, receive-slot, takes-entry}
-use Rattle.system.proofs.Standing.{run-prefix, run-last, run-body, row-listed}
+use Rattle.system.specs.Slots.{filled, case-slot, receive-slot, takes-entry, Codes}
 
 -- a code tells whether its branch may match
 take-yes : (may held : Bool) (w : ℕ) → w ≡ code may held → (w ≡ 0 → ⊥) → may ≡ true

@@ -19,31 +19,14 @@ use Rattle.model.specs.Counters.{letter-key, letter-index}
 use Rattle.model.specs.Rules.{letter-of-some}
 use Rattle.model.proofs.Logic.{and-left, and-right}
 use Rattle.model.proofs.Numbering.Counters.{class-at-most, tag-inside}
-use Rattle.counters.specs.declared.lists.Span.{Span}
-use Rattle.counters.specs.Lists.{flow-span, mail-span, state-span, listed}
 use Rattle.counters.specs.Letters.{Named}
 use Rattle.counters.specs.Ready.{Ready}
 use Rattle.counters.proofs.Keys.{key-low}
-use Rattle.counters.proofs.Facts.{flow-listed, mail-listed, states-listed}
-use Rattle.system.specs.declared.sources.Source.{Source}
-use Rattle.system.specs.declared.sources.Source.the-variants.{Send, Case, Receive}
+use Rattle.sources.specs.declared.Source.{Source}
+use Rattle.sources.specs.declared.Source.the-variants.{Send, Case, Receive}
+use Rattle.sources.specs.Sources.{outer-to, inner-count, Case-rows, Receive-rows, Sound}
 use Rattle.system.specs.declared.slots.Slot.the-variants.{Empty, Quiet, Puts, Starts}
-use Rattle.system.specs.Sources.{outer-to, inner-count, Case-rows, Receive-rows, Receive-asks, Sound}
-use Rattle.system.specs.Slots.{filled, give-slot, call-slot, send-slot, spawn-slot}
-
--- what was read from a span
-module _ (ws : List ℕ) (s : Sizes) (l : Span) (j v : ℕ) (same : v ≡ right (listed ws l) j) where
-  pub flow-told : l ≡ flow-span s → v ≡ right (tables ws s .flow) j
-  flow-told e = same ∙ rw (e, flow-listed ws s)
-
-  pub mail-told : l ≡ mail-span s → v ≡ right (tables ws s .mail) j
-  mail-told e = same ∙ rw (e, mail-listed ws s)
-
-  pub states-told : l ≡ state-span s → v ≡ right (tables ws s .states) j
-  states-told e = same ∙ rw (e, states-listed ws s)
-
-pub class-told : (ws : List ℕ) (s : Sizes) (l : Span) (j v : ℕ) → v ≡ left (listed ws l) j → l ≡ state-span s → v ≡ left (tables ws s .states) j
-class-told ws s l j v same e = same ∙ rw (e, states-listed ws s)
+use Rattle.system.specs.Slots.{filled, give-slot, call-slot, send-slot, spawn-slot, Receive-asks}
 
 -- a class is R or a row
 pub class-rows : {ws : List ℕ} {s : Sizes} → Ready ws s → (d : ℕ) (b : Bool) → b ≡ is-class (program ws s) d → b ≡ true → d ≤ s .rows

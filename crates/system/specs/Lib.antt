@@ -1,3 +1,1 @@
-pub mod Positions
-pub mod Sources
 pub mod Slots

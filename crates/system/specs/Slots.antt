@@ -1,25 +1,27 @@
 -- The slots of a state: each gives one rule or none, in the listed order.
-use Prim.Native.Nat.{ℕ}
+use Prim.Native.Nat.{ℕ, _+_, _*_, _/_, _≤_, _<_}
+use mathlib.Core.Path.{_≡_}
 use mathlib.Core.Bool.{Bool, true, false, _&&_}
 use mathlib.Core.List.{List, [], _∷_}
+use lib.ListN.{length, getD}
 use lib.Dec.{eqb}
 use Rattle.model.specs.Index.{gather}
 use Rattle.model.specs.Words.{right}
-use Rattle.model.specs.Rows.{Program}
+use Rattle.model.specs.Rows.{Program, size}
 use Rattle.model.specs.Heads.{call-at, branch-body, is-class, body, takes}
-use Rattle.model.specs.Letters.{row-letter}
+use Rattle.model.specs.Letters.{letters, row-letter}
 use Rattle.model.specs.Tables.{Tables, some-of, state, state-at, state-index}
 use Rattle.model.specs.Closed.{may-take, returns-to}
 use Rattle.model.specs.Counters.{letter-index}
 use Rattle.model.specs.Rules.{quiet, reads, puts, starts, Rule, rule, letter-of-some}
-use Rattle.flow.specs.Branches.{Branches}
+use Rattle.flow.specs.Branches.{value-code, Branches}
 use Rattle.counters.specs.Letters.{Letters, Named}
-use Rattle.system.specs.declared.sources.Source.{Source}
-use Rattle.system.specs.declared.sources.Source.the-variants.{Nothing, Rest, Give, Call, Send, Spawn, Case, Receive}
+use Rattle.sources.specs.declared.Source.{Source}
+use Rattle.sources.specs.declared.Source.the-variants.{Nothing, Rest, Give, Call, Send, Spawn, Case, Receive}
+use Rattle.sources.specs.Positions.{branch-row, Ends}
+use Rattle.sources.specs.Sources.{outer-from, outer-to, inner-count, Receive-rows}
 use Rattle.system.specs.declared.slots.Slot.{Slot}
 use Rattle.system.specs.declared.slots.Slot.the-variants.{Empty, Quiet, Reads, Puts, Starts}
-use Rattle.system.specs.Positions.{branch-row, Ends}
-use Rattle.system.specs.Sources.{outer-from, outer-to, inner-count}
 
 -- the rules of a slot, by its case
 unfoldable pub slot-rules : Slot → List Rule
@@ -85,6 +87,18 @@ module _ (p : Program) (t : Tables) (i : ℕ) where
   -- the rules of a source
   unfoldable pub source-rules : Source → List Rule
   source-rules x = gather (outer-from x) (outer-to x) (inner-rules x)
+
+-- slot (j, l) of a receive of class c
+pub record Receive-asks (p : Program) (c q m j l : ℕ) : Type 0 where
+  pub class : c < size p + 1
+  pub rows : Receive-rows p q m
+  pub branch : j < m
+  pub letter : l < letters p
+
+-- the codes of the branch of a receive at row q, for each entry of mail
+pub record Codes (p : Program) (t : Tables) (q : ℕ) (receives : List ℕ) : Type 0 where
+  pub room : q / 2 * t .mail .size + t .mail .size ≤ length receives
+  pub code : (k : ℕ) → k < t .mail .size → getD receives (q / 2 * t .mail .size + k) 0 ≡ value-code p t q (right (t .mail) k)
 
 -- the tables that the slots are read from
 pub record Slots-ask (p : Program) (t : Tables) (afters cases receives names index : List ℕ) : Type 0 where

@@ -1,17 +1,4 @@
 // The slots of a state.
-use crate::positions::body;
-use crate::positions::branch_body;
-use crate::positions::branch_row;
-use crate::positions::flow_value;
-use crate::positions::is_class;
-use crate::positions::mail_value;
-use crate::positions::rest;
-use crate::positions::state_class;
-use crate::positions::state_location;
-use crate::positions::takes;
-use crate::sources::Source;
-use crate::sources::mail_from;
-use crate::sources::mail_to;
 use counters::letters::row_letter;
 use counters::lists::has_flow;
 use counters::lists::state_index;
@@ -21,6 +8,19 @@ use counters::numbers::word;
 use model::Sizes;
 use program::rows::num;
 use program::rows::tag;
+use sources::Source;
+use sources::mail_from;
+use sources::mail_to;
+use sources::positions::body;
+use sources::positions::branch_body;
+use sources::positions::branch_row;
+use sources::positions::flow_value;
+use sources::positions::is_class;
+use sources::positions::mail_value;
+use sources::positions::rest;
+use sources::positions::state_class;
+use sources::positions::state_location;
+use sources::positions::takes;
 ghost use mathlib.Core.Path.{_≡_};
 ghost use mathlib.Core.Bool.{true};
 ghost use Prim.Native.Nat.{_+_, _<_, _≤_};
@@ -31,9 +31,9 @@ ghost use Rattle.model.specs.Rules.{letter-of-some};
 ghost use Rattle.flow.specs.Branches.{Branches};
 ghost use Rattle.counters.specs.Letters.{Letters, Named};
 ghost use Rattle.counters.specs.Ready.{Ready};
-ghost use Rattle.system.specs.Positions.{branch-row, Ends};
-ghost use Rattle.system.specs.Sources.{Case-rows, Receive-asks, Codes, Sound, outer-from, outer-to, inner-count};
-ghost use Rattle.system.specs.Slots.{give-slot, call-slot, send-slot, spawn-slot, case-slot, receive-slot, takes-entry, slot, Slots-ask};
+ghost use Rattle.sources.specs.Positions.{branch-row, Ends};
+ghost use Rattle.sources.specs.Sources.{Case-rows, Sound, outer-to, inner-count};
+ghost use Rattle.system.specs.Slots.{give-slot, call-slot, send-slot, spawn-slot, case-slot, receive-slot, takes-entry, slot, Receive-asks, Codes, Slots-ask};
 
 // A rule, or none: from, to, and the letter counter read or put or the new state.
 pub enum Slot {

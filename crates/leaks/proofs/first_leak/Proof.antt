@@ -7,7 +7,7 @@ use Rattle.model.specs.Rows.{program}
 use Rattle.model.specs.Tables.{tables, state-at}
 use Rattle.model.specs.Rules.{rules}
 use Rattle.model.specs.Bounds.{bounds}
-use Rattle.system.specs.Sources.{source}
+use Rattle.sources.specs.Sources.{source}
 use Rattle.system.specs.Slots.{source-rules}
 use Rattle.listing.proofs.Few.{state-sourced, all-rules}
 use Rattle.leaks.specs.Leaks.{first-leak}

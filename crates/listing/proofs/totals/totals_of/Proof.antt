@@ -4,7 +4,7 @@ use mathlib.Core.Path.{_≡_, refl, _∙_, ap}
 use borrow.Author.Needs.{needs}
 use Rattle.model.specs.Rows.{program}
 use Rattle.model.specs.Tables.{tables, state-at}
-use Rattle.system.specs.Sources.{source}
+use Rattle.sources.specs.Sources.{source}
 use Rattle.system.specs.Slots.{source-rules}
 use Rattle.listing.specs.Lines.{counted}
 use Rattle.listing.proofs.Lined.{Summed, summed-none, summed-more, summed-next, summed-all}

@@ -5,7 +5,7 @@ use borrow.Author.Needs.{needs}
 use Rattle.model.specs.Index.{gather}
 use Rattle.model.specs.Rows.{program}
 use Rattle.model.specs.Tables.{tables, state-at}
-use Rattle.system.specs.Sources.{source}
+use Rattle.sources.specs.Sources.{source}
 use Rattle.system.specs.Slots.{source-rules}
 use Rattle.listing.specs.Lines.{Put}
 use Rattle.listing.proofs.Putting.{put-begin, put-kept, put-more, put-room, put-ends}

@@ -1,7 +1,7 @@
 use native.Mathlib.Omega.{arith}
 use borrow.Author.Needs.{needs}
+use Rattle.sources.proofs.Sourced.{tag-head}
 use Rattle.system.proofs.Slotted.{returns-tag, give-full, give-empty}
-use Rattle.system.proofs.Sourced.{tag-head}
 use Rattle.system.proofs.slots.give_slot.Statement.{statement}
 use Rattle.system.proofs.slots.give_slot.Tie as tie
 

@@ -1,0 +1,153 @@
+// Refusal 6: the rows of bads are in form, name classes, heads and letters of the program, and are B bads.
+use evidence::arrays::Arrays;
+use evidence::arrays::left;
+use evidence::arrays::right;
+use evidence::ranges::is_class;
+use evidence::ranges::is_head;
+use model::Sizes;
+use model::Verdict;
+ghost use mathlib.Core.Path.{_≡_};
+ghost use Rattle.model.specs.Rows.{program};
+ghost use Rattle.model.specs.Bads.{bad-step, bad-check};
+ghost use Rattle.model.specs.Verify.{answer};
+ghost use Rattle.model.specs.Demands.{Within-limits};
+ghost use Rattle.program.specs.Rows.{Whole};
+ghost use Rattle.evidence.specs.Whole.{Parts-whole};
+ghost use Rattle.bads.specs.Rows.{bad-arrays};
+ghost use Rattle.bads.specs.Reading.{row-step};
+ghost use Rattle.bads.specs.Stacks.{stack, stacks, is-subject, item-step, no-more};
+
+// What the next row is to be, and how many bads begin behind it.
+pub enum Expected {
+    // the first item of a bad, of which there are so many
+    Bads(usize),
+    // (41, head) or (42, letter)
+    Subject(usize),
+    // (43, minimum)
+    Minimum(usize),
+    // another item, or the end of the bad
+    Further(usize),
+}
+
+// What a row makes of it.
+pub enum Step {
+    Wrong,
+    Next(Expected),
+}
+
+// A head or a letter that an item counts.
+fn is_subject(ws: &[u16], s: Sizes, t: usize, n: usize) -> bool
+    requires { ⌜ Whole (now ws) s ⌝ }
+    ensures { λ b. ⌜ b ≡ is-subject (program (now (ws .entry)) s) t n ⌝ }
+{
+    match t {
+        41 => is_head(ws, s, n),
+        42 => n < s.constructors + 2,
+        _ => false,
+    }
+}
+
+// The class that an item begins with; k bads begin behind it.
+fn item(ws: &[u16], s: Sizes, k: usize, t: usize, n: usize) -> Step
+    requires { ⌜ Whole (now ws) s ⌝ }
+    ensures { λ e. ⌜ stacks e ≡ item-step (program (now (ws .entry)) s) k t n ⌝ }
+{
+    if t == 40 {
+        if is_class(ws, s, n) {
+            return Step::Next(Expected::Subject(k));
+        }
+    }
+    Step::Wrong
+}
+
+// One row, with its tag and number.
+fn read_row(ws: &[u16], s: Sizes, expected: Expected, t: usize, n: usize) -> Step
+    requires { ⌜ Whole (now ws) s ⌝ }
+    ensures { λ e. ⌜ stacks e ≡ row-step (bad-step (program (now (ws .entry)) s)) (stack expected) t n ⌝ }
+{
+    match expected {
+        Expected::Bads(k) => {
+            if k == 0 {
+                return Step::Wrong;
+            }
+            item(ws, s, k - 1, t, n)
+        }
+        Expected::Subject(k) => {
+            if is_subject(ws, s, t, n) {
+                return Step::Next(Expected::Minimum(k));
+            }
+            Step::Wrong
+        }
+        Expected::Minimum(k) => {
+            if t == 43 {
+                if 1 <= n {
+                    return Step::Next(Expected::Further(k));
+                }
+            }
+            Step::Wrong
+        }
+        Expected::Further(k) => {
+            if t != 44 {
+                return item(ws, s, k, t, n);
+            }
+            if n == 0 {
+                return Step::Next(Expected::Bads(k));
+            }
+            Step::Wrong
+        }
+    }
+}
+
+// Every bad has been read to its end.
+fn is_done(expected: Expected) -> bool
+    ensures { λ b. ⌜ b ≡ no-more (stack expected) ⌝ }
+{
+    match expected {
+        Expected::Bads(k) => k == 0,
+        Expected::Subject(_) => false,
+        Expected::Minimum(_) => false,
+        Expected::Further(_) => false,
+    }
+}
+
+// Where the rows of bads stand.
+fn bad_rows(s: Sizes) -> Arrays
+    requires { ⌜ Within-limits s ⌝ }
+    ensures { λ a. ⌜ a ≡ bad-arrays s ⌝ }
+{
+    let first = 6 + 2 * s.rows;
+    Arrays {
+        size: s.conditions,
+        lefts: first,
+        rights: first + s.conditions,
+    }
+}
+
+// The verdict of refusal 6.
+pub fn bad_check(ws: &[u16], s: Sizes) -> Verdict
+    requires { ⌜ Parts-whole (now ws) s ⌝ }
+    ensures { λ v. ⌜ v ≡ answer (bad-check (now (ws .entry)) s (program (now (ws .entry)) s)) ⌝ }
+{
+    let rows = bad_rows(s);
+    let mut expected = Expected::Bads(s.bads);
+    let mut r = 0;
+    while r < s.conditions {
+        let t = left(ws, rows, r);
+        let n = right(ws, rows, r);
+        match read_row(ws, s, expected, t, n) {
+            Step::Wrong => {
+                let at = rows.lefts + r;
+                return Verdict::Bad(at);
+            }
+            Step::Next(next) => {
+                expected = next;
+            }
+        }
+        r += 1;
+    }
+    if is_done(expected) {
+        return Verdict::Safe;
+    }
+    let at = rows.lefts + r;
+    Verdict::Bad(at)
+}
