@@ -30,8 +30,8 @@ use Rattle.entries.specs.Entries.{Ground}
 use Rattle.bounds.specs.Parts as bounds
 use Rattle.bounds.specs.Items.{Items-counted}
 use Rattle.counters.specs.Ready.{Ready}
-use Rattle.listing.specs.Prepared.{Prepared}
-use Rattle.listing.proofs.Prepare.{prepared}
+use Rattle.system.specs.Prepared.{Prepared}
+use Rattle.system.proofs.Preparing.{prepared}
 use Rattle.checks.specs.Stages.{tables-check, Formed, Closed, Counted}
 
 module _ (ws : List ℕ) (s : Sizes) where

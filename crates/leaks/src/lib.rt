@@ -1,6 +1,6 @@
 // Refusal 13: from counts under a ceiling, a rule leads out of all ceilings.
-use covers::Step;
 use bounds::entries::bounds_at;
+use covers::Step;
 use covers::steps::SUSPECTS;
 use covers::steps::is_usable;
 use covers::steps::list_candidates;
@@ -26,7 +26,7 @@ ghost use Rattle.model.specs.Verify.{answer};
 ghost use Rattle.counters.specs.Ready.{Ready};
 ghost use Rattle.sources.specs.Sources.{outer-to};
 ghost use Rattle.system.specs.Slots.{Slots-ask, inner-rules, source-rules};
-ghost use Rattle.listing.specs.Prepared.{Prepared, Sourced};
+ghost use Rattle.system.specs.Prepared.{Prepared, Sourced};
 ghost use Rattle.bounds.specs.Limits.{Starts-table};
 ghost use Rattle.leaks.specs.Leaks.{first-leak, step-of, Ceilings};
 

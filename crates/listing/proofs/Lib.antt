@@ -2,4 +2,3 @@ pub mod Lined
 pub mod Few
 pub mod Putting
 pub mod Whole
-pub mod Prepare

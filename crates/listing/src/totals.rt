@@ -18,7 +18,7 @@ ghost use Rattle.counters.specs.Ready.{Ready};
 ghost use Rattle.sources.specs.Sources.{outer-to};
 ghost use Rattle.system.specs.Slots.{slot-rules, Slots-ask, inner-rules, source-rules};
 ghost use Rattle.listing.specs.Lines.{counted};
-ghost use Rattle.listing.specs.Prepared.{Prepared, Sourced};
+ghost use Rattle.system.specs.Prepared.{Prepared, Sourced};
 
 pub struct Totals {
     pub rules: usize,

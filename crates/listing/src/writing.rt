@@ -21,7 +21,7 @@ ghost use Rattle.counters.specs.Ready.{Ready};
 ghost use Rattle.sources.specs.Sources.{outer-to};
 ghost use Rattle.system.specs.Slots.{slot-rules, Slots-ask, inner-rules, source-rules};
 ghost use Rattle.listing.specs.Lines.{lines, put-line, Small, Room, Put};
-ghost use Rattle.listing.specs.Prepared.{Prepared, Sourced};
+ghost use Rattle.system.specs.Prepared.{Prepared, Sourced};
 
 // Row x of n rows.
 fn put(out: &mut [u32], n: usize, x: usize, tag: u32, number: usize)

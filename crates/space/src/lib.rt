@@ -9,7 +9,7 @@ ghost use Rattle.model.specs.Rows.{program};
 ghost use Rattle.model.specs.Tables.{tables};
 ghost use Rattle.model.specs.Listing.{space-check};
 ghost use Rattle.model.specs.Verify.{answer};
-ghost use Rattle.listing.specs.Prepared.{Prepared};
+ghost use Rattle.system.specs.Prepared.{Prepared};
 ghost use Rattle.space.specs.Space.{words-after};
 
 // The listing written, or refusal 14 where it has no room.

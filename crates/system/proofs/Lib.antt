@@ -2,3 +2,4 @@ pub mod Gather
 pub mod Gathered
 pub mod Slotted
 pub mod Branched
+pub mod Preparing

@@ -9,7 +9,7 @@ use Rattle.model.specs.Rules.{rules}
 use Rattle.model.specs.Bounds.{bounds}
 use Rattle.sources.specs.Sources.{source}
 use Rattle.system.specs.Slots.{source-rules}
-use Rattle.listing.proofs.Few.{state-sourced, all-rules}
+use Rattle.system.proofs.Preparing.{state-sourced, all-rules}
 use Rattle.leaks.specs.Leaks.{first-leak}
 use Rattle.leaks.proofs.Leaking.{leak-low, leak-turn, leak-done}
 use Rattle.leaks.proofs.first_leak.Statement.{statement}

@@ -18,7 +18,7 @@ use Rattle.model.specs.Rules.{Rule}
 use Rattle.model.specs.Markings.{usable}
 use Rattle.model.specs.Bounds.{bounds, highest}
 use Rattle.model.proofs.Index.{any-end, first-end, first-hit, first-miss}
-use Rattle.system.specs.declared.sources.Source.{Source}
+use Rattle.sources.specs.declared.Source.{Source}
 use Rattle.system.specs.Slots.{slot-rules, slot, inner-rules}
 use Rattle.bounds.specs.Limits.{row}
 use Rattle.bounds.proofs.Ceilings.{room-all}

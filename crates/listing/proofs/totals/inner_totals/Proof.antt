@@ -7,7 +7,8 @@ use Rattle.model.specs.Tables.{tables}
 use Rattle.system.specs.Slots.{slot-rules, slot, inner-rules}
 use Rattle.listing.specs.Lines.{counted}
 use Rattle.listing.proofs.Lined.{Summed, summed-none, summed-more, summed-next, summed-all}
-use Rattle.listing.proofs.Few.{slot-few, inner-low}
+use Rattle.system.proofs.Preparing.{inner-low}
+use Rattle.listing.proofs.Few.{slot-few}
 use Rattle.listing.proofs.totals.inner_totals.Statement.{statement}
 use Rattle.listing.proofs.totals.inner_totals.Tie as tie
 

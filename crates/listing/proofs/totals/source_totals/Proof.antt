@@ -5,7 +5,8 @@ use Rattle.model.specs.Rows.{program}
 use Rattle.model.specs.Tables.{tables}
 use Rattle.system.specs.Slots.{inner-rules, source-rules}
 use Rattle.listing.proofs.Lined.{Summed, summed-none, summed-more, summed-next, summed-all}
-use Rattle.listing.proofs.Few.{inner-few, outer-low}
+use Rattle.system.proofs.Preparing.{outer-low}
+use Rattle.listing.proofs.Few.{inner-few}
 use Rattle.listing.proofs.totals.source_totals.Statement.{statement}
 use Rattle.listing.proofs.totals.source_totals.Tie as tie
 

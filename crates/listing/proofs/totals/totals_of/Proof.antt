@@ -8,7 +8,8 @@ use Rattle.sources.specs.Sources.{source}
 use Rattle.system.specs.Slots.{source-rules}
 use Rattle.listing.specs.Lines.{counted}
 use Rattle.listing.proofs.Lined.{Summed, summed-none, summed-more, summed-next, summed-all}
-use Rattle.listing.proofs.Few.{state-sourced, state-few, all-rules}
+use Rattle.system.proofs.Preparing.{state-sourced, all-rules}
+use Rattle.listing.proofs.Few.{state-few}
 use Rattle.listing.proofs.totals.totals_of.Statement.{statement}
 use Rattle.listing.proofs.totals.totals_of.Tie as tie
 

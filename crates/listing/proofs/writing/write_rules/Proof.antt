@@ -9,7 +9,7 @@ use Rattle.sources.specs.Sources.{source}
 use Rattle.system.specs.Slots.{source-rules}
 use Rattle.listing.specs.Lines.{Put}
 use Rattle.listing.proofs.Putting.{put-begin, put-kept, put-more, put-room, put-ends}
-use Rattle.listing.proofs.Few.{state-sourced, all-rules}
+use Rattle.system.proofs.Preparing.{state-sourced, all-rules}
 use Rattle.listing.proofs.writing.write_rules.Statement.{statement}
 use Rattle.listing.proofs.writing.write_rules.Tie as tie
 

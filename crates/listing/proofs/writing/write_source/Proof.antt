@@ -7,7 +7,7 @@ use Rattle.model.specs.Tables.{tables}
 use Rattle.system.specs.Slots.{inner-rules, source-rules}
 use Rattle.listing.specs.Lines.{Put}
 use Rattle.listing.proofs.Putting.{put-begin, put-kept, put-more, put-room, put-ends, room-ends}
-use Rattle.listing.proofs.Few.{outer-low}
+use Rattle.system.proofs.Preparing.{outer-low}
 use Rattle.listing.proofs.writing.write_source.Statement.{statement}
 use Rattle.listing.proofs.writing.write_source.Tie as tie
 

@@ -1,4 +1,4 @@
--- What the listing asks: a message that is ready, and the tables that its rules are read from.
+-- What is asked to go through the rules: a message that is ready, and the tables that its rules are read from.
 use Prim.Native.Nat.{ℕ, _≤_}
 use mathlib.Core.List.{List}
 use Rattle.model.specs.declared.Sizes.{Sizes}
