@@ -3,4 +3,3 @@ pub mod Binding
 pub mod Ends
 pub mod Scoping
 pub mod Enclosing
-pub mod Standing

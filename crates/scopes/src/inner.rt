@@ -14,14 +14,14 @@ ghost use Rattle.program.specs.Rows.{Whole};
 ghost use Rattle.scopes.specs.Tables.{After-table, Inner-upto, Candidate, or-end};
 
 // A function is a row with tag 3 or 11.
-pub fn is_function(t: usize) -> bool
+fn is_function(t: usize) -> bool
     ensures { λ b. ⌜ b ≡ (eqb t 3 || eqb t 11) ⌝ }
 {
     t == 3 || t == 11
 }
 
 // The row after the body form of the function at row f.
-pub fn form_end(ws: &[u16], s: Sizes, ends: &[u16], f: usize) -> usize
+fn form_end(ws: &[u16], s: Sizes, ends: &[u16], f: usize) -> usize
     requires { ⌜ Whole (now ws) s ⌝ }
     requires { ⌜ row-check (program (now ws) s) ≡ none ⌝ }
     requires { ⌜ After-table (program (now ws) s) (now ends) ⌝ }

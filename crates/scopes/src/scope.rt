@@ -18,14 +18,14 @@ ghost use Rattle.program.specs.Rows.{Whole};
 ghost use Rattle.scopes.specs.Tables.{Binder-table, After-table, Head-table};
 
 // A head is a row with a tag from 1 to 9.
-pub fn is_head(t: usize) -> bool
+fn is_head(t: usize) -> bool
     ensures { λ b. ⌜ b ≡ is-head t ⌝ }
 {
     1 <= t && t <= 9
 }
 
 // The tags of the rows that read a name.
-pub fn uses(t: usize) -> bool
+fn uses(t: usize) -> bool
     ensures { λ b. ⌜ b ≡ uses t ⌝ }
 {
     match t {
@@ -35,7 +35,7 @@ pub fn uses(t: usize) -> bool
 }
 
 // For each row the next head from there on; the number of rows where there is none.
-pub fn next_heads(ws: &[u16], s: Sizes) -> [u16; 1024]
+fn next_heads(ws: &[u16], s: Sizes) -> [u16; 1024]
     requires { ⌜ Whole (now ws) s ⌝ }
     ensures { λ t. ⌜ Head-table (program (now (ws .entry)) s) t ⌝ }
 {
@@ -53,7 +53,7 @@ pub fn next_heads(ws: &[u16], s: Sizes) -> [u16; 1024]
 }
 
 // The rest of the expression at row r.
-pub fn rest(ws: &[u16], s: Sizes, ends: &[u16], r: usize) -> usize
+fn rest(ws: &[u16], s: Sizes, ends: &[u16], r: usize) -> usize
     requires { ⌜ Whole (now ws) s ⌝ }
     requires { ⌜ row-check (program (now ws) s) ≡ none ⌝ }
     requires { ⌜ After-table (program (now ws) s) (now ends) ⌝ }
