@@ -2,14 +2,14 @@
 use crate::reads::program_verdict;
 use crate::scratch::evidence_verdict;
 use answers::is_safe;
+use layout::ends::ends;
+use layout::inner::inners;
 use message::MAX_WORDS;
 use message::Parts;
 use message::decode;
 use message::parts_of;
 use model::Sizes;
 use model::Verdict;
-use scopes::inner::inners;
-use scopes::layout::ends;
 ghost use mathlib.Core.Path.{_≡_};
 ghost use Prim.Native.Nat.{_*_, _≤_};
 ghost use lib.ListN.{length};

@@ -1,5 +1,2 @@
-pub mod Visits
-pub mod Binding
-pub mod Ends
-pub mod Scoping
-pub mod Enclosing
+mod Binding
+mod Scoping

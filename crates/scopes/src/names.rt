@@ -1,5 +1,5 @@
 // Where names are bound; refusal 4.
-use crate::tables::entry;
+use layout::tables::entry;
 use model::Sizes;
 use model::Verdict;
 use program::rows::num;

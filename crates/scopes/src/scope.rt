@@ -1,7 +1,7 @@
 // Where names hold; refusal 5. The tables are lent: binders by name, ends and next heads by row.
-use crate::layout::rest_row;
 use crate::names::binders;
-use crate::tables::entry;
+use layout::ends::rest_row;
+use layout::tables::entry;
 use model::Sizes;
 use model::Verdict;
 use program::rows::num;
@@ -15,7 +15,8 @@ ghost use Rattle.model.specs.Rows.{program, tag, is-head, row-check};
 ghost use Rattle.model.specs.Scopes.{binds, uses, rest, holds-in, in-scope, out-of-scope, scope-check};
 ghost use Rattle.model.specs.Verify.{answer};
 ghost use Rattle.program.specs.Rows.{Whole};
-ghost use Rattle.scopes.specs.Tables.{Binder-table, After-table, Head-table};
+ghost use Rattle.layout.specs.Tables.{After-table};
+ghost use Rattle.scopes.specs.Tables.{Binder-table, Head-table};
 
 // A head is a row with a tag from 1 to 9.
 fn is_head(t: usize) -> bool

@@ -2,8 +2,8 @@ use native.Mathlib.Omega.{arith}
 use mathlib.Core.Path.{sym}
 use lib.ListN.{List·getD-eq-default}
 use borrow.Author.Needs.{needs}
-use Rattle.scopes.proofs.tables.entry.Statement.{statement}
-use Rattle.scopes.proofs.tables.entry.Tie as tie
+use Rattle.layout.proofs.tables.entry.Statement.{statement}
+use Rattle.layout.proofs.tables.entry.Tie as tie
 
 mul-result : tie.Need-mul-result
 mul-result c = search needs

@@ -1,8 +1,8 @@
 use native.Mathlib.Omega.{arith}
 use Prim.Native.Nat.{_+_}
-use Rattle.scopes.proofs.Ends.{rest-2, rest-3, rest-4, rest-5, rest-6, rest-none, num-word}
-use Rattle.scopes.proofs.layout.rest_row.Statement.{statement}
-use Rattle.scopes.proofs.layout.rest_row.Tie as tie
+use Rattle.layout.proofs.Ending.{rest-2, rest-3, rest-4, rest-5, rest-6, rest-none, num-word}
+use Rattle.layout.proofs.ends.rest_row.Statement.{statement}
+use Rattle.layout.proofs.ends.rest_row.Tie as tie
 
 add-next : tie.Need-add-next
 add-next c = record { fits = omega (arith, c .before .before .pre .1 .0, c .before .before .pre .0 .rows) }

@@ -21,10 +21,9 @@ use Rattle.model.proofs.Reader.{by-option}
 use Rattle.model.proofs.Index.{last-hit, last-miss, last-elim}
 use Rattle.program.specs.Rows.{from}
 use Rattle.program.proofs.Items.{bound-says, global-says}
-use Rattle.scopes.specs.Tables.{After-from, inside, or-end, upto, Inner-upto, Candidate}
-use Rattle.scopes.proofs.Visits.{parted, head-read, global-read}
-use Rattle.scopes.proofs.Ends.{opened-by, header-ends}
-use Rattle.scopes.proofs.Scoping.{past-is, head-between}
+use Rattle.layout.specs.Tables.{After-from, inside, or-end, upto, Inner-upto, Candidate}
+use Rattle.layout.proofs.Visits.{past-is, parted, head-between, head-read, global-read}
+use Rattle.layout.proofs.Ending.{opened-by, header-ends}
 
 -- a last index among the first m is the last among all, where none behind passes
 last-cut : (n m : ℕ) (f : ℕ → Bool) → m ≤ n → ((j : ℕ) → m ≤ j → j < n → f j ≡ false) → last n f ≡ last m f

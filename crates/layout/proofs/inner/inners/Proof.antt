@@ -8,11 +8,11 @@ use Rattle.model.specs.Heads.{is-function}
 use lib.ListN.{length, length-set}
 use Rattle.model.specs.Words.{columns}
 use Rattle.model.specs.Rows.{program}
-use Rattle.scopes.specs.Tables.{Inner-upto, Candidate}
-use Rattle.scopes.proofs.Enclosing.{candidate-start, candidate-function, candidate-other, candidate-by, inner-within, inners-start, inners-set, inners-by}
+use Rattle.layout.specs.Tables.{Inner-upto, Candidate}
+use Rattle.layout.proofs.Enclosing.{candidate-start, candidate-function, candidate-other, candidate-by, inner-within, inners-start, inners-set, inners-by}
 use borrow.Author.Needs.{needs}
-use Rattle.scopes.proofs.inner.inners.Statement.{statement}
-use Rattle.scopes.proofs.inner.inners.Tie as tie
+use Rattle.layout.proofs.inner.inners.Statement.{statement}
+use Rattle.layout.proofs.inner.inners.Tie as tie
 
 abbrev Inv-loop : tie.InvT-loop
 Inv-loop ws s ends table₀ before₀ r₀ table before r = (r ≤ s .rows) × (length table ≡ 1024) × Inner-upto (program ws s) r table × Candidate (program ws s) r before

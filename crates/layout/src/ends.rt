@@ -7,7 +7,7 @@ ghost use mathlib.Core.Path.{_≡_};
 ghost use Prim.Native.Nat.{_+_, _<_};
 ghost use Rattle.model.specs.Rows.{program};
 ghost use Rattle.program.specs.Rows.{Whole};
-ghost use Rattle.scopes.specs.Tables.{After-from, After-table, Ends-at, Rest-at, hop};
+ghost use Rattle.layout.specs.Tables.{After-from, After-table, Ends-at, Rest-at, hop};
 
 // n steps by the table, from row q.
 fn hops(table: &[u16], q: usize, n: usize) -> usize

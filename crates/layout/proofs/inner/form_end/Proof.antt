@@ -2,11 +2,11 @@ use Prim.Native.Nat.{_+_}
 use native.Mathlib.Omega.{arith}
 use Rattle.model.specs.Words.{columns}
 use Rattle.model.specs.Rows.{program}
-use Rattle.scopes.proofs.Ends.{num-word}
-use Rattle.scopes.proofs.Enclosing.{form-ends}
+use Rattle.layout.proofs.Ending.{num-word}
+use Rattle.layout.proofs.Enclosing.{form-ends}
 use borrow.Author.Needs.{needs}
-use Rattle.scopes.proofs.inner.form_end.Statement.{statement}
-use Rattle.scopes.proofs.inner.form_end.Tie as tie
+use Rattle.layout.proofs.inner.form_end.Statement.{statement}
+use Rattle.layout.proofs.inner.form_end.Tie as tie
 
 add-num : tie.Need-add-num
 add-num c = search needs

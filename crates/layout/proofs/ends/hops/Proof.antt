@@ -1,9 +1,9 @@
 use mathlib.Core.Path.{_≡_, refl, sym, _∙_}
-use Rattle.scopes.specs.Tables.{hop}
-use Rattle.scopes.proofs.Ends.{hop-turn, hop-end}
+use Rattle.layout.specs.Tables.{hop}
+use Rattle.layout.proofs.Ending.{hop-turn, hop-end}
 use borrow.Author.Needs.{needs}
-use Rattle.scopes.proofs.layout.hops.Statement.{statement}
-use Rattle.scopes.proofs.layout.hops.Tie as tie
+use Rattle.layout.proofs.ends.hops.Statement.{statement}
+use Rattle.layout.proofs.ends.hops.Tie as tie
 
 abbrev Inv-loop : tie.InvT-loop
 Inv-loop table q n left₀ at₀ left at = hop table n q ≡ hop table left at

@@ -1,11 +1,11 @@
 use mathlib.Core.Path.{_∙_}
 use Rattle.model.specs.Words.{columns}
 use Rattle.model.specs.Rows.{program}
-use Rattle.scopes.specs.Tables.{Candidate, upto}
-use Rattle.scopes.proofs.Enclosing.{candidate-falls, candidate-found, candidate-out, candidate-none}
+use Rattle.layout.specs.Tables.{Candidate, upto}
+use Rattle.layout.proofs.Enclosing.{candidate-falls, candidate-found, candidate-out, candidate-none}
 use borrow.Author.Needs.{needs}
-use Rattle.scopes.proofs.inner.around.Statement.{statement}
-use Rattle.scopes.proofs.inner.around.Tie as tie
+use Rattle.layout.proofs.inner.around.Statement.{statement}
+use Rattle.layout.proofs.inner.around.Tie as tie
 
 abbrev Inv-loop : tie.InvT-loop
 Inv-loop ws s ends inner f r at₀ at = Candidate (program ws s) r at

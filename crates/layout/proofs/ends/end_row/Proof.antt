@@ -1,9 +1,9 @@
 use native.Mathlib.Omega.{arith}
 use Prim.Native.Nat.{_+_}
 use mathlib.Core.Path.{sym, _∙_}
-use Rattle.scopes.proofs.Ends.{ends-bound, ends-case, ends-receive, ends-pattern, ends-row, num-word, arity-of}
-use Rattle.scopes.proofs.layout.end_row.Statement.{statement}
-use Rattle.scopes.proofs.layout.end_row.Tie as tie
+use Rattle.layout.proofs.Ending.{ends-bound, ends-case, ends-receive, ends-pattern, ends-row, num-word, arity-of}
+use Rattle.layout.proofs.ends.end_row.Statement.{statement}
+use Rattle.layout.proofs.ends.end_row.Tie as tie
 
 add-next : tie.Need-add-next
 add-next c = record { fits = omega (arith, c .before .before .pre .1 .0, c .before .before .pre .0 .rows) }

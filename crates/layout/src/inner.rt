@@ -11,7 +11,7 @@ ghost use lib.Dec.{eqb};
 ghost use Rattle.model.specs.Rows.{program, body-form, past-items, row-check};
 ghost use Rattle.model.specs.Heads.{is-function, innermost};
 ghost use Rattle.program.specs.Rows.{Whole};
-ghost use Rattle.scopes.specs.Tables.{After-table, Inner-upto, Candidate, or-end};
+ghost use Rattle.layout.specs.Tables.{After-table, Inner-upto, Candidate, or-end};
 
 // A function is a row with tag 3 or 11.
 fn is_function(t: usize) -> bool

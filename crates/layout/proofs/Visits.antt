@@ -7,14 +7,19 @@ use mathlib.Core.List.{List, [], _∷_, _++_}
 use mathlib.Core.Logic.{⊎-elim}
 use mathlib.Core.Option.{some, none, Option·map, Option·some-ne-none, Option·none-ne-some}
 use lib.Dec.{leb, eqb}
-use borrow.Author.Tests.{eqb-true, eq-eqb, ltb-true}
+use borrow.Author.Tests.{eqb-true, eq-eqb, le-leb, ltb-true}
 use Rattle.model.specs.Reader.{past, fits, first-wrong}
-use Rattle.model.specs.Rows.{Program, size, tag, num, kind, is-head, Item, constructor, global, header, parameter, expression, made, operand, arguments, branches, pattern, is-name, whole, row-check, step, expression-step, pattern-step}
+use Rattle.model.specs.Rows.{Program, size, tag, num, kind, is-head, Item, constructor, global, header, parameter, expression, made, operand, arguments, branches, pattern, is-name, whole, past-items, row-check, step, expression-step, pattern-step}
 use Rattle.model.specs.Scopes.{binds, uses}
 use Rattle.model.proofs.Logic.{test, true-false, and-left, and-right, or-cases, or-left, or-right}
-use Rattle.model.proofs.Reader.{past-wrong, past-row, by-read, by-option, first-wrong-none}
+use Rattle.model.proofs.Reader.{past-wrong, past-row, after-past, by-read, by-option, first-wrong-none}
 use Rattle.program.specs.Rows.{from}
 use Rattle.program.proofs.Reading.{from-none, from-stop, from-go, from-append, from-append-wrong}
+
+-- the tags of heads
+pub head-between : (t : ℕ) → 1 ≤ t → t ≤ 9 → is-head t ≡ true
+unfolding is-head
+head-between t a b = rw (le-leb 1 t a, le-leb t 9 b)
 
 module _ (p : Program) where
   -- the item that reads row k, where reading goes on to row e
@@ -47,6 +52,11 @@ module _ (p : Program) where
 
   pub visited : (k : ℕ) → row-check p ≡ none → k < size p → Visited k (size p)
   visited k h a = visit k 0 k (size p) (whole p) (omega arith) a (omega arith) (whole-read h)
+
+  -- the model's row after items, where they are read
+  pub past-is : (items : List Item) (r q : ℕ) → from p items r ≡ past q → past-items p items r ≡ q
+  unfolding past-items from
+  past-is items r q h = after-past (step p) (p .rows) r q items h
 
   -- items, and then others: both are read
   pub record Parted (xs ys : List Item) (r e : ℕ) : Type 0 where

@@ -5,11 +5,11 @@ use mathlib.Core.Path.{_≡_, refl, _∙_}
 use lib.ListN.{length, length-set}
 use Rattle.model.specs.Words.{columns}
 use Rattle.model.specs.Rows.{program}
-use Rattle.scopes.specs.Tables.{After-from}
-use Rattle.scopes.proofs.Ends.{after-start, after-set, after-keep, after-by}
+use Rattle.layout.specs.Tables.{After-from}
+use Rattle.layout.proofs.Ending.{after-start, after-set, after-keep, after-by}
 use borrow.Author.Needs.{needs}
-use Rattle.scopes.proofs.layout.ends.Statement.{statement}
-use Rattle.scopes.proofs.layout.ends.Tie as tie
+use Rattle.layout.proofs.ends.ends.Statement.{statement}
+use Rattle.layout.proofs.ends.ends.Tie as tie
 
 abbrev Inv-loop : tie.InvT-loop
 Inv-loop ws s table₀ r₀ table r = (r ≤ s .rows) × (length table ≡ 1024) × After-from (program ws s) r table

@@ -19,8 +19,8 @@ use Rattle.program.specs.Rows.{from}
 use Rattle.program.proofs.Columns.{part-at, part-past}
 use Rattle.program.proofs.Reading.{from-none, from-stop, from-go, from-range, from-takes}
 use Rattle.program.proofs.Items.{give-says, bound-says, case-says, receive-says, no-head-says, branches-25, branches-other, pattern-30, pattern-31, pattern-32, pattern-other, pattern-none, lead-of, lead-none}
-use Rattle.scopes.specs.Tables.{After-from, Ends-at, Rest-at, hop}
-use Rattle.scopes.proofs.Visits.{parted}
+use Rattle.layout.specs.Tables.{After-from, Ends-at, Rest-at, hop}
+use Rattle.layout.proofs.Visits.{parted}
 
 some-fits : (b : Bool) (xs ys : List Item) → fits b xs ≡ some ys → ys ≡ xs
 unfolding fits
