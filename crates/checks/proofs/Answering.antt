@@ -19,7 +19,7 @@ use Rattle.model.specs.Listing.{system-words, written}
 use Rattle.model.specs.Verify.{program-check, evidence-check, bounds-check, message, message-check, check, answer, verdict, if-safe, lent-after}
 use Rattle.model.proofs.Logic.{test}
 use Rattle.model.proofs.Exact.Answer.{check-refuses}
-use Rattle.message.proofs.Words.{words-length}
+use Rattle.words.proofs.Words.{words-length}
 use Rattle.message.proofs.Whole.{Whole-message}
 use Rattle.evidence.specs.Whole.{Parts-whole}
 use Rattle.space.specs.Space.{words-after}

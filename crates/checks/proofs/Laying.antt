@@ -24,7 +24,7 @@ use Rattle.model.proofs.Numbering.States.{index-below}
 use borrow.Author.Tests.{leb-true}
 use Rattle.program.specs.Rows.{from}
 use Rattle.program.specs.Layout.{Layout, owner}
-use Rattle.scopes.specs.Tables.{After-table, Inner-upto, or-end}
+use Rattle.layout.specs.Tables.{After-table, Inner-upto, or-end}
 use Rattle.flow.specs.Patterns as flow
 use Rattle.entries.specs.Entries.{Ground}
 use Rattle.bounds.specs.Parts as bounds

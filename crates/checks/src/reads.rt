@@ -9,7 +9,7 @@ ghost use mathlib.Core.Path.{_≡_};
 ghost use Rattle.model.specs.Rows.{program};
 ghost use Rattle.model.specs.Verify.{program-check, answer};
 ghost use Rattle.program.specs.Rows.{Whole};
-ghost use Rattle.scopes.specs.Tables.{After-table};
+ghost use Rattle.layout.specs.Tables.{After-table};
 
 // Refusals 3 to 5: rows, names, scopes. The table says where expressions and patterns end.
 pub fn program_verdict(ws: &[u16], s: Sizes, ends: &[u16]) -> Verdict

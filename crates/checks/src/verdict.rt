@@ -2,15 +2,15 @@
 use crate::reads::program_verdict;
 use crate::scratch::evidence_verdict;
 use answers::is_safe;
+use layout::ends::ends;
+use layout::inner::inners;
 use message::Parts;
-use message::decode;
 use message::parts_of;
 use model::Sizes;
 use model::Verdict;
 use rooms::words_2048;
 use rooms::words_29195;
-use scopes::inner::inners;
-use scopes::layout::ends;
+use words::decode;
 ghost use mathlib.Core.Path.{_≡_};
 ghost use Prim.Native.Nat.{_*_, _≤_};
 ghost use lib.ListN.{length};

@@ -1,8 +1,8 @@
 // The part of a message that is handed on.
 use answers::is_safe;
-use message::bads_at;
-use message::sizes_of;
 use model::Verdict;
+use sizes::bads_at;
+use sizes::sizes_of;
 ghost use mathlib.Core.Path.{_≡_};
 ghost use Rattle.model.specs.Verify.{verdict, part-handed};
 

@@ -1,12 +1,12 @@
 -- Laws of refusals 1 and 2 (model, specs/Message.antt): what each test of the code says of the check of a part and of the whole message.
-use Prim.Native.Nat.{ℕ, suc, _+_, _-_, _*_, _≤_, _<_}
+use Prim.Native.Nat.{ℕ, _+_, _*_, _≤_, _<_}
 use native.Mathlib.Omega.{arith}
 use mathlib.Core.Path.{_≡_, refl, sym, _∙_, ap}
-use mathlib.Core.Bool.{Bool, true, false, not}
+use mathlib.Core.Bool.{true, false}
 use mathlib.Core.List.{List, [], _∷_}
 use mathlib.Core.Option.{some, none}
 use lib.ListN.{length}
-use borrow.Author.Tests.{le-leb, lt-leb, not-true, not-false}
+use borrow.Author.Tests.{le-leb, lt-leb}
 use Rattle.model.specs.declared.Sizes.{Sizes}
 use Rattle.model.specs.declared.Verdict.{Verdict}
 use Rattle.model.specs.declared.Verdict.the-variants.{Length, Size}
@@ -18,7 +18,9 @@ use Rattle.message.specs.declared.Parts.{Parts}
 use Rattle.message.specs.declared.Parts.the-variants.{Whole, Refused}
 use Rattle.message.specs.declared.Checked.{Checked}
 use Rattle.message.specs.declared.Checked.the-variants.{Pass, Fail}
-use Rattle.message.specs.Parts.{checked, answered, parts-of, inside, first-outside}
+use Rattle.sizes.specs.Sizes.{inside, first-outside}
+use Rattle.sizes.proofs.Limits.{first-outside-hit, first-outside-miss}
+use Rattle.message.specs.Parts.{checked, answered, parts-of}
 
 -- a check that passes, or refuses
 
@@ -31,30 +33,6 @@ pub checked-fail : (k : Check) (v : Verdict) → checked k ≡ Fail v → k ≡ 
 unfolding checked
 checked-fail none v h = cc
 checked-fail (some w) v h = cc
-
--- the first size outside its limits: this one, or one behind it
-
-first-outside-hit : (l : Limited) (ls : List Limited) → inside l ≡ false → first-outside (l ∷ ls) ≡ 0
-unfolding first-outside
-first-outside-hit l ls h = rw (h, first-outside)
-
-first-outside-miss : (l : Limited) (ls : List Limited) → inside l ≡ true → first-outside (l ∷ ls) ≡ suc (first-outside ls)
-unfolding first-outside
-first-outside-miss l ls h = rw (h, first-outside)
-
--- the same by the code's test, and where no size is left
-
-pub outside-here : (l : Limited) (ls : List Limited) (b : Bool) → b ≡ inside l → not b ≡ true → 0 ≡ first-outside (l ∷ ls)
-outside-here l ls b e h = sym (first-outside-hit l ls (sym e ∙ not-true b h))
-
-pub outside-behind : (l : Limited) (ls : List Limited) (b : Bool) (k : ℕ) → b ≡ inside l → not b ≡ false → suc (k - 1) ≡ k → k - 1 ≡ first-outside ls → k ≡ first-outside (l ∷ ls)
-outside-behind l ls b k e h z t = sym z ∙ (ap suc t ∙ sym (first-outside-miss l ls (sym e ∙ not-false b h)))
-
-pub outside-none : 0 ≡ first-outside []
-unfolding first-outside
-outside-none = refl
-
-pub ruleset tests-of-sizes = (outside-here, outside-behind, outside-none)
 
 sizes-check-hit : (at : ℕ) (l : Limited) (ls : List Limited) → inside l ≡ false → sizes-check at (l ∷ ls) ≡ some (Size at)
 unfolding sizes-check inside

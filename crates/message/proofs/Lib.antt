@@ -1,4 +1,2 @@
-pub mod Words
-mod Sized
 pub mod Checks
 pub mod Whole

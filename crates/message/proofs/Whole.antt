@@ -17,8 +17,9 @@ use Rattle.model.specs.Message.{Limited, bounds-at, end-at, sizes, sizes-check,
 use Rattle.model.specs.Demands.{Between, Within-limits}
 use Rattle.model.proofs.Logic.{test, and-left, and-right}
 use Rattle.message.specs.declared.Parts.the-variants.{Whole, Refused}
-use Rattle.message.specs.Parts.{maxWords, Placed, answered, parts-of}
-use Rattle.message.proofs.Words.{words-length}
+use Rattle.sizes.specs.Sizes.{Placed}
+use Rattle.message.specs.Parts.{maxWords, answered, parts-of}
+use Rattle.words.proofs.Words.{words-length}
 
 -- a check that refuses nothing
 

@@ -1,6 +1,2 @@
-pub mod Visits
-pub mod Binding
-pub mod Ends
-pub mod Scoping
-pub mod Enclosing
-pub mod Standing
+mod Binding
+mod Scoping

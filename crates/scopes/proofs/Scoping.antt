@@ -15,26 +15,21 @@ use Rattle.model.specs.declared.Verdict.the-variants.{Safe, Scope}
 use Rattle.model.specs.Verdict.{unless}
 use Rattle.model.specs.Index.{first}
 use Rattle.model.specs.Reader.{past}
-use Rattle.model.specs.Rows.{Program, program, size, tag, num, kind, is-head, Item, expression, lead, past-items, step, row-check}
+use Rattle.model.specs.Rows.{Program, program, size, tag, num, kind, is-head, expression, lead, past-items, row-check}
 use Rattle.model.specs.Scopes.{binds, uses, binds-name, binder, rest, next-head, holds-in, in-scope, out-of-scope, scope-check}
 use Rattle.model.specs.Verify.{answer}
 use Rattle.model.proofs.Logic.{test, true-false, and-left, and-right}
 use Rattle.model.proofs.Index.{first-end, first-hit, first-miss, First, first-is}
-use Rattle.model.proofs.Reader.{after-past}
 use Rattle.program.specs.Rows.{from}
 use Rattle.model.specs.declared.Sizes.{Sizes}
 use Rattle.model.specs.Words.{columns}
 use Rattle.program.proofs.Reading.{from-none, past-tag}
 use Rattle.program.proofs.Items.{bound-says, lead-none}
-use Rattle.scopes.specs.Tables.{After-from, Rest-at}
-use Rattle.scopes.proofs.Visits.{parted, head-read}
-use Rattle.scopes.proofs.Ends.{opened-by}
+use Rattle.layout.specs.Tables.{After-from, Rest-at}
+use Rattle.layout.proofs.Visits.{past-is, parted, head-between, head-read}
+use Rattle.layout.proofs.Ending.{opened-by}
 
--- the tags of heads, and of uses
-pub head-between : (t : ℕ) → 1 ≤ t → t ≤ 9 → is-head t ≡ true
-unfolding is-head
-head-between t a b = rw (le-leb 1 t a, le-leb t 9 b)
-
+-- the tags of uses
 pub uses-these : (t : ℕ) → (t ≡ 1) ⊎ ((t ≡ 8) ⊎ (t ≡ 21)) → true ≡ uses t
 unfolding uses
 uses-these t h = ⊎-elim (λ e. rw e) (λ k. ⊎-elim (λ e. rw e) (λ e. rw e) k) h
@@ -44,11 +39,6 @@ unfolding uses
 uses-none t k = rw (ne-eqb t 1 (λ e. k (inl e)), ne-eqb t 8 (λ e. k (inr (inl e))), ne-eqb t 21 (λ e. k (inr (inr e))))
 
 module _ (p : Program) where
-  -- the model's row after items, where they are read
-  pub past-is : (items : List Item) (r q : ℕ) → from p items r ≡ past q → past-items p items r ≡ q
-  unfolding past-items from
-  past-is items r q h = after-past (step p) (p .rows) r q items h
-
   -- next heads, from the last row to the first
   abbrev pub Heads : ℕ → List ℕ → Type 0
   Heads i table = (r : ℕ) → i ≤ r → r < size p → getD table r 0 ≡ next-head p r

@@ -1,7 +1,3 @@
-// Names and scopes of a program whose rows fit: refusals 4 and 5, and the tables that later layers go by.
-pub mod heads;
-pub mod inner;
-pub mod layout;
+// Names and scopes of a program whose rows fit: refusals 4 and 5.
 pub mod names;
 pub mod scope;
-pub mod tables;

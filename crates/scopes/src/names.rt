@@ -1,5 +1,5 @@
 // Where names are bound; refusal 4.
-use crate::tables::entry;
+use layout::tables::entry;
 use model::Sizes;
 use model::Verdict;
 use program::rows::num;
@@ -15,7 +15,7 @@ ghost use Rattle.program.specs.Rows.{Whole};
 ghost use Rattle.scopes.specs.Tables.{Binder-table, is-bound};
 
 // The tags of the rows that bind a name.
-pub fn binds(t: usize) -> bool
+fn binds(t: usize) -> bool
     ensures { λ b. ⌜ b ≡ binds t ⌝ }
 {
     match t {

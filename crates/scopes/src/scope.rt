@@ -1,7 +1,7 @@
 // Where names hold; refusal 5. The tables are lent: binders by name, ends and next heads by row.
-use crate::layout::rest_row;
 use crate::names::binders;
-use crate::tables::entry;
+use layout::ends::rest_row;
+use layout::tables::entry;
 use model::Sizes;
 use model::Verdict;
 use program::rows::num;
@@ -15,17 +15,18 @@ ghost use Rattle.model.specs.Rows.{program, tag, is-head, row-check};
 ghost use Rattle.model.specs.Scopes.{binds, uses, rest, holds-in, in-scope, out-of-scope, scope-check};
 ghost use Rattle.model.specs.Verify.{answer};
 ghost use Rattle.program.specs.Rows.{Whole};
-ghost use Rattle.scopes.specs.Tables.{Binder-table, After-table, Head-table};
+ghost use Rattle.layout.specs.Tables.{After-table};
+ghost use Rattle.scopes.specs.Tables.{Binder-table, Head-table};
 
 // A head is a row with a tag from 1 to 9.
-pub fn is_head(t: usize) -> bool
+fn is_head(t: usize) -> bool
     ensures { λ b. ⌜ b ≡ is-head t ⌝ }
 {
     1 <= t && t <= 9
 }
 
 // The tags of the rows that read a name.
-pub fn uses(t: usize) -> bool
+fn uses(t: usize) -> bool
     ensures { λ b. ⌜ b ≡ uses t ⌝ }
 {
     match t {
@@ -35,7 +36,7 @@ pub fn uses(t: usize) -> bool
 }
 
 // For each row the next head from there on; the number of rows where there is none.
-pub fn next_heads(ws: &[u16], s: Sizes) -> [u16; 1024]
+fn next_heads(ws: &[u16], s: Sizes) -> [u16; 1024]
     requires { ⌜ Whole (now ws) s ⌝ }
     ensures { λ t. ⌜ Head-table (program (now (ws .entry)) s) t ⌝ }
 {
@@ -53,7 +54,7 @@ pub fn next_heads(ws: &[u16], s: Sizes) -> [u16; 1024]
 }
 
 // The rest of the expression at row r.
-pub fn rest(ws: &[u16], s: Sizes, ends: &[u16], r: usize) -> usize
+fn rest(ws: &[u16], s: Sizes, ends: &[u16], r: usize) -> usize
     requires { ⌜ Whole (now ws) s ⌝ }
     requires { ⌜ row-check (program (now ws) s) ≡ none ⌝ }
     requires { ⌜ After-table (program (now ws) s) (now ends) ⌝ }

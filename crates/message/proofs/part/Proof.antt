@@ -5,7 +5,7 @@ use denote.Ref.{now}
 use borrow.Author.Needs.{needs}
 use Rattle.model.specs.Words.{words}
 use Rattle.message.specs.Parts.{checked}
-use Rattle.message.proofs.Words.{words-length}
+use Rattle.words.proofs.Words.{words-length}
 use Rattle.message.proofs.Checks.{part-no-sizes, part-outside, part-no-arrays, part-whole}
 use Rattle.message.proofs.part.Statement.{statement}
 use Rattle.message.proofs.part.Tie as tie

@@ -1,6 +1,6 @@
 use mathlib.Core.Path.{sym, ap, _∙_}
 use lib.ListN.{length}
-use Rattle.message.proofs.Words.{words-length}
+use Rattle.words.proofs.Words.{words-length}
 use Rattle.checks.proofs.Answering.{decoded, parts-whole, whole-told, whole-written}
 use borrow.Author.Needs.{needs}
 use Rattle.checks.proofs.verdict.decoded_verdict.Statement.{statement}

@@ -3,7 +3,7 @@ use mathlib.Core.Path.{sym, _∙_, ap}
 use Rattle.model.specs.Words.{columns}
 use Rattle.model.specs.Rows.{program}
 use Rattle.model.specs.Scopes.{binds}
-use Rattle.scopes.proofs.Visits.{bound-below}
+use Rattle.layout.proofs.Visits.{bound-below}
 use Rattle.scopes.proofs.Binding.{again-is, never-again}
 use borrow.Author.Needs.{needs}
 use Rattle.scopes.proofs.names.is_again.Statement.{statement}

@@ -2,7 +2,7 @@ use Rattle.model.specs.Words.{columns}
 use Rattle.model.specs.Rows.{program, tag}
 use Rattle.model.specs.Scopes.{uses, binder}
 use borrow.Author.Tests.{not-true, not-false}
-use Rattle.scopes.proofs.Visits.{used-below}
+use Rattle.layout.proofs.Visits.{used-below}
 use native.Mathlib.Omega.{arith}
 use mathlib.Core.Bool.{true}
 use mathlib.Core.Path.{_≡_, sym, _∙_, ap}

@@ -1,7 +1,7 @@
 use Rattle.model.specs.Words.{columns}
 use Rattle.model.specs.Rows.{program}
 use native.Mathlib.Omega.{arith}
-use Rattle.scopes.proofs.Ends.{after-later}
+use Rattle.layout.proofs.Ending.{after-later}
 use Rattle.scopes.proofs.Scoping.{rest-is}
 use borrow.Author.Needs.{needs}
 use Rattle.scopes.proofs.scope.rest.Statement.{statement}

@@ -1,0 +1,114 @@
+-- Each size is read where the model reads it; that a size is a word keeps every sum small.
+use native.Mathlib.Omega.{arith}
+use Rattle.sizes.proofs.Sized.{sized}
+use Rattle.sizes.proofs.sizes_of.Statement.{statement}
+use Rattle.sizes.proofs.sizes_of.Tie as tie
+
+size-at-requires : tie.Need-size-at-requires
+size-at-requires c κs = tt
+
+mul-bads : tie.Need-mul-bads
+mul-bads c = omega (arith, c .size-at .ensures .1)
+
+add-bads : tie.Need-add-bads
+add-bads c = omega (arith, c .size-at .ensures .1)
+
+add-size-at : tie.Need-add-size-at
+add-size-at c = omega (arith, c .size-at .ensures .1)
+
+size-at-requires-2 : tie.Need-size-at-requires-2
+size-at-requires-2 c κs = tt
+
+add-tables : tie.Need-add-tables
+add-tables c = omega (arith, c .before .size-at .ensures .1, c .size-at2 .ensures .1)
+
+mul-tables : tie.Need-mul-tables
+mul-tables c = omega (arith, c .before .size-at .ensures .1, c .size-at2 .ensures .1)
+
+add-tables-2 : tie.Need-add-tables-2
+add-tables-2 c = omega (arith, c .before .size-at .ensures .1, c .size-at2 .ensures .1)
+
+size-at-requires-3 : tie.Need-size-at-requires-3
+size-at-requires-3 c κs = tt
+
+add-size-at-2 : tie.Need-add-size-at-2
+add-size-at-2 c = omega (arith, c .before .before .size-at .ensures .1, c .before .size-at2 .ensures .1)
+
+size-at-requires-4 : tie.Need-size-at-requires-4
+size-at-requires-4 c κs = tt
+
+add-size-at-3 : tie.Need-add-size-at-3
+add-size-at-3 c = omega (arith, c .before .before .before .size-at .ensures .1, c .before .before .size-at2 .ensures .1)
+
+size-at-requires-5 : tie.Need-size-at-requires-5
+size-at-requires-5 c κs = tt
+
+add-bounds : tie.Need-add-bounds
+add-bounds c = omega (arith, c .before .before .before .before .size-at .ensures .1, c .before .before .before .size-at2 .ensures .1, c .before .before .size-at3 .ensures .1, c .before .size-at4 .ensures .1, c .size-at5 .ensures .1)
+
+add-bounds-2 : tie.Need-add-bounds-2
+add-bounds-2 c = omega (arith, c .before .before .before .before .size-at .ensures .1, c .before .before .before .size-at2 .ensures .1, c .before .before .size-at3 .ensures .1, c .before .size-at4 .ensures .1, c .size-at5 .ensures .1)
+
+add-bounds-3 : tie.Need-add-bounds-3
+add-bounds-3 c = omega (arith, c .before .before .before .before .size-at .ensures .1, c .before .before .before .size-at2 .ensures .1, c .before .before .size-at3 .ensures .1, c .before .size-at4 .ensures .1, c .size-at5 .ensures .1)
+
+mul-bounds : tie.Need-mul-bounds
+mul-bounds c = omega (arith, c .before .before .size-at3 .ensures .1, c .before .size-at4 .ensures .1, c .size-at5 .ensures .1)
+
+add-bounds-4 : tie.Need-add-bounds-4
+add-bounds-4 c = omega (arith, c .before .before .before .before .size-at .ensures .1, c .before .before .before .size-at2 .ensures .1, c .before .before .size-at3 .ensures .1, c .before .size-at4 .ensures .1, c .size-at5 .ensures .1)
+
+size-at-requires-6 : tie.Need-size-at-requires-6
+size-at-requires-6 c κs = tt
+
+size-at-requires-7 : tie.Need-size-at-requires-7
+size-at-requires-7 c κs = tt
+
+size-at-requires-8 : tie.Need-size-at-requires-8
+size-at-requires-8 c κs = tt
+
+size-at-requires-9 : tie.Need-size-at-requires-9
+size-at-requires-9 c κs = tt
+
+size-at-requires-10 : tie.Need-size-at-requires-10
+size-at-requires-10 c κs = tt
+
+add-size-at-4 : tie.Need-add-size-at-4
+add-size-at-4 c = omega (arith, c .before .before .before .before .before .before .before .before .before .size-at .ensures .1, c .before .before .before .before .before .before .before .before .size-at2 .ensures .1, c .before .before .before .before .before .before .before .size-at3 .ensures .1, c .before .before .before .before .before .before .size-at4 .ensures .1, c .before .before .before .before .before .size-at5 .ensures .1)
+
+size-at-requires-11 : tie.Need-size-at-requires-11
+size-at-requires-11 c κs = tt
+
+returns : tie.Need-returns
+returns c = (sized _ _ _ _ _ _ _ _ _ _ _ _ (c .before .before .before .before .before .before .before .before .before .before .size-at .ensures .0) (c .before .before .before .before .before .size-at6 .ensures .0) (c .before .before .before .before .size-at7 .ensures .0) (c .before .before .before .size-at8 .ensures .0) (c .before .before .size-at9 .ensures .0) (c .before .before .before .before .before .before .before .before .before .size-at2 .ensures .0) (c .before .before .before .before .before .before .before .before .size-at3 .ensures .0) (c .before .before .before .before .before .before .before .size-at4 .ensures .0) (c .before .before .before .before .before .before .size-at5 .ensures .0) (c .before .size-at10 .ensures .0) (c .size-at11 .ensures .0), omega (arith, c .before .before .before .before .before .before .before .before .before .before .size-at .ensures .1, c .before .before .before .before .before .before .before .before .before .size-at2 .ensures .1, c .before .before .before .before .before .before .before .before .size-at3 .ensures .1, c .before .before .before .before .before .before .before .size-at4 .ensures .1, c .before .before .before .before .before .before .size-at5 .ensures .1, c .size-at11 .ensures .1))
+
+pub sizes-of-spec : {M : Type 1} → statement M
+sizes-of-spec =
+    tie.close
+    (tie.spec
+    size-at-requires
+    mul-bads
+    add-bads
+    add-size-at
+    size-at-requires-2
+    add-tables
+    mul-tables
+    add-tables-2
+    size-at-requires-3
+    add-size-at-2
+    size-at-requires-4
+    add-size-at-3
+    size-at-requires-5
+    add-bounds
+    add-bounds-2
+    add-bounds-3
+    mul-bounds
+    add-bounds-4
+    size-at-requires-6
+    size-at-requires-7
+    size-at-requires-8
+    size-at-requires-9
+    size-at-requires-10
+    add-size-at-4
+    size-at-requires-11
+    returns)
