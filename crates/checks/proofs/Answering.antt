@@ -20,7 +20,7 @@ use Rattle.model.specs.Verify.{program-check, evidence-check, bounds-check, mes
 use Rattle.model.proofs.Logic.{test}
 use Rattle.model.proofs.Exact.Answer.{check-refuses}
 use Rattle.words.proofs.Words.{words-length}
-use Rattle.message.proofs.Whole.{Whole-message}
+use Rattle.message.specs.Whole.{Whole-message}
 use Rattle.evidence.specs.Whole.{Parts-whole}
 use Rattle.space.specs.Space.{words-after}
 use Rattle.answers.specs.Safe.{is-safe}

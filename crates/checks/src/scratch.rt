@@ -16,14 +16,14 @@ ghost use Rattle.space.specs.Space.{words-after};
 ghost use Rattle.checks.specs.Stages.{evidence-on, Formed, is-small, is-middling};
 
 // Small in all that the scratch depends on.
-pub fn is_small(s: Sizes) -> bool
+fn is_small(s: Sizes) -> bool
     ensures { λ b. ⌜ b ≡ is-small s ⌝ }
 {
     s.rows <= 64 && (s.names <= 64 && (s.constructors <= 8 && s.mails <= 64))
 }
 
 // Middling in all that the scratch depends on.
-pub fn is_middling(s: Sizes) -> bool
+fn is_middling(s: Sizes) -> bool
     ensures { λ b. ⌜ b ≡ is-middling s ⌝ }
 {
     s.rows <= 256 && (s.names <= 256 && (s.constructors <= 16 && s.mails <= 64))

@@ -15,7 +15,7 @@ ghost use mathlib.Core.Path.{_≡_};
 ghost use Prim.Native.Nat.{_*_, _≤_};
 ghost use lib.ListN.{length};
 ghost use Rattle.model.specs.Verify.{message-check, answer, verdict, lent-after};
-ghost use Rattle.message.proofs.Whole.{Whole-message};
+ghost use Rattle.message.specs.Whole.{Whole-message};
 ghost use Rattle.evidence.specs.Whole.{Parts-whole};
 ghost use Rattle.space.specs.Space.{words-after};
 ghost use Rattle.checks.specs.Stages.{taken};

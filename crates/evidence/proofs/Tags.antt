@@ -37,14 +37,6 @@ module _ (p : Program) (r t : ℕ) (tag-is : t ≡ tag p r) where
   unfolding is-class
   class-start h = rw (← tag-is) (or-second (eqb t 6) (eqb r (size p)) (ne-eqb t 6 h))
 
-  pub function-inner : t ≡ 3 → eqb t 3 ≡ is-function p r
-  unfolding is-function
-  function-inner h = rw (← tag-is) (or-first (eqb t 3) (eqb t 11) (eq-eqb t 3 h))
-
-  pub function-global : (t ≡ 3 → ⊥) → eqb t 11 ≡ is-function p r
-  unfolding is-function
-  function-global h = rw (← tag-is) (or-second (eqb t 3) (eqb t 11) (ne-eqb t 3 h))
-
   -- the arms of the match: 2 and 3, then 6 and 11, then any other
   pub value-low : 2 ≤ t → t < 4 → true ≡ is-value p r
   unfolding is-value is-function is-class

@@ -3,7 +3,7 @@ use model::Sizes;
 use program::rows::tag;
 ghost use mathlib.Core.Path.{_≡_};
 ghost use Rattle.model.specs.Rows.{program, tag, is-head};
-ghost use Rattle.model.specs.Heads.{is-function, is-class};
+ghost use Rattle.model.specs.Heads.{is-class};
 ghost use Rattle.model.specs.Tables.{is-value};
 ghost use Rattle.program.specs.Rows.{Whole};
 
@@ -13,15 +13,6 @@ pub fn is_class(ws: &[u16], s: Sizes, c: usize) -> bool
     ensures { λ b. ⌜ b ≡ is-class (program (now (ws .entry)) s) c ⌝ }
 {
     tag(ws, s, c) == 6 || c == s.rows
-}
-
-// A row with tag 3 or 11.
-pub fn is_function(ws: &[u16], s: Sizes, f: usize) -> bool
-    requires { ⌜ Whole (now ws) s ⌝ }
-    ensures { λ b. ⌜ b ≡ is-function (program (now (ws .entry)) s) f ⌝ }
-{
-    let t = tag(ws, s, f);
-    t == 3 || t == 11
 }
 
 // A row with tag 2, a function, or a class.

@@ -5,7 +5,7 @@ use mathlib.Core.Path.{_≡_, refl, sym, subst}
 use mathlib.Core.Bool.{Bool, true, false, _&&_}
 use mathlib.Core.List.{List, [], _∷_}
 use mathlib.Core.Option.{some, none}
-use lib.ListN.{length, replicate, length-replicate}
+use lib.ListN.{length}
 use lib.Dec.{leb}
 use borrow.Author.Tests.{leb-true}
 use Rattle.model.specs.declared.Sizes.{Sizes}
@@ -18,7 +18,8 @@ use Rattle.model.specs.Demands.{Between, Within-limits}
 use Rattle.model.proofs.Logic.{test, and-left, and-right}
 use Rattle.message.specs.declared.Parts.the-variants.{Whole, Refused}
 use Rattle.sizes.specs.Sizes.{Placed}
-use Rattle.message.specs.Parts.{maxWords, answered, parts-of}
+use Rattle.message.specs.Parts.{answered, parts-of}
+use Rattle.message.specs.Whole.{Whole-message}
 use Rattle.words.proofs.Words.{words-length}
 
 -- a check that refuses nothing
@@ -71,16 +72,6 @@ part-whole-is ws at ls elements h =
     let behind = then-right _ _ h in
     (sizes-inside at ls (then-left _ _ behind), leb-true _ _ (unless-passes _ _ (then-right _ _ behind)))
 
--- what `Whole s` says
-pub record Whole-message (bytes : List ℕ) (s : Sizes) : Type 0 where
-  pub passes : parts-check bytes ≡ none
-  pub of-message : s ≡ sizes (words bytes)
-  pub limits : Within-limits s
-  pub words-end : length (words bytes) ≡ end-at s
-  pub bytes-end : length bytes ≡ 2 * end-at s
-  pub longest : end-at s ≤ maxWords
-  pub placed : Placed s
-
 -- the four parts refuse nothing, and nothing is left
 pub whole-check : (bytes : List ℕ) → parts-check bytes ≡ none → Whole-message bytes (sizes (words bytes))
 unfolding parts-check program-part bads-part tables-part bounds-part nothing-left bounds-at end-at
@@ -127,7 +118,3 @@ whole-message bytes s h =
 pub refused-message : (bytes : List ℕ) (v : Verdict) → parts-of bytes ≡ Refused v → parts-check bytes ≡ some v
 unfolding parts-of
 refused-message bytes v h = answered-refused (parts-check bytes) (sizes (words bytes)) v h
-
--- an array of zeros, as a caller makes it, has room for the words (its length is a variable here: to count it out would take long)
-pub room : (bytes : List ℕ) (s : Sizes) (n : ℕ) → Whole-message bytes s → maxWords ≤ n → length bytes ≤ 2 * length {A = ℕ} (replicate n 0)
-room bytes s n w h = let e = length-replicate {A = ℕ} n 0 in omega arith

@@ -60,7 +60,7 @@ fn width_of(n: u64) -> usize
 }
 
 // A number in decimal digits.
-pub fn put_decimal(out: &mut [u8], at: usize, n: u64) -> usize
+fn put_decimal(out: &mut [u8], at: usize, n: u64) -> usize
     requires { ⌜ at + 20 ≤ length (now out) ⌝ }
     ensures { λ r. ⌜ now (out .exit) ≡ put-at at (decimal n) (now (out .entry)) ⌝ }
     ensures { λ r. ⌜ r ≡ at + length (decimal n) ⌝ }
