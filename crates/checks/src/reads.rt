@@ -1,8 +1,8 @@
 // Refusals 3 to 5.
 use answers::is_safe;
+use grammar::row_check;
 use model::Sizes;
 use model::Verdict;
-use program::grammar::row_check;
 use scopes::names::name_check;
 use scopes::scope::scope_check;
 ghost use mathlib.Core.Path.{_≡_};

@@ -18,8 +18,8 @@ use Rattle.model.specs.Reader.{Read, past, wrong, fits, read, complete, first-w
 use Rattle.model.specs.Rows.{Program, program, size, tag, num, kind, Item, constructor, global, header, parameter, expression, made, operand, arguments, branches, pattern, branch, branch-items, whole, row-check, step, expression-step, pattern-step}
 use Rattle.model.proofs.Logic.{test}
 use Rattle.model.proofs.Reader.{read-none, read-end, read-stop, read-go, read-range, read-takes, read-wrong-range, read-append, read-append-wrong}
-use Rattle.program.specs.declared.grammar.Next.{Next}
-use Rattle.program.specs.declared.grammar.Next.the-variants.{Past, Wrong}
+use Rattle.program.specs.declared.readers.Next.{Next}
+use Rattle.program.specs.declared.readers.Next.the-variants.{Past, Wrong}
 use Rattle.program.specs.Rows.{reading, from}
 use Rattle.program.proofs.Columns.{part-past}
 

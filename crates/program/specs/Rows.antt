@@ -8,8 +8,8 @@ use Rattle.model.specs.declared.Sizes.{Sizes}
 use Rattle.model.specs.Limits.{maxRows, maxNames, maxConstructors, maxFunctions}
 use Rattle.model.specs.Reader.{Read, past, wrong, read}
 use Rattle.model.specs.Rows.{Program, size, Item, parameter, operand, header, arguments, step}
-use Rattle.program.specs.declared.grammar.Next.{Next}
-use Rattle.program.specs.declared.grammar.Next.the-variants.{Past, Wrong}
+use Rattle.program.specs.declared.readers.Next.{Next}
+use Rattle.program.specs.declared.readers.Next.the-variants.{Past, Wrong}
 
 -- the program's part is whole, and its sizes are within their limits
 pub record Whole (ws : List ℕ) (s : Sizes) : Type 0 where

@@ -1,3 +1,3 @@
-// The rows, names and scopes of a program: refusals 3, 4 and 5, and the tables that later layers go by.
-pub mod grammar;
+// The rows of a program, and the readers of lists of rows and of patterns.
+pub mod readers;
 pub mod rows;

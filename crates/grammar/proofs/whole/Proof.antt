@@ -1,10 +1,10 @@
 use mathlib.Core.Path.{sym, _∙_}
 use mathlib.Core.List.{[], _∷_}
 use Rattle.model.specs.Rows.{expression, declarations, whole}
 use Rattle.program.proofs.Reading.{then-past, then-wrong, past-upto}
 use borrow.Author.Needs.{needs}
-use Rattle.program.proofs.grammar.whole.Statement.{statement}
-use Rattle.program.proofs.grammar.whole.Tie as tie
+use Rattle.grammar.proofs.whole.Statement.{statement}
+use Rattle.grammar.proofs.whole.Tie as tie
 
 declarations-requires : tie.Need-declarations-requires
 declarations-requires c κs = search needs

@@ -11,16 +11,16 @@ use Rattle.program.proofs.Items.{pattern-30, pattern-31, pattern-32, pa
 use Rattle.program.proofs.Reading.{past-answer, wrong-answer, came-past, came-wrong, replicate-past, replicate-wrong, replicate-none, replicate-by, from-stop, past-upto, takes-row, last-row, refuses-row, yes-fits, no-fits}
 use borrow.Fn.Kinds.{In}
 use borrow.Fn.PlainCycle.{Measures, is, falls, and}
-use Rattle.program.proofs.grammar.pattern.Reads as pattern-reads
-use Rattle.program.proofs.grammar.pattern.Kinds as pattern-kinds
-use Rattle.program.proofs.grammar.+pattern+patterns.Lts-pattern as pattern-lts
-use Rattle.program.proofs.grammar.patterns.Reads as patterns-reads
-use Rattle.program.proofs.grammar.patterns.Kinds as patterns-kinds
-use Rattle.program.proofs.grammar.+pattern+patterns.Lts-patterns as patterns-lts
+use Rattle.program.proofs.readers.pattern.Reads as pattern-reads
+use Rattle.program.proofs.readers.pattern.Kinds as pattern-kinds
+use Rattle.program.proofs.readers.+pattern+patterns.Lts-pattern as pattern-lts
+use Rattle.program.proofs.readers.patterns.Reads as patterns-reads
+use Rattle.program.proofs.readers.patterns.Kinds as patterns-kinds
+use Rattle.program.proofs.readers.+pattern+patterns.Lts-patterns as patterns-lts
 use Rattle.program.proofs.rows.num.Reads as num-reads
 use Rattle.program.proofs.rows.tag.Reads as tag-reads
-use Rattle.program.proofs.grammar.+pattern+patterns.{statement}
-use Rattle.program.proofs.grammar.+pattern+patterns.Tie.{close}
+use Rattle.program.proofs.readers.+pattern+patterns.{statement}
+use Rattle.program.proofs.readers.+pattern+patterns.Tie.{close}
 
 abbrev μ-pattern : Measures 1 pattern-kinds.ps ℕ
 μ-pattern κs a = 2 * a .1 .1 .1 .0

@@ -8,8 +8,8 @@ use Rattle.model.specs.Rows.{program}
 use Rattle.program.specs.Rows.{from, listed-item}
 use Rattle.program.proofs.Items.{listed-says}
 use Rattle.program.proofs.Reading.{past-answer, wrong-answer, replicate-none, rows-turn, rows-halt}
-use Rattle.program.proofs.grammar.names.Statement.{statement}
-use Rattle.program.proofs.grammar.names.Tie as tie
+use Rattle.program.proofs.readers.names.Statement.{statement}
+use Rattle.program.proofs.readers.names.Tie as tie
 
 abbrev Inv-loop : tie.InvT-loop
 Inv-loop ws s r n t left₀ q₀ left q =

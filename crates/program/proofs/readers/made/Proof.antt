@@ -9,8 +9,8 @@ use Rattle.model.specs.Rows.{program, num, made, operand, arity}
 use Rattle.program.specs.Rows.{from, listed, listed-item}
 use Rattle.program.proofs.Items.{made-says}
 use Rattle.program.proofs.Reading.{wrong-answer, replicate-by, go-on, stop}
-use Rattle.program.proofs.grammar.made.Statement.{statement}
-use Rattle.program.proofs.grammar.made.Tie as tie
+use Rattle.program.proofs.readers.made.Statement.{statement}
+use Rattle.program.proofs.readers.made.Tie as tie
 
 is-row-requires : tie.Need-is-row-requires
 is-row-requires c κs = search needs

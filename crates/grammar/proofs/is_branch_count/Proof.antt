@@ -1,7 +1,7 @@
 use borrow.Author.Tests.{le-leb, lt-leb}
 use Rattle.model.specs.Rows.{is-branch-count}
-use Rattle.program.proofs.grammar.is_branch_count.Statement.{statement}
-use Rattle.program.proofs.grammar.is_branch_count.Tie as tie
+use Rattle.grammar.proofs.is_branch_count.Statement.{statement}
+use Rattle.grammar.proofs.is_branch_count.Tie as tie
 
 returns : tie.Need-returns
 unfolding is-branch-count

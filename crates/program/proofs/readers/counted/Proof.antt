@@ -9,8 +9,8 @@ use Rattle.model.specs.Rows.{program, num}
 use Rattle.program.specs.Rows.{from, listed-item, counted-items}
 use Rattle.program.proofs.Items.{counted-says}
 use Rattle.program.proofs.Reading.{wrong-answer, go-on, stop}
-use Rattle.program.proofs.grammar.counted.Statement.{statement}
-use Rattle.program.proofs.grammar.counted.Tie as tie
+use Rattle.program.proofs.readers.counted.Statement.{statement}
+use Rattle.program.proofs.readers.counted.Tie as tie
 
 is-small-row-requires : tie.Need-is-small-row-requires
 is-small-row-requires c κs = search needs

@@ -1,9 +1,9 @@
 use native.Mathlib.Omega.{arith}
 use Rattle.model.specs.Rows.{whole}
 use Rattle.program.proofs.Reading.{rows-pass, rows-left, row-wrong, past-upto, wrong-upto}
 use borrow.Author.Needs.{needs}
-use Rattle.program.proofs.grammar.row_check.Statement.{statement}
-use Rattle.program.proofs.grammar.row_check.Tie as tie
+use Rattle.grammar.proofs.row_check.Statement.{statement}
+use Rattle.grammar.proofs.row_check.Tie as tie
 
 whole-requires : tie.Need-whole-requires
 whole-requires c κs = search needs

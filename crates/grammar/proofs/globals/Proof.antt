@@ -5,12 +5,12 @@ use mathlib.Core.List.{[], _∷_}
 use lib.ListN.{replicate}
 use borrow.Author.Tests.{not-true, not-false}
 use Rattle.model.specs.Rows.{program, global, body-form}
 use Rattle.program.specs.Rows.{from}
 use Rattle.program.proofs.Items.{global-says}
 use Rattle.program.proofs.Reading.{past-answer, wrong-answer, came-past, came-wrong, replicate-past, replicate-wrong, replicate-none, go, stop, past-upto}
 use borrow.Author.Needs.{needs}
-use Rattle.program.proofs.grammar.globals.Statement.{statement}
-use Rattle.program.proofs.grammar.globals.Tie as tie
+use Rattle.grammar.proofs.globals.Statement.{statement}
+use Rattle.grammar.proofs.globals.Tie as tie
 
 abbrev Inv-loop : tie.InvT-loop
 Inv-loop ws s r left₀ q₀ left q =

@@ -8,8 +8,8 @@ use Rattle.model.specs.Rows.{program, constructor}
 use Rattle.program.specs.Rows.{from}
 use Rattle.program.proofs.Items.{constructor-says}
 use Rattle.program.proofs.Reading.{past-answer, wrong-answer, replicate-none, rows-turn, rows-halt}
-use Rattle.program.proofs.grammar.constructors.Statement.{statement}
-use Rattle.program.proofs.grammar.constructors.Tie as tie
+use Rattle.program.proofs.readers.constructors.Statement.{statement}
+use Rattle.program.proofs.readers.constructors.Tie as tie
 
 abbrev Inv-loop : tie.InvT-loop
 Inv-loop ws s left₀ r₀ left r =

@@ -6,36 +6,36 @@ use mathlib.Core.List.{[], _∷_, _++_}
 use borrow.Author.Tests.{lt-ltb, le-ltb}
 use Rattle.model.specs.Rows.{program, tag, kind, pattern, header, expression, branches, lead, body-form, branch-items, made}
 use Rattle.model.specs.Limits.{maxDepth}
 use Rattle.program.specs.Rows.{from, listed, listed-item, counted-items}
 use Rattle.program.proofs.Items.{give-says, bound-says, case-says, lead-of, lead-none, receive-says, no-head-says, branches-25, branches-other}
 use Rattle.program.proofs.Reading.{past-answer, wrong-answer, came-past, came-wrong, items-by, branches-past, branches-no-pattern, branches-no-body, branches-none, from-none, past-upto, past-behind, takes-row, last-row, refuses-row, then-past, then-wrong, yes-fits, no-fits}
 use borrow.Fn.Kinds.{In}
 use borrow.Fn.PlainCycle.{Measures, is, falls, and}
-use Rattle.program.proofs.grammar.body_form.Reads as body-form-reads
-use Rattle.program.proofs.grammar.body_form.Kinds as body-form-kinds
-use Rattle.program.proofs.grammar.+body_form+branches+case_branches+expression+lead.Lts-body_form as body-form-lts
-use Rattle.program.proofs.grammar.branches.Reads as branches-reads
-use Rattle.program.proofs.grammar.branches.Kinds as branches-kinds
-use Rattle.program.proofs.grammar.+body_form+branches+case_branches+expression+lead.Lts-branches as branches-lts
-use Rattle.program.proofs.grammar.case_branches.Reads as case-branches-reads
-use Rattle.program.proofs.grammar.case_branches.Kinds as case-branches-kinds
-use Rattle.program.proofs.grammar.+body_form+branches+case_branches+expression+lead.Lts-case_branches as case-branches-lts
-use Rattle.program.proofs.grammar.expression.Reads as expression-reads
-use Rattle.program.proofs.grammar.expression.Kinds as expression-kinds
-use Rattle.program.proofs.grammar.+body_form+branches+case_branches+expression+lead.Lts-expression as expression-lts
-use Rattle.program.proofs.grammar.lead.Reads as lead-reads
-use Rattle.program.proofs.grammar.lead.Kinds as lead-kinds
-use Rattle.program.proofs.grammar.+body_form+branches+case_branches+expression+lead.Lts-lead as lead-lts
-use Rattle.program.proofs.grammar.call_parts.Reads as call-parts-reads
-use Rattle.program.proofs.grammar.counted.Reads as counted-reads
-use Rattle.program.proofs.grammar.is_branch_count.Reads as is-branch-count-reads
-use Rattle.program.proofs.grammar.made.Reads as made-reads
-use Rattle.program.proofs.grammar.names.Reads as names-reads
-use Rattle.program.proofs.grammar.pattern.Reads as pattern-reads
+use Rattle.grammar.proofs.body_form.Reads as body-form-reads
+use Rattle.grammar.proofs.body_form.Kinds as body-form-kinds
+use Rattle.grammar.proofs.+body_form+branches+case_branches+expression+lead.Lts-body_form as body-form-lts
+use Rattle.grammar.proofs.branches.Reads as branches-reads
+use Rattle.grammar.proofs.branches.Kinds as branches-kinds
+use Rattle.grammar.proofs.+body_form+branches+case_branches+expression+lead.Lts-branches as branches-lts
+use Rattle.grammar.proofs.case_branches.Reads as case-branches-reads
+use Rattle.grammar.proofs.case_branches.Kinds as case-branches-kinds
+use Rattle.grammar.proofs.+body_form+branches+case_branches+expression+lead.Lts-case_branches as case-branches-lts
+use Rattle.grammar.proofs.expression.Reads as expression-reads
+use Rattle.grammar.proofs.expression.Kinds as expression-kinds
+use Rattle.grammar.proofs.+body_form+branches+case_branches+expression+lead.Lts-expression as expression-lts
+use Rattle.grammar.proofs.lead.Reads as lead-reads
+use Rattle.grammar.proofs.lead.Kinds as lead-kinds
+use Rattle.grammar.proofs.+body_form+branches+case_branches+expression+lead.Lts-lead as lead-lts
+use Rattle.program.proofs.readers.call_parts.Reads as call-parts-reads
+use Rattle.program.proofs.readers.counted.Reads as counted-reads
+use Rattle.grammar.proofs.is_branch_count.Reads as is-branch-count-reads
+use Rattle.program.proofs.readers.made.Reads as made-reads
+use Rattle.program.proofs.readers.names.Reads as names-reads
+use Rattle.program.proofs.readers.pattern.Reads as pattern-reads
 use Rattle.program.proofs.rows.num.Reads as num-reads
 use Rattle.program.proofs.rows.tag.Reads as tag-reads
-use Rattle.program.proofs.grammar.+body_form+branches+case_branches+expression+lead.{statement}
-use Rattle.program.proofs.grammar.+body_form+branches+case_branches+expression+lead.Tie.{close}
+use Rattle.grammar.proofs.+body_form+branches+case_branches+expression+lead.{statement}
+use Rattle.grammar.proofs.+body_form+branches+case_branches+expression+lead.Tie.{close}
 
 abbrev μ-body-form : Measures 1 body-form-kinds.ps ℕ
 μ-body-form κs a = 4 * (a .1 .0 .rows - a .1 .1 .0) + 1

@@ -1,10 +1,10 @@
 use mathlib.Core.Path.{sym, _∙_}
 use lib.ListN.{replicate}
 use Rattle.model.specs.Rows.{program, constructor, global, declarations}
 use Rattle.program.proofs.Reading.{then-past, then-wrong, past-upto}
 use borrow.Author.Needs.{needs}
-use Rattle.program.proofs.grammar.declarations.Statement.{statement}
-use Rattle.program.proofs.grammar.declarations.Tie as tie
+use Rattle.grammar.proofs.declarations.Statement.{statement}
+use Rattle.grammar.proofs.declarations.Tie as tie
 
 constructors-requires : tie.Need-constructors-requires
 constructors-requires c κs = search needs

@@ -5,8 +5,8 @@ use Rattle.model.specs.Rows.{operand, arguments}
 use Rattle.program.specs.Rows.{listed, listed-item, counted-items}
 use Rattle.program.proofs.Reading.{then-past, then-wrong, past-upto}
 use borrow.Author.Needs.{needs}
-use Rattle.program.proofs.grammar.call_parts.Statement.{statement}
-use Rattle.program.proofs.grammar.call_parts.Tie as tie
+use Rattle.program.proofs.readers.call_parts.Statement.{statement}
+use Rattle.program.proofs.readers.call_parts.Tie as tie
 
 names-requires : tie.Need-names-requires
 unfolding listed
