@@ -1,6 +1,7 @@
 pub mod Stepping
 pub mod Suspects
 pub mod PairTable
+pub mod Limited
 pub mod Escapes
 pub mod Candidates
 pub mod Held

@@ -2,7 +2,7 @@
 use Prim.Native.Nat.{ℕ, zero, suc, _+_, _*_, _≤_, _<_}
 use native.Mathlib.Decide.{ℕ-discrete}
 use native.Mathlib.Omega.{arith}
-use mathlib.Core.Path.{_≡_, sym, _∙_}
+use mathlib.Core.Path.{_≡_, sym, _∙_, ap}
 use mathlib.Core.Bool.{Bool, not}
 use mathlib.Core.List.{List}
 use lib.ListN.{length, getD, set, length-set}
@@ -11,15 +11,17 @@ use Rattle.model.specs.Limits.{maxBounds}
 use Rattle.model.specs.Index.{first}
 use Rattle.model.specs.Bounds.{allowed, highest}
 use Rattle.bounds.specs.Limits.{row}
-use Rattle.covers.specs.Pairs.{exceeds, exceeding, kept, pair, pair-cells, Pairs-before, Pairs-table, Pair-filled}
+use Rattle.covers.specs.Pairs.{exceeds, exceeding, kept, pair, pair-cells, put-three, Pairs-before, Pairs-table, Pair-filled}
+use Rattle.covers.specs.Limited.{Limited, listed-exceeds, listed-at}
+use Rattle.covers.proofs.Limited.{listed-first, listed-next}
 
 -- the test by the code's values
 pub exceeds-is : (limits : List ℕ) (k k′ x l h : ℕ) (b : Bool) → b ≡ allowed l h → l ≡ row limits k′ x → h ≡ highest (row limits k) x → not b ≡ exceeds limits k k′ x
 unfolding exceeds
 exceeds-is limits k k′ x l h b e f g = rw (e, f, g)
 
-module _ (n : ℕ) (limits : List ℕ) (k k′ : ℕ) (before : List ℕ) (a b c at : ℕ) where
-  -- the three cells of a pair
+-- the three cells of a pair
+module _ (before : List ℕ) (a b c at : ℕ) where
   abbrev one : List ℕ
   one = set before at a
 
@@ -27,30 +29,40 @@ module _ (n : ℕ) (limits : List ℕ) (k k′ : ℕ) (before : List ℕ) (a b c
   two = set one (at + 1) b
 
   abbrev three : List ℕ
-  three = set two (at + 2) c
+  three = put-three before at a b c
 
   three-other : (j : ℕ) → (j ≡ at → ⊥) → (j ≡ at + 1 → ⊥) → (j ≡ at + 2 → ⊥) → getD three j 0 ≡ getD before j 0
+  unfolding put-three
   three-other j x y z =
       getD-set-other two (at + 2) j c 0 z ∙ (getD-set-other one (at + 1) j b 0 y ∙ getD-set-other before at j a 0 x)
 
   module _ (room : at + 2 < length before) where
-    three-at : (i : ℕ) (f : ℕ → ℕ) → i < 3 → f 0 ≡ a → f 1 ≡ b → f 2 ≡ c → getD three (at + i) 0 ≡ f i
+    three-at : (i : ℕ) (f : ℕ → ℕ) → i < 3 → a ≡ f 0 → b ≡ f 1 → c ≡ f 2 → getD three (at + i) 0 ≡ f i
+    unfolding put-three
     three-at zero f h x y z =
         let e : at + 0 ≡ at = omega arith in
-        rw e (getD-set-other two (at + 2) at c 0 (omega arith) ∙ (getD-set-other one (at + 1) at b 0 (omega arith) ∙ (getD-set-same before at a 0 (omega arith) ∙ sym x)))
+        rw e (getD-set-other two (at + 2) at c 0 (omega arith) ∙ (getD-set-other one (at + 1) at b 0 (omega arith) ∙ (getD-set-same before at a 0 (omega arith) ∙ x)))
     three-at (suc zero) f h x y z =
-        getD-set-other two (at + 2) (at + 1) c 0 (omega arith) ∙ (getD-set-same one (at + 1) b 0 (simp length-set (omega arith)) ∙ sym y)
-    three-at (suc (suc zero)) f h x y z = getD-set-same two (at + 2) c 0 (simp length-set (omega arith)) ∙ sym z
+        getD-set-other two (at + 2) (at + 1) c 0 (omega arith) ∙ (getD-set-same one (at + 1) b 0 (simp length-set (omega arith)) ∙ y)
+    three-at (suc (suc zero)) f h x y z = getD-set-same two (at + 2) c 0 (simp length-set (omega arith)) ∙ z
     three-at (suc (suc (suc i))) f h x y z = absurd (omega arith)
 
-  -- one pair
-  pub pair-filled : k < maxBounds → k′ < maxBounds → pair-cells (k + 1) ≤ length before → at ≡ pair k k′ * kept → a ≡ first 0 n (exceeds limits k k′) → b ≡ first (a + 1) n (exceeds limits k k′) → c ≡ first (b + 1) n (exceeds limits k k′) → Pair-filled n limits k k′ before three
+-- one pair: the counters at places p, q and r of the m listed
+module _ (n : ℕ) (limits : List ℕ) (k k′ : ℕ) (before after : List ℕ) (list : List ℕ) (m p q r x y z : ℕ) where
+  abbrev places : ℕ → Bool
+  places = listed-exceeds limits list k k′
+
+  pub pair-filled : k < maxBounds → k′ < maxBounds → pair-cells (k + 1) ≤ length before → Limited limits k n list m → p ≡ first 0 m places → q ≡ first (p + 1) m places → r ≡ first (q + 1) m places → x ≡ listed-at list m n p → y ≡ listed-at list m n q → z ≡ listed-at list m n r → after ≡ put-three before (pair k k′ * kept) x y z → Pair-filled n limits k k′ before after
   unfolding exceeding
-  pair-filled h h′ room e x y z =
-      record {
-        here = λ i l. rw (← e) (three-at (omega arith) i (exceeding limits n k k′) l (sym x) (rw (← x) (sym y)) (rw (← x) (rw (← y) (sym z))));
-        others = λ m i l d. three-other (m * kept + i) (λ w. d (omega arith)) (λ w. d (omega arith)) (λ w. d (omega arith));
-      }
+  pair-filled h h′ room c ep eq er ex ey ez e =
+      let fx : x ≡ exceeding limits n k k′ 0 = ex ∙ (ap (listed-at list m n) ep ∙ listed-first limits k n list m c k′) in
+      let fy : y ≡ exceeding limits n k k′ 1 = ey ∙ (ap (listed-at list m n) eq ∙ (listed-next limits k n list m c k′ p ∙ ap (λ w. first (w + 1) n (exceeds limits k k′)) (sym ex ∙ fx))) in
+      let fz : z ≡ exceeding limits n k k′ 2 = ez ∙ (ap (listed-at list m n) er ∙ (listed-next limits k n list m c k′ q ∙ ap (λ w. first (w + 1) n (exceeds limits k k′)) (sym ey ∙ fy))) in
+      rw e
+      (record {
+        here = λ i l. three-at before x y z (pair k k′ * kept) (omega arith) i (exceeding limits n k k′) l fx fy fz;
+        others = λ j i l d. three-other before x y z (pair k k′ * kept) (j * kept + i) (λ w. d (omega arith)) (λ w. d (omega arith)) (λ w. d (omega arith));
+      })
 
 module _ (ceilings n : ℕ) (limits : List ℕ) where
   pub pairs-none : (pairs : List ℕ) → Pairs-before ceilings n limits pairs 0

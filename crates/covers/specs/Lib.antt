@@ -1,3 +1,4 @@
 pub mod Steps
 pub mod Pairs
+pub mod Limited
 pub mod Candidates

@@ -3,7 +3,7 @@ use Prim.Native.Nat.{ℕ, zero, suc, _+_, _*_, _≤_, _<_}
 use mathlib.Core.Path.{_≡_}
 use mathlib.Core.Bool.{Bool, not}
 use mathlib.Core.List.{List, [], _∷_}
-use lib.ListN.{length, getD}
+use lib.ListN.{length, getD, set}
 use Rattle.model.specs.Limits.{maxBounds}
 use Rattle.model.specs.Index.{first}
 use Rattle.model.specs.Markings.{fire}
@@ -43,6 +43,10 @@ pub record Pairs-before (ceilings n : ℕ) (limits pairs : List ℕ) (m : ℕ) :
 pub record Pairs-table (ceilings n : ℕ) (limits pairs : List ℕ) : Type 0 where
   pub room : pair-cells ceilings ≤ length pairs
   pub all : Pairs-before ceilings n limits pairs (ceilings * maxBounds)
+
+-- three words from a cell on
+unfoldable pub put-three : List ℕ → ℕ → ℕ → ℕ → ℕ → List ℕ
+put-three cells at a b c = set (set (set cells at a) (at + 1) b) (at + 2) c
 
 -- one pair is in the table, and the others are as before
 pub record Pair-filled (n : ℕ) (limits : List ℕ) (k k′ : ℕ) (before pairs : List ℕ) : Type 0 where
