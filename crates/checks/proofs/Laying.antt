@@ -25,7 +25,7 @@ use borrow.Author.Tests.{leb-true}
 use Rattle.program.specs.Rows.{from}
 use Rattle.program.specs.Layout.{Layout, owner}
 use Rattle.layout.specs.Tables.{After-table, Inner-upto, or-end}
-use Rattle.flow.specs.Patterns as flow
+use Rattle.patterns.specs.Patterns as patterns
 use Rattle.entries.specs.Entries.{Ground}
 use Rattle.bounds.specs.Parts as bounds
 use Rattle.bounds.specs.Items.{Items-counted}
@@ -69,7 +69,7 @@ rows-pass p h = then-none _ _ .0 h .0
 
 module _ (ws : List ℕ) (s : Sizes) {afters inners : List ℕ} (f : Formed ws s afters inners) where
   -- what the tables of branches ask
-  pub flow-ready : entry-check s (program ws s) (tables ws s) ≡ none → flow.Ready ws s afters
+  pub flow-ready : entry-check s (program ws s) (tables ws s) ≡ none → patterns.Ready ws s afters
   flow-ready e =
       let l = f .layout in
       record {

@@ -18,7 +18,8 @@ use Rattle.model.specs.Closed.{may-take, names-hold, branches-closed}
 use Rattle.model.proofs.Logic.{test, true-false, and-left, and-right, and-intro, implies-elim, implies-intro}
 use Rattle.model.proofs.Index.{all-elim, all-intro}
 use Rattle.model.proofs.Exact.Members.{some-of-iff}
-use Rattle.flow.specs.Branches.{code, value-code, name-code}
+use Rattle.patterns.specs.Patterns.{code}
+use Rattle.flow.specs.Branches.{value-code, name-code}
 use Rattle.entries.proofs.Narrow.{same-test}
 use Rattle.closed.specs.Parts.{code-closed, codes-closed}
 

@@ -16,9 +16,9 @@ use Rattle.model.specs.Rows.{program, is-name}
 use Rattle.model.specs.Tables.{Tables, entries, tables, has, each}
 use Rattle.model.proofs.Logic.{test}
 use Rattle.model.proofs.Index.{all-hit, all-miss, all-end}
-use Rattle.flow.specs.Members.{Evidence}
-use Rattle.flow.specs.Marks.{bit}
-use Rattle.flow.proofs.Marking.{value-low}
+use Rattle.patterns.specs.Members.{Evidence}
+use Rattle.patterns.specs.Marks.{bit}
+use Rattle.patterns.proofs.Marking.{value-low}
 use Rattle.entries.specs.Entries.{Ground, Ones, Inclusions, Included, includes}
 use Rattle.entries.proofs.Held.{flow-listed}
 use Rattle.entries.proofs.Turns.{asked}

@@ -15,7 +15,7 @@ use Rattle.model.specs.Tables.{Tables, tables, entry-check, has, each}
 use Rattle.model.specs.Verify.{program-check}
 use Rattle.model.specs.Demands.{Pair-below, Within-limits}
 use Rattle.program.specs.Rows.{Whole}
-use Rattle.flow.specs.Marks.{bit}
+use Rattle.patterns.specs.Marks.{bit}
 
 -- each entry is above all before it
 pub record Ascends (c : Columns) : Type 0 where

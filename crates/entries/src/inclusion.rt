@@ -1,8 +1,8 @@
 // Which names' values are all among another name's: a table of every pair of names.
 use crate::lists::flow_name;
 use crate::lists::flow_value;
-use flow::marks::marks;
 use model::Sizes;
+use patterns::marks::marks;
 ghost use mathlib.Core.Path.{_≡_};
 ghost use Prim.Native.Nat.{_+_, _*_, _≤_, _<_};
 ghost use lib.ListN.{length};

@@ -14,10 +14,10 @@ use Rattle.model.specs.Tables.{Tables, tables}
 use Rattle.model.specs.Closed.{may-take}
 use Rattle.model.proofs.Parse.Reached.{Rows-fit}
 use Rattle.flow.specs.Branches.{name-code}
-use Rattle.flow.specs.Patterns.{values-code, Ready, Coded, looked-up}
+use Rattle.patterns.specs.Patterns.{values-code, Ready, Coded, looked-up}
 use Rattle.flow.specs.Filled.{case-rows, Case-branch, Case-right}
-use Rattle.flow.proofs.Entries.{row-inside}
-use Rattle.flow.proofs.Ready.{ready-fit, looked-code}
+use Rattle.patterns.proofs.Entries.{row-inside}
+use Rattle.patterns.proofs.Ready.{ready-fit, looked-code}
 use Rattle.flow.proofs.Apart.{case-head, case-location, case-stands, one-owner}
 use Rattle.flow.proofs.Walk.{Next, Progress, progress-begin, progress-next, progress-on}
 

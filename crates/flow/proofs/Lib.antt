@@ -1,14 +1,6 @@
-pub mod Narrow
-pub mod Entries
-pub mod Codes
-pub mod Subpatterns
-pub mod Ready
-pub mod Arguments
-pub mod Values
-pub mod Marking
-pub mod Filling
-pub mod Apart
-pub mod Walk
-pub mod Cases
-pub mod Mails
-pub mod Heads
+mod Lent
+mod Apart
+mod Walk
+mod Cases
+mod Mails
+mod Heads

@@ -16,10 +16,10 @@ use Rattle.model.specs.Tables.{Tables, tables}
 use Rattle.model.specs.Closed.{may-take}
 use Rattle.model.proofs.Parse.Reached.{Rows-fit}
 use Rattle.flow.specs.Branches.{value-code}
-use Rattle.flow.specs.Patterns.{pattern-code, Pattern, Ready, Is-code}
+use Rattle.patterns.specs.Patterns.{pattern-code, Pattern, Ready, Is-code}
 use Rattle.flow.specs.Filled.{receive-rows, Receive-branch, Receive-right, Mail-coded}
-use Rattle.flow.proofs.Entries.{row-inside}
-use Rattle.flow.proofs.Ready.{ready-fit}
+use Rattle.patterns.proofs.Entries.{row-inside}
+use Rattle.patterns.proofs.Ready.{ready-fit}
 use Rattle.flow.proofs.Apart.{cell, same-half, receive-head, receive-location, receive-stands}
 use Rattle.flow.proofs.Walk.{Next, Progress, progress-begin, progress-next, progress-on}
 

@@ -10,7 +10,7 @@ use Rattle.model.specs.Rows.{Program, size, Item, pattern, branch, branch-items
 use Rattle.model.specs.Heads.{branch-rows}
 use Rattle.model.proofs.Parse.Spans.{spans-past, spans-takes}
 use Rattle.model.proofs.Parse.Reached.{Stands, stands-split}
-use Rattle.flow.specs.Patterns.{Pattern, Afters}
+use Rattle.patterns.specs.Patterns.{Pattern, Afters}
 use Rattle.flow.specs.Filled.{Filled}
 
 -- n branches are left, from row q on; those of `rows` that are not among them are done

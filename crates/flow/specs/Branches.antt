@@ -1,8 +1,7 @@
 -- What the branch tables say: whether a branch may match, and whether its names then hold what they are to.
 use Prim.Native.Nat.{ℕ, _+_, _*_, _/_, _≤_, _<_}
 use mathlib.Core.Path.{_≡_}
-use mathlib.Core.Bool.{Bool, true, false}
-use mathlib.Core.List.{List, [], _∷_, List·Memᴰ}
+use mathlib.Core.List.{List, List·Memᴰ}
 use lib.ListN.{length, getD}
 use Rattle.model.specs.Limits.{maxDepth}
 use Rattle.model.specs.Index.{implies}
@@ -11,12 +10,7 @@ use Rattle.model.specs.Rows.{Program, size}
 use Rattle.model.specs.Heads.{head-at, cases, receives}
 use Rattle.model.specs.Tables.{Tables, each, some-of}
 use Rattle.model.specs.Closed.{names-hold, may-take}
-
--- 0: may not match; 1: may match, and the names hold what they are to; 2: may match, and some name does not
-unfoldable pub code : Bool → Bool → ℕ
-code false held = 0
-code true true = 1
-code true false = 2
+use Rattle.patterns.specs.Patterns.{code}
 
 -- of the branch at row q and one value
 unfoldable pub value-code : Program → Tables → ℕ → ℕ → ℕ

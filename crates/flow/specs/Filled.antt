@@ -9,7 +9,7 @@ use Rattle.model.specs.Rows.{Program, size}
 use Rattle.model.specs.Heads.{Head, head-at, gives, builds, makes, calls, sends, spawns, selfs, cases, receives, no-head}
 use Rattle.model.specs.Tables.{Tables}
 use Rattle.flow.specs.Branches.{value-code, name-code}
-use Rattle.flow.specs.Patterns.{Pattern}
+use Rattle.patterns.specs.Patterns.{Pattern}
 
 -- the pattern rows of the branches of a case, of a receive
 unfoldable pub case-rows : Head → List ℕ
@@ -67,3 +67,7 @@ pub record Filled (Right : List ℕ → ℕ → Type 0) (rows before after : Lis
 pub record Mail-coded (p : Program) (t : Tables) (q : ℕ) (before after : List ℕ) : Type 0 where
   pub codes : Pattern p maxDepth q → (j : ℕ) → j < t .mail .size → getD after (q / 2 * t .mail .size + j) 0 ≡ value-code p t q (right (t .mail) j)
   pub others : (k : ℕ) → ((j : ℕ) → j < t .mail .size → k ≡ q / 2 * t .mail .size + j → ⊥) → getD after k 0 ≡ getD before k 0
+
+-- n zeros at the front
+pub record Zeros (n : ℕ) (codes : List ℕ) : Type 0 where
+  pub zeros : (k : ℕ) → k < n → getD codes k 0 ≡ 0

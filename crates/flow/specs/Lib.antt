@@ -1,5 +1,2 @@
-pub mod Members
-pub mod Marks
 pub mod Branches
-pub mod Patterns
 pub mod Filled

@@ -1,11 +1,11 @@
 // The branch tables: of each branch of a case its code with all values of the name together, of each branch of a receive its code with each mail entry.
-use crate::members::second;
-use crate::patterns::after_at;
-use crate::patterns::code_at;
-use crate::patterns::fill_codes;
-use crate::patterns::value_code;
 use model::MAX_NAMES;
 use model::Sizes;
+use patterns::after_at;
+use patterns::code_at;
+use patterns::fill_codes;
+use patterns::members::second;
+use patterns::value_code;
 use program::rows::num;
 use program::rows::tag;
 ghost use mathlib.Core.Path.{_≡_};
@@ -15,9 +15,9 @@ ghost use Rattle.model.specs.Limits.{maxNames};
 ghost use Rattle.model.specs.Rows.{program, tag};
 ghost use Rattle.model.specs.Heads.{head-at};
 ghost use Rattle.model.specs.Tables.{tables};
+ghost use Rattle.patterns.specs.Patterns.{Ready, Coded};
 ghost use Rattle.flow.specs.Branches.{Branches};
-ghost use Rattle.flow.specs.Patterns.{Ready, Coded, Zeros};
-ghost use Rattle.flow.specs.Filled.{case-rows, receive-rows, Case-right, Receive-right, Mail-coded, Filled};
+ghost use Rattle.flow.specs.Filled.{case-rows, receive-rows, Case-right, Receive-right, Mail-coded, Filled, Zeros};
 
 // The row after the branch whose pattern stands at row q.
 fn next_branch(afters: &[u16], q: usize) -> usize

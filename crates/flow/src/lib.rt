@@ -1,5 +1,2 @@
-// Closed tables: refusal 8.
+// Which branches of cases and receives may match, as tables.
 pub mod branches;
-pub mod marks;
-pub mod members;
-pub mod patterns;

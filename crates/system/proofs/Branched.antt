@@ -23,7 +23,8 @@ use Rattle.model.specs.Rules.{letter-of-some}
 use Rattle.model.proofs.Logic.{test}
 use Rattle.model.proofs.Index.{any-intro, any-elim, any-none, none-any}
 use Rattle.model.proofs.Numbering.States.{Ascending}
-use Rattle.flow.specs.Branches.{code, value-code, name-code, Branches}
+use Rattle.patterns.specs.Patterns.{code}
+use Rattle.flow.specs.Branches.{value-code, name-code, Branches}
 use Rattle.counters.specs.Lists.{place}
 use Rattle.counters.proofs.Keys.{product-most}
 use Rattle.counters.proofs.Rising.{place-upto, begins-before, begins-within, begins-behind}

@@ -7,7 +7,7 @@ use borrow.Author.Needs.{needs}
 use lib.ListN.{length}
 use Rattle.model.specs.Rows.{program}
 use Rattle.model.specs.Tables.{tables}
-use Rattle.flow.proofs.Entries.{rows-size}
+use Rattle.patterns.proofs.Entries.{rows-size}
 use Rattle.flow.proofs.branches.case_branches.Statement.{statement}
 use Rattle.flow.proofs.branches.case_branches.Tie as tie
 

@@ -3,8 +3,8 @@ use native.Mathlib.Omega.{arith}
 use mathlib.Core.Path.{_≡_, refl}
 use Prim.Native.Nat.{_-_, _≤_}
 use lib.ListN.{length, length-set}
-use Rattle.flow.specs.Patterns.{Zeros}
-use Rattle.flow.proofs.Filling.{no-zeros, more-zeros, all-zeros}
+use Rattle.flow.specs.Filled.{Zeros}
+use Rattle.flow.proofs.Lent.{no-zeros, more-zeros, all-zeros}
 use borrow.Author.Needs.{needs}
 use Rattle.flow.proofs.branches.clear.Statement.{statement}
 use Rattle.flow.proofs.branches.clear.Tie as tie

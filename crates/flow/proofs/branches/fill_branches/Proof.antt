@@ -1,7 +1,7 @@
 use native.Mathlib.Omega.{arith}
 use mathlib.Core.Path.{refl}
 use borrow.Author.Needs.{needs}
-use Rattle.flow.proofs.Filling.{zeros-clear}
+use Rattle.flow.proofs.Lent.{zeros-clear}
 use Rattle.flow.proofs.branches.fill_branches.Statement.{statement}
 use Rattle.flow.proofs.branches.fill_branches.Tie as tie
 

@@ -4,7 +4,7 @@ use native.Mathlib.Omega.{arith}
 use mathlib.Core.Path.{sym, _∙_}
 use Rattle.model.specs.Rows.{program}
 use Rattle.model.specs.Tables.{tables}
-use Rattle.flow.proofs.Entries.{row-inside}
+use Rattle.patterns.proofs.Entries.{row-inside}
 use Rattle.flow.proofs.Heads.{Heads-done, heads-begin, heads-case, heads-receive, heads-other, heads-all}
 use Rattle.flow.proofs.branches.fill_heads.Statement.{statement}
 use Rattle.flow.proofs.branches.fill_heads.Tie as tie

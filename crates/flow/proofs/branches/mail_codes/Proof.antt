@@ -5,9 +5,9 @@ use native.Mathlib.Omega.{arith}
 use lib.ListN.{length}
 use Rattle.model.specs.Rows.{program}
 use Rattle.model.specs.Tables.{tables}
-use Rattle.flow.proofs.Entries.{mail-size, mail-held, mail-second}
-use Rattle.flow.proofs.Ready.{entry-small}
-use Rattle.flow.proofs.Filling.{coded-later}
+use Rattle.patterns.proofs.Entries.{mail-size, mail-held, mail-second}
+use Rattle.patterns.proofs.Ready.{entry-small}
+use Rattle.flow.proofs.Lent.{coded-later}
 use Rattle.flow.proofs.Mails.{Mail-walk, mail-room, mail-begin, mail-end, mail-step}
 use Rattle.flow.proofs.branches.mail_codes.Statement.{statement}
 use Rattle.flow.proofs.branches.mail_codes.Tie as tie

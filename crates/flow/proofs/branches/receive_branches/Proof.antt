@@ -4,7 +4,7 @@ use native.Mathlib.Omega.{arith}
 use borrow.Author.Needs.{needs}
 use Rattle.model.specs.Rows.{program}
 use Rattle.model.specs.Tables.{tables}
-use Rattle.flow.proofs.Entries.{rows-size}
+use Rattle.patterns.proofs.Entries.{rows-size}
 use Rattle.flow.proofs.Walk.{progress-end, progress-next}
 use Rattle.flow.proofs.Mails.{Receive-progress, receive-begin, receive-step}
 use Rattle.flow.proofs.branches.receive_branches.Statement.{statement}

@@ -1,0 +1,25 @@
+use native.Mathlib.Omega.{arith}
+use mathlib.Core.Path.{refl, sym}
+use lib.ListN.{List·getD-eq-default}
+use borrow.Author.Needs.{needs}
+use Rattle.patterns.proofs.after_at.Statement.{statement}
+use Rattle.patterns.proofs.after_at.Tie as tie
+
+mul-result : tie.Need-mul-result
+mul-result c = search needs
+
+shared-slice-read-result : tie.Need-shared-slice-read-result
+shared-slice-read-result c = search needs
+
+cast-result : tie.Need-cast-result
+cast-result c = omega (arith, c .shared-slice-known .given (c .before .before .args .q))
+
+returns : tie.Need-returns
+returns c = (refl, omega (arith, c .shared-slice-known .given (c .before .before .args .q)))
+
+returns-2 : tie.Need-returns-2
+returns-2 c = (sym (List·getD-eq-default (c .before .args .afters .now) 0 (c .if1 .left)), omega arith)
+
+pub after-at-spec : {M : Type 1} → statement M
+after-at-spec =
+    tie.close (tie.spec mul-result shared-slice-read-result cast-result returns returns-2)
