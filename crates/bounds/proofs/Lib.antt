@@ -4,5 +4,3 @@ pub mod Filling
 pub mod Repeated
 pub mod Ceilings
 pub mod Start
-pub mod BadRows
-pub mod Meeting

@@ -1,77 +1,62 @@
 -- Rows that are one item so many times: where each begins.
-use Prim.Native.Nat.{ℕ, zero, suc, _+_, _-_, _≤_, _<_}
+use Prim.Native.Nat.{ℕ, suc, _+_, _-_, _≤_, _<_}
 use native.Mathlib.Omega.{arith}
-use mathlib.Core.Path.{_≡_, refl, sym, _∙_}
-use mathlib.Core.List.{List, [], _∷_, _++_}
-use mathlib.Core.Option.{some, none}
+use mathlib.Core.Path.{_≡_, _∙_}
+use mathlib.Core.List.{[], _∷_}
+use mathlib.Core.Option.{none}
 use lib.ListN.{replicate, replicate-append-replicate}
-use Rattle.model.specs.Words.{Columns, left, right}
+use Rattle.model.specs.Words.{Columns}
 use Rattle.model.specs.Reader.{past, Grammar, read, after, first-wrong}
-use Rattle.model.proofs.Reader.{by-option, past-wrong, read-none, read-end, read-stop, read-go, read-range, read-append, Halfway, read-split, after-past, first-wrong-none}
+use Rattle.model.proofs.Reader.{read-none, read-range, read-append, Halfway, read-split, after-past, first-wrong-none}
 
-module _ {Item : Type 0} (step : Grammar Item) (rows : Columns) where
-  -- what is read to its end begins with a row that fits
-  pub record Fitting (m r q : ℕ) (x : Item) (xs : List Item) : Type 0 where
-    pub rest : ℕ
-    pub turn : m ≡ suc rest
-    pub more : List Item
-    pub said : step x (left rows r) (right rows r) ≡ some more
-    pub goes-on : read step rows rest (more ++ xs) (r + 1) ≡ past q
+module _ {Item : Type 0} (step : Grammar Item) (rows : Columns) (item : Item) (count : ℕ) where
+  -- k of them end before row e, and the others stand from there to the end
+  pub record Walked (k e : ℕ) : Type 0 where
+    pub so-far : read step rows (rows .size) (replicate k item) 0 ≡ past e
+    pub ahead : read step rows (rows .size - e) (replicate (count - k) item) e ≡ past (rows .size)
 
-  pub fitting : (m r q : ℕ) (x : Item) (xs : List Item) → read step rows m (x ∷ xs) r ≡ past q → Fitting m r q x xs
-  fitting zero r q x xs h = past-wrong q r (sym h ∙ read-end step rows x xs r)
-  fitting (suc m) r q x xs h =
-      by-option (step x (left rows r) (right rows r)) (λ e. past-wrong q r (sym h ∙ read-stop step rows m r x xs e))
-      (λ more e. record { rest = m; turn = refl; more = more; said = e; goes-on = sym (read-go step rows m r x xs more e) ∙ h })
+  -- the row after the one that stands at row e
+  abbrev pub next : ℕ → ℕ
+  next e = after step rows (item ∷ []) e
 
-  module _ (item : Item) (count : ℕ) where
-    -- k of them end before row e, and the others stand from there to the end
-    pub record Walked (k e : ℕ) : Type 0 where
-      pub so-far : read step rows (rows .size) (replicate k item) 0 ≡ past e
-      pub ahead : read step rows (rows .size - e) (replicate (count - k) item) e ≡ past (rows .size)
+  pub walked-start : first-wrong step rows (replicate count item) ≡ none → Walked 0 0
+  walked-start h =
+      record {
+        so-far = read-none step rows (rows .size) 0;
+        ahead =
+            let z : rows .size - 0 ≡ rows .size = omega arith in
+            let y : count - 0 ≡ count = omega arith in
+            rw (z, y) (first-wrong-none step rows (replicate count item) h);
+      }
 
-    -- the row after the one that stands at row e
-    abbrev pub next : ℕ → ℕ
-    next e = after step rows (item ∷ []) e
+  module _ (k e : ℕ) (w : Walked k e) where
+    pub walked-row : after step rows (replicate k item) 0 ≡ e
+    walked-row = let z : rows .size - 0 ≡ rows .size = omega arith in after-past step rows 0 e (replicate k item) (rw z (w .so-far))
 
-    pub walked-start : first-wrong step rows (replicate count item) ≡ none → Walked 0 0
-    walked-start h =
-        record {
-          so-far = read-none step rows (rows .size) 0;
-          ahead =
-              let z : rows .size - 0 ≡ rows .size = omega arith in
-              let y : count - 0 ≡ count = omega arith in
-              rw (z, y) (first-wrong-none step rows (replicate count item) h);
-        }
+    pub walked-inside : e ≤ rows .size
+    walked-inside = let r = read-range step rows (rows .size) 0 e (replicate k item) (w .so-far) in omega arith
 
-    module _ (k e : ℕ) (w : Walked k e) where
-      pub walked-row : after step rows (replicate k item) 0 ≡ e
-      walked-row = let z : rows .size - 0 ≡ rows .size = omega arith in after-past step rows 0 e (replicate k item) (rw z (w .so-far))
+    module _ (below : k < count) where
+      halfway : Halfway step rows (rows .size - e) e (rows .size) (item ∷ []) (replicate (count - (k + 1)) item)
+      halfway =
+          let t : count - k ≡ suc (count - (k + 1)) = omega arith in
+          read-split step rows (rows .size - e) e (rows .size) (item ∷ []) (replicate (count - (k + 1)) item) (rw t at (w .ahead))
 
-      pub walked-inside : e ≤ rows .size
-      walked-inside = let r = read-range step rows (rows .size) 0 e (replicate k item) (w .so-far) in omega arith
+      ends : next e ≡ halfway .at
+      ends = after-past step rows e (halfway .at) (item ∷ []) (halfway .first)
 
-      module _ (below : k < count) where
-        halfway : Halfway step rows (rows .size - e) e (rows .size) (item ∷ []) (replicate (count - (k + 1)) item)
-        halfway =
-            let t : count - k ≡ suc (count - (k + 1)) = omega arith in
-            read-split step rows (rows .size - e) e (rows .size) (item ∷ []) (replicate (count - (k + 1)) item) (rw t at (w .ahead))
+      pub walked-stands : read step rows (rows .size - e) (item ∷ []) e ≡ past (next e)
+      walked-stands = rw ends (halfway .first)
 
-        ends : next e ≡ halfway .at
-        ends = after-past step rows e (halfway .at) (item ∷ []) (halfway .first)
-
-        pub walked-stands : read step rows (rows .size - e) (item ∷ []) e ≡ past (next e)
-        walked-stands = rw ends (halfway .first)
-
-        pub walked-next : Walked (k + 1) (next e)
-        walked-next =
-            record {
-              so-far =
-                  let z : rows .size - (e - 0) ≡ rows .size - e = omega arith in
-                  rw (← replicate-append-replicate k 1 item, ends)
-                  (read-append step rows (rows .size) 0 e (replicate k item) (item ∷ []) (w .so-far) ∙ rw z (halfway .first));
-              ahead =
-                  let r = read-range step rows (rows .size - e) e (halfway .at) (item ∷ []) (halfway .first) in
-                  let z : rows .size - halfway .at ≡ rows .size - e - (halfway .at - e) = omega arith in
-                  rw (ends, z) (halfway .second);
-            }
+      pub walked-next : Walked (k + 1) (next e)
+      walked-next =
+          record {
+            so-far =
+                let z : rows .size - (e - 0) ≡ rows .size - e = omega arith in
+                rw (← replicate-append-replicate k 1 item, ends)
+                (read-append step rows (rows .size) 0 e (replicate k item) (item ∷ []) (w .so-far) ∙ rw z (halfway .first));
+            ahead =
+                let r = read-range step rows (rows .size - e) e (halfway .at) (item ∷ []) (halfway .first) in
+                let z : rows .size - halfway .at ≡ rows .size - e - (halfway .at - e) = omega arith in
+                rw (ends, z) (halfway .second);
+          }

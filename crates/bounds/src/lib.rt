@@ -1,4 +1,3 @@
-// Ceilings (bounds): refusals 10 to 12.
-pub mod bads;
+// Ceilings (bounds): refusals 10 and 11.
 pub mod entries;
 pub mod limits;

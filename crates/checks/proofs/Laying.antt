@@ -28,7 +28,7 @@ use Rattle.layout.specs.Tables.{After-table, Inner-upto, or-end}
 use Rattle.patterns.specs.Patterns as patterns
 use Rattle.entries.specs.Entries.{Ground}
 use Rattle.bounds.specs.Parts as bounds
-use Rattle.bounds.specs.Items.{Items-counted}
+use Rattle.met.specs.Items.{Items-counted}
 use Rattle.counters.specs.Ready.{Ready}
 use Rattle.system.specs.Prepared.{Prepared}
 use Rattle.system.proofs.Preparing.{prepared}

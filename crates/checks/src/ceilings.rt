@@ -1,6 +1,5 @@
 // Refusals 10 to 13.
 use answers::is_safe;
-use bounds::bads::met_check;
 use bounds::entries::bound_check;
 use bounds::entries::fill_limits;
 use bounds::limits::start_check;
@@ -10,6 +9,7 @@ use counters::numbers::counter_count;
 use covers::pairs::fill_pairs;
 use items::fill_items;
 use leaks::leak_check;
+use met::met_check;
 use model::Sizes;
 use model::Verdict;
 use rooms::words_12288;

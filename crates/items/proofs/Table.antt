@@ -16,8 +16,8 @@ use Rattle.model.specs.Counters.{counter-count, counter-of}
 use Rattle.model.proofs.Reader.{by-option}
 use Rattle.model.proofs.Numbering.Counters.{counter-below-of}
 use Rattle.counters.specs.Ready.{Ready}
-use Rattle.bounds.specs.Items.{Items-counted}
-use Rattle.bounds.proofs.BadRows.{bad-inside}
+use Rattle.met.specs.Items.{Items-counted}
+use Rattle.met.proofs.BadRows.{bad-inside}
 use Rattle.items.specs.Numbers.{number-of}
 use Rattle.items.proofs.Counters.{mail-keys}
 

@@ -1,9 +1,9 @@
 // The table of the items' counters, as the check of bads under the ceilings is handed it (refusal 12).
-use bounds::bads::bad_number;
-use bounds::bads::bad_tag;
 use counters::lists::state_index;
 use counters::numbers::has_letter;
 use counters::numbers::letter_index;
+use met::bad_number;
+use met::bad_tag;
 use model::Sizes;
 ghost use mathlib.Core.Path.{_≡_};
 ghost use Prim.Native.Nat.{_≤_};
@@ -15,7 +15,7 @@ ghost use Rattle.model.specs.Bads.{bad-rows, counted, state-of, letter-of};
 ghost use Rattle.model.specs.Counters.{counter-count, counter-of};
 ghost use Rattle.counters.specs.Ready.{Ready};
 ghost use Rattle.counters.specs.Letters.{Letters};
-ghost use Rattle.bounds.specs.Items.{Items-counted};
+ghost use Rattle.met.specs.Items.{Items-counted};
 ghost use Rattle.items.specs.Numbers.{number-of};
 
 // The number that no counter has.

@@ -1,6 +1,6 @@
 // Bads under the ceilings: refusal 12.
-use crate::entries::column;
-use crate::limits::highest;
+use bounds::entries::column;
+use bounds::limits::highest;
 use model::Sizes;
 use model::Verdict;
 ghost use mathlib.Core.Path.{_≡_};
@@ -11,8 +11,8 @@ ghost use Rattle.model.specs.Tables.{tables};
 ghost use Rattle.model.specs.Bads.{bad-rows, counted, met};
 ghost use Rattle.model.specs.Bounds.{bounds, bad-allowed, met-check};
 ghost use Rattle.model.specs.Verify.{answer};
-ghost use Rattle.bounds.specs.Items.{Ready, most, Bads-in-form, Bad-stands, bad-end};
+ghost use Rattle.met.specs.Items.{Ready, most, Bads-in-form, Bad-stands, bad-end};
 ghost use Rattle.bounds.specs.Parts.{Whole};
 
 // The tag of a row of the bads, and 0 past the last row.
 pub fn bad_tag(ws: &[u16], s: Sizes, r: usize) -> usize

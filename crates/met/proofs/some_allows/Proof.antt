@@ -4,9 +4,9 @@ use mathlib.Core.Path.{_≡_, refl, sym, _∙_}
 use borrow.Author.Needs.{needs}
 use Rattle.model.specs.Index.{any}
 use Rattle.model.proofs.Index.{any-hit, any-miss, any-end}
-use Rattle.bounds.proofs.Meeting.{allows, allows-some}
-use Rattle.bounds.proofs.bads.some_allows.Statement.{statement}
-use Rattle.bounds.proofs.bads.some_allows.Tie as tie
+use Rattle.met.proofs.Meeting.{allows, allows-some}
+use Rattle.met.proofs.some_allows.Statement.{statement}
+use Rattle.met.proofs.some_allows.Tie as tie
 
 abbrev Inv-loop : tie.InvT-loop
 Inv-loop ws s n limits items r k₀ k-end k = (any 0 (s .bounds) (allows ws s n r) ≡ any k (s .bounds) (allows ws s n r)) × (k ≤ s .bounds)

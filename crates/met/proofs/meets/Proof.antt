@@ -3,11 +3,11 @@ use Prim.Native.Nat.{_+_, _-_, _≤_}
 use mathlib.Core.Path.{_≡_, refl, sym, _∙_}
 use borrow.Author.Needs.{needs}
 use Rattle.model.specs.Bads.{bad-rows, met}
-use Rattle.bounds.specs.Items.{most}
-use Rattle.bounds.proofs.BadRows.{bad-inside}
-use Rattle.bounds.proofs.Meeting.{meets-end, meets-not, meets-next}
-use Rattle.bounds.proofs.bads.meets.Statement.{statement}
-use Rattle.bounds.proofs.bads.meets.Tie as tie
+use Rattle.met.specs.Items.{most}
+use Rattle.met.proofs.BadRows.{bad-inside}
+use Rattle.met.proofs.Meeting.{meets-end, meets-not, meets-next}
+use Rattle.met.proofs.meets.Statement.{statement}
+use Rattle.met.proofs.meets.Tie as tie
 
 abbrev Inv-loop : tie.InvT-loop
 Inv-loop ws s n limits items k r i₀ i = (met (most ws s n k) (bad-rows ws s) r ≡ met (most ws s n k) (bad-rows ws s) i) × (i ≤ s .conditions + 3)

@@ -1,10 +1,10 @@
 use native.Mathlib.Omega.{arith}
 use mathlib.Core.Path.{refl}
 use Rattle.bounds.proofs.Ceilings.{room-at}
-use Rattle.bounds.proofs.Meeting.{item-room, count-known, count-none}
+use Rattle.met.proofs.Meeting.{item-room, count-known, count-none}
 use borrow.Author.Needs.{needs}
-use Rattle.bounds.proofs.bads.item_count.Statement.{statement}
-use Rattle.bounds.proofs.bads.item_count.Tie as tie
+use Rattle.met.proofs.item_count.Statement.{statement}
+use Rattle.met.proofs.item_count.Tie as tie
 
 mul-x : tie.Need-mul-x
 mul-x c = let p = c .before .before .before .pre in let h = item-room _ _ _ _ _ (p .0) _ (p .1 .1) in search needs

@@ -6,10 +6,10 @@ use borrow.Author.Needs.{needs}
 use Rattle.model.specs.Reader.{past, read}
 use Rattle.model.specs.Rows.{program}
 use Rattle.model.specs.Bads.{further, bad-step, bad-rows}
-use Rattle.bounds.specs.Items.{bad-end}
-use Rattle.bounds.proofs.BadRows.{bad-first, bad-next, bad-last, bad-inside}
-use Rattle.bounds.proofs.bads.next_bad.Statement.{statement}
-use Rattle.bounds.proofs.bads.next_bad.Tie as tie
+use Rattle.met.specs.Items.{bad-end}
+use Rattle.met.proofs.BadRows.{bad-first, bad-next, bad-last, bad-inside}
+use Rattle.met.proofs.next_bad.Statement.{statement}
+use Rattle.met.proofs.next_bad.Tie as tie
 
 abbrev Inv-loop : tie.InvT-loop
 Inv-loop ws s r i₀ i = ((m : ℕ) × (read (bad-step (program ws s)) (bad-rows ws s) m (further ∷ []) i ≡ past (bad-end (program ws s) (bad-rows ws s) r))) × (i ≤ s .conditions + 3)

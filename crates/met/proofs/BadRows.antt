@@ -4,7 +4,7 @@ use native.Mathlib.Decide.{ℕ-discrete, decLt}
 use native.Mathlib.Omega.{arith}
 use mathlib.Core.Path.{_≡_, refl, sym, _∙_, ap}
 use mathlib.Core.Bool.{Bool, true, false, _&&_}
-use mathlib.Core.List.{List, [], _∷_}
+use mathlib.Core.List.{List, [], _∷_, _++_}
 use mathlib.Core.Option.{some, Option·some-injective, Option·none-ne-some}
 use lib.ListN.{take, drop, length-take, List·getD-eq-default}
 use lib.Dec.{leb, eqb}
@@ -12,12 +12,26 @@ use borrow.Author.Tests.{eq-eqb, ne-eqb, eqb-true}
 use Rattle.model.specs.declared.Sizes.{Sizes}
 use Rattle.model.specs.Words.{Columns, left, right, columns}
 use Rattle.model.specs.Message.{bads-at}
-use Rattle.model.specs.Reader.{past, fits, read}
+use Rattle.model.specs.Reader.{past, Grammar, fits, read}
 use Rattle.model.specs.Rows.{Program}
 use Rattle.model.specs.Bads.{Part, bad, subject, minimum, further, item, bad-step, bad-rows, Counted, counted, met-from, met}
 use Rattle.model.proofs.Logic.{test, and-left}
-use Rattle.model.proofs.Reader.{past-row, read-none}
-use Rattle.bounds.proofs.Repeated.{fitting}
+use Rattle.model.proofs.Reader.{by-option, past-wrong, past-row, read-none, read-end, read-stop, read-go}
+
+module _ {Item : Type 0} (step : Grammar Item) (rows : Columns) where
+  -- what is read to its end begins with a row that fits
+  record Fitting (m r q : ℕ) (x : Item) (xs : List Item) : Type 0 where
+    pub rest : ℕ
+    pub turn : m ≡ suc rest
+    pub more : List Item
+    pub said : step x (left rows r) (right rows r) ≡ some more
+    pub goes-on : read step rows rest (more ++ xs) (r + 1) ≡ past q
+
+  fitting : (m r q : ℕ) (x : Item) (xs : List Item) → read step rows m (x ∷ xs) r ≡ past q → Fitting m r q x xs
+  fitting zero r q x xs h = past-wrong q r (sym h ∙ read-end step rows x xs r)
+  fitting (suc m) r q x xs h =
+      by-option (step x (left rows r) (right rows r)) (λ e. past-wrong q r (sym h ∙ read-stop step rows m r x xs e))
+      (λ more e. record { rest = m; turn = refl; more = more; said = e; goes-on = sym (read-go step rows m r x xs more e) ∙ h })
 
 fits-more : {I : Type 0} (b : Bool) (xs ys : List I) → fits b xs ≡ some ys → (b ≡ true) × (ys ≡ xs)
 unfolding fits

@@ -5,9 +5,9 @@ use mathlib.Core.Path.{_≡_, refl, _∙_}
 use Rattle.model.specs.Message.{bads-at}
 use Rattle.model.specs.Index.{first}
 use Rattle.model.proofs.Index.{first-hit, first-miss, first-end}
-use Rattle.bounds.proofs.Meeting.{Bads-walked, bads-start, bads-stand, bads-next, bads-inside, bad-here, bad-at, met-refused, met-safe}
-use Rattle.bounds.proofs.bads.met_check.Statement.{statement}
-use Rattle.bounds.proofs.bads.met_check.Tie as tie
+use Rattle.met.proofs.Meeting.{Bads-walked, bads-start, bads-stand, bads-next, bads-inside, bad-here, bad-at, met-refused, met-safe}
+use Rattle.met.proofs.met_check.Statement.{statement}
+use Rattle.met.proofs.met_check.Tie as tie
 
 abbrev Inv-loop : tie.InvT-loop
 Inv-loop ws s n limits items at r₀ j₀ j-end r j = (first 0 (s .bads) (bad-here ws s n) ≡ first j (s .bads) (bad-here ws s n)) × Bads-walked ws s n j r × (j ≤ s .bads)

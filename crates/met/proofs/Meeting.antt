@@ -23,11 +23,11 @@ use Rattle.model.specs.Markings.{standing, count-in}
 use Rattle.model.specs.Bounds.{bounds, highest, bad-allowed, met-check}
 use Rattle.model.specs.Verify.{answer}
 use Rattle.model.proofs.Reader.{by-option}
 use Rattle.bounds.specs.Limits.{row}
-use Rattle.bounds.specs.Items.{Ready, most, Bads-in-form, Bad-stands, bad-end}
+use Rattle.met.specs.Items.{Ready, most, Bads-in-form, Bad-stands, bad-end}
 use Rattle.bounds.proofs.Limited.{highest-same}
-use Rattle.bounds.proofs.BadRows.{bad-inside, met-item, met-over}
+use Rattle.met.proofs.BadRows.{bad-inside, met-item, met-over}
 use Rattle.bounds.proofs.Repeated.{Walked, walked-start, walked-row, walked-inside, walked-stands, walked-next}
 
 -- the answer of a search for the first
 first-refused : (k j e : ℕ) (v : ℕ → Verdict) → k ≡ j → j < e → v j ≡ answer (unless (eqb k e) (v k))
