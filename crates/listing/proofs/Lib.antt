@@ -1,4 +1,3 @@
-pub mod Lined
-pub mod Few
+pub mod Low
 pub mod Putting
 pub mod Whole

@@ -12,8 +12,9 @@ use Rattle.system.specs.declared.slots.Slot.{Slot}
 use Rattle.system.specs.declared.slots.Slot.the-variants.{Empty, Quiet, Reads, Puts, Starts}
 use Rattle.system.specs.Slots.{slot-rules}
 use Rattle.system.proofs.Gather.{gather-split}
-use Rattle.listing.specs.Lines.{lines, put-line, put-lines, Small, Room, Put}
-use Rattle.listing.proofs.Lined.{lines-append, gather-last, rows-more}
+use Rattle.totals.specs.Lines.{lines}
+use Rattle.listing.specs.Putting.{put-line, put-lines, Small, Room, Put}
+use Rattle.totals.proofs.Lined.{lines-append, gather-last, rows-more}
 
 -- nothing is lost of the words' length
 pub put-length : (ls : List Line) (out : List ℕ) (n x : ℕ) → length (put-lines out n x ls) ≡ length out

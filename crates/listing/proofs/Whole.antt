@@ -16,9 +16,10 @@ use Rattle.model.specs.Listing.{Line, listing, system-words, written}
 use Rattle.model.proofs.Listed.{length-listing, length-written, length-system}
 use Rattle.counters.specs.Letters.{Letters}
 use Rattle.counters.proofs.Keys.{count-told}
-use Rattle.listing.specs.declared.totals.Totals.{Totals}
-use Rattle.listing.specs.Lines.{lines, counted, put-line, put-lines, Room, Put}
-use Rattle.listing.proofs.Few.{words-told}
+use Rattle.totals.specs.declared.Totals.{Totals}
+use Rattle.totals.specs.Lines.{lines, counted}
+use Rattle.listing.specs.Putting.{put-line, put-lines, Room, Put}
+use Rattle.totals.proofs.Few.{words-told}
 use Rattle.listing.proofs.Putting.{put-length}
 
 abbrev tags : List Line → List ℕ

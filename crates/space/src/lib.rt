@@ -1,8 +1,8 @@
 // Refusal 14, and the listing.
-use listing::totals::listing_length;
-use listing::writing::write_listing;
+use listing::write_listing;
 use model::Sizes;
 use model::Verdict;
+use totals::listing_length;
 ghost use mathlib.Core.Path.{_≡_};
 ghost use lib.ListN.{length};
 ghost use Rattle.model.specs.Rows.{program};
