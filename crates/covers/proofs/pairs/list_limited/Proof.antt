@@ -46,8 +46,8 @@ loop-again c =
     let e = c .before .limit .ensures .0 in
     let room : l .m < length (l .list) = omega (arith, l .inv .0 .few, c .before .before .loop-test .taken, l .inv .1, c .before .before .before .before .before .before .pre .1 .1) in
     ⊎-elim
-    (λ w. (next-limited _ _ (l .x) (l .m) _ _ (l .list) _ room e (w .0 .taken) (w .1) (w .2) (l .inv .0), ap length (w .1) ∙ (length-set (l .list) (l .m) (l .x) ∙ l .inv .1), omega (arith, c .before .before .loop-test .taken)))
-    (λ w. (next-free _ _ (l .x) (l .m) _ _ (l .list) _ e (w .0 .left) (w .1) (w .2) (l .inv .0), ap length (w .1) ∙ l .inv .1, omega (arith, c .before .before .loop-test .taken)))
+    (λ w. (next-limited _ _ (l .x) (l .m) _ _ (l .list) _ room e (omega (arith, w .0 .taken)) (w .1) (w .2) (l .inv .0), ap length (w .1) ∙ (length-set (l .list) (l .m) (l .x) ∙ l .inv .1), omega (arith, c .before .before .loop-test .taken)))
+    (λ w. (next-free _ _ (l .x) (l .m) _ _ (l .list) _ e (omega (arith, w .0 .left)) (w .1) (w .2) (l .inv .0), ap length (w .1) ∙ l .inv .1, omega (arith, c .before .before .loop-test .taken)))
     (c .if1 .came)
 
 same-length : tie.Need-same-length Inv-loop μ-loop
