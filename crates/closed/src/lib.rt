@@ -1,4 +1,3 @@
 // Closed tables: refusal 8.
-pub mod branches;
 pub mod opening;
 pub mod states;

@@ -1,7 +1,7 @@
 // Each state in turn; and the verdict.
-use crate::branches::case_closed;
-use crate::branches::receive_closed;
 use crate::opening::opening_closed;
+use branching::case_closed;
+use branching::receive_closed;
 use constraints::calls::call_closed;
 use constraints::gives::give_closed;
 use constraints::heads::rest;

@@ -20,10 +20,10 @@ use Rattle.model.proofs.Parse.Spans.{Spans, spans-past, spans-takes, spans-spli
 use Rattle.program.specs.Layout.{Layout}
 use Rattle.flow.specs.Branches.{Branches, value-code, name-code}
 use Rattle.entries.specs.Entries.{Ground}
-use Rattle.closed.specs.Parts.{code-closed, codes-closed, mail-entry}
+use Rattle.branching.specs.Parts.{code-closed, codes-closed, mail-entry}
 use Rattle.constraints.proofs.Shapes.{case-spans, receive-spans}
 use Rattle.constraints.proofs.Standing.{location, rows-size, tagged-below}
-use Rattle.closed.proofs.Codes.{name-codes, value-codes}
+use Rattle.branching.proofs.Codes.{name-codes, value-codes}
 
 -- n branches are left, from row q on
 pub record Rows-left (p : Program) (t : Tables) (c : ℕ) (f : ℕ → ℕ) (qs : List ℕ) (n q : ℕ) : Type 0 where

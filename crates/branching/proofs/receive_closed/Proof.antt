@@ -7,11 +7,11 @@ use Rattle.model.specs.Heads.{branch-rows}
 use Rattle.model.specs.Tables.{tables, each}
 use Rattle.model.specs.Closed.{branches-closed}
 use Rattle.model.proofs.Index.{all-hit, all-miss, all-end}
-use Rattle.closed.specs.Parts.{mail-entry}
-use Rattle.closed.proofs.Branching.{mail-begin}
+use Rattle.branching.specs.Parts.{mail-entry}
+use Rattle.branching.proofs.Branching.{mail-begin}
 use borrow.Author.Needs.{needs}
-use Rattle.closed.proofs.branches.receive_closed.Statement.{statement}
-use Rattle.closed.proofs.branches.receive_closed.Tie as tie
+use Rattle.branching.proofs.receive_closed.Statement.{statement}
+use Rattle.branching.proofs.receive_closed.Tie as tie
 
 abbrev Inv-loop : tie.InvT-loop
 Inv-loop ws s afters inners by-name by-mail c r j₀ j = each (tables ws s .mail) c (branches-closed (program ws s) (tables ws s) c (branch-rows (program ws s) (num (program ws s) r) (r + 1))) ≡ all j (s .mails) (mail-entry (program ws s) (tables ws s) c (branch-rows (program ws s) (num (program ws s) r) (r + 1)))

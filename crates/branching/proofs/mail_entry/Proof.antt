@@ -9,10 +9,10 @@ use Rattle.model.specs.Rows.{program, num}
 use Rattle.model.specs.Heads.{branch-rows}
 use Rattle.model.specs.Tables.{tables}
 use Rattle.constraints.proofs.Standing.{afters-hold}
-use Rattle.closed.proofs.Branching.{Rows-left, row-here, row-among, body-here, branches-fails, branches-next, branches-over, receive-begin, receive-code, receive-each, mail-held, other-mail, this-mail}
+use Rattle.branching.proofs.Branching.{Rows-left, row-here, row-among, body-here, branches-fails, branches-next, branches-over, receive-begin, receive-code, receive-each, mail-held, other-mail, this-mail}
 use borrow.Author.Needs.{needs}
-use Rattle.closed.proofs.branches.mail_entry.Statement.{statement}
-use Rattle.closed.proofs.branches.mail_entry.Tie as tie
+use Rattle.branching.proofs.mail_entry.Statement.{statement}
+use Rattle.branching.proofs.mail_entry.Tie as tie
 
 abbrev Inv-loop : tie.InvT-loop
 Inv-loop ws s afters inners by-name by-mail c r j more₀ q₀ more q = Rows-left (program ws s) (tables ws s) c (λ x. value-code (program ws s) (tables ws s) x (right (tables ws s .mail) j)) (branch-rows (program ws s) (num (program ws s) r) (r + 1)) more q

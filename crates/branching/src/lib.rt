@@ -12,7 +12,7 @@ ghost use Rattle.model.specs.Closed.{branches-closed};
 ghost use Rattle.program.specs.Layout.{Layout};
 ghost use Rattle.flow.specs.Branches.{Branches};
 ghost use Rattle.entries.specs.Entries.{Ground};
-ghost use Rattle.closed.specs.Parts.{code-closed, mail-entry};
+ghost use Rattle.branching.specs.Parts.{code-closed, mail-entry};
 
 // What is asked of a branch with this code, whose body is given.
 fn branch_closed(ws: &[u16], s: Sizes, c: usize, code: u8, body: usize) -> bool

@@ -8,10 +8,10 @@ use Rattle.model.specs.Rows.{program, num}
 use Rattle.model.specs.Heads.{branch-rows}
 use Rattle.model.specs.Tables.{tables}
 use Rattle.constraints.proofs.Standing.{afters-hold}
-use Rattle.closed.proofs.Branching.{Rows-left, row-here, row-among, body-here, branches-fails, branches-next, branches-over, case-begin, case-code, case-each, name-held}
+use Rattle.branching.proofs.Branching.{Rows-left, row-here, row-among, body-here, branches-fails, branches-next, branches-over, case-begin, case-code, case-each, name-held}
 use borrow.Author.Needs.{needs}
-use Rattle.closed.proofs.branches.case_closed.Statement.{statement}
-use Rattle.closed.proofs.branches.case_closed.Tie as tie
+use Rattle.branching.proofs.case_closed.Statement.{statement}
+use Rattle.branching.proofs.case_closed.Tie as tie
 
 abbrev Inv-loop : tie.InvT-loop
 Inv-loop ws s afters inners by-name by-mail c r left₀ q₀ left q = Rows-left (program ws s) (tables ws s) c (name-code (program ws s) (tables ws s) (num (program ws s) r)) (branch-rows (program ws s) (num (program ws s) (r + 1)) (r + 2)) left q

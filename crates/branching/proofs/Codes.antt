@@ -21,7 +21,7 @@ use Rattle.model.proofs.Exact.Members.{some-of-iff}
 use Rattle.patterns.specs.Patterns.{code}
 use Rattle.flow.specs.Branches.{value-code, name-code}
 use Rattle.entries.proofs.Narrow.{same-test}
-use Rattle.closed.specs.Parts.{code-closed, codes-closed}
+use Rattle.branching.specs.Parts.{code-closed, codes-closed}
 
 -- one value and one branch
 one-code : (may held there : Bool) → implies may (held && there) ≡ code-closed (code may held) there

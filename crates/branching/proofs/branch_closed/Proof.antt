@@ -1,7 +1,7 @@
-use Rattle.closed.proofs.Codes.{code-none, code-holds, code-lacks}
+use Rattle.branching.proofs.Codes.{code-none, code-holds, code-lacks}
 use borrow.Author.Needs.{needs}
-use Rattle.closed.proofs.branches.branch_closed.Statement.{statement}
-use Rattle.closed.proofs.branches.branch_closed.Tie as tie
+use Rattle.branching.proofs.branch_closed.Statement.{statement}
+use Rattle.branching.proofs.branch_closed.Tie as tie
 
 has-state-requires : tie.Need-has-state-requires
 has-state-requires c κs = search needs
