@@ -2,11 +2,11 @@
 use crate::stages::evidence_on;
 use model::Sizes;
 use model::Verdict;
-use rooms::bytes_262656;
 use rooms::bytes_8256;
-use rooms::words_33792;
+use rooms::bytes_262656;
 use rooms::words_4608;
 use rooms::words_4627;
+use rooms::words_33792;
 use rooms::words_67651;
 ghost use mathlib.Core.Path.{_≡_};
 ghost use Prim.Native.Nat.{_≤_};

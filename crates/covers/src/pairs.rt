@@ -16,9 +16,6 @@ ghost use Rattle.covers.specs.Limited.{Limited, Counters-listed, listed-
 // So many counters are kept for a pair.
 pub const KEPT: usize = 3;
 
-// The cells of the table.
-pub const PAIRS: usize = MAX_BOUNDS * MAX_BOUNDS * KEPT;
-
 // Lists the counters with a limit from 1 under ceiling k; gives their number. No other counter can exceed.
 fn list_limited(limits: &[u16], n: usize, k: usize, list: &mut [u16]) -> usize
     requires { ⌜ (k < maxBounds) × (n ≤ maxCounters) ⌝ }

@@ -141,7 +141,13 @@ fn may_cover(limits: &[u16], n: usize, k: usize, step: Step) -> bool
 }
 
 // Lists the candidates for a step; gives their number. Each ceiling is put behind them, and stays there where it is one.
-pub fn list_candidates(limits: &[u16], ceilings: usize, n: usize, step: Step, list: &mut [u16]) -> usize
+pub fn list_candidates(
+    limits: &[u16],
+    ceilings: usize,
+    n: usize,
+    step: Step,
+    list: &mut [u16],
+) -> usize
     requires { ⌜ (ceilings ≤ maxBounds) × (n ≤ maxCounters) ⌝ }
     requires { ⌜ (limit-cells ceilings ≤ length (now limits)) × (ceilings ≤ length (now list)) ⌝ }
     ensures { λ m. ⌜ Candidates (now (limits .entry)) n step ceilings (now (list .exit)) m ⌝ }
