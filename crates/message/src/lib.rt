@@ -7,12 +7,6 @@ ghost use Rattle.model.specs.Words.{words};
 ghost use Rattle.model.specs.Message.{Limited, part-check, program-part, bads-part, tables-part, bounds-part};
 ghost use Rattle.sizes.specs.Sizes.{Placed, first-outside};
 ghost use Rattle.message.specs.Parts.{checked, parts-of};
-use model::MAX_BAD_ROWS;
-use model::MAX_BOUND_ENTRIES;
-use model::MAX_FLOWS;
-use model::MAX_MAILS;
-use model::MAX_ROWS;
-use model::MAX_STATES;
 use model::Sizes;
 use model::Verdict;
 use sizes::bads_at;
@@ -24,16 +18,6 @@ use sizes::program_outside;
 use sizes::sizes_of;
 use sizes::tables_at;
 use sizes::tables_outside;
-
-// The words of the longest message: each part at the limits of its sizes.
-pub const MAX_WORDS: usize = 4
-    + 2 * MAX_ROWS
-    + 2
-    + 2 * MAX_BAD_ROWS
-    + 3
-    + 2 * (MAX_FLOWS + MAX_MAILS + MAX_STATES)
-    + 2
-    + 2 * MAX_BOUND_ENTRIES;
 
 // The four parts: whole, with their sizes, or the refusal.
 pub enum Parts {

@@ -54,7 +54,7 @@ fn next_heads(ws: &[u16], s: Sizes) -> [u16; 1024]
 }
 
 // The rest of the expression at row r.
-fn rest(ws: &[u16], s: Sizes, ends: &[u16], r: usize) -> usize
+pub fn rest(ws: &[u16], s: Sizes, ends: &[u16], r: usize) -> usize
     requires { ⌜ Whole (now ws) s ⌝ }
     requires { ⌜ row-check (program (now ws) s) ≡ none ⌝ }
     requires { ⌜ After-table (program (now ws) s) (now ends) ⌝ }
