@@ -29,7 +29,7 @@ use Rattle.patterns.specs.Patterns as patterns
 use Rattle.entries.specs.Entries.{Ground}
 use Rattle.bounds.specs.Parts as bounds
 use Rattle.met.specs.Items.{Items-counted}
-use Rattle.counters.specs.Ready.{Ready}
+use Rattle.lists.specs.Ready.{Ready}
 use Rattle.system.specs.Prepared.{Prepared}
 use Rattle.system.proofs.Preparing.{prepared}
 use Rattle.checks.specs.Stages.{tables-check, Formed, Closed, Counted}

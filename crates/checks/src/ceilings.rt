@@ -4,7 +4,7 @@ use bounds::entries::bound_check;
 use bounds::entries::fill_limits;
 use bounds::limits::start_check;
 use closed::opening::start;
-use counters::lists::state_index;
+use lists::state_index;
 use counters::numbers::counter_count;
 use covers::pairs::fill_pairs;
 use items::fill_items;

@@ -13,7 +13,7 @@ ghost use Rattle.model.specs.Tables.{tables};
 ghost use Rattle.model.specs.Counters.{letter-keys, counter-check};
 ghost use Rattle.model.specs.Verify.{answer};
 ghost use Rattle.counters.specs.Letters.{Letters, Named};
-ghost use Rattle.counters.specs.Ready.{Ready};
+ghost use Rattle.lists.specs.Ready.{Ready};
 
 // Refusal 9, with the letters of each name and the numbers of the letters.
 pub fn counters_verdict(ws: &[u16], s: Sizes, names: &mut [u16], index: &mut [u16]) -> Verdict

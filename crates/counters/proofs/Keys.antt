@@ -31,11 +31,11 @@ use Rattle.model.proofs.Parse.Reached.{stands-row}
 use Rattle.model.proofs.Parse.Grammar.{fits-some}
 use Rattle.model.proofs.Parse.Locations.{location-follows}
 use Rattle.model.proofs.Parse.Lengths.{row-location}
-use Rattle.counters.specs.declared.lists.Span.{Span}
-use Rattle.counters.specs.Lists.{flow-span, mail-span, listed}
+use Rattle.lists.specs.declared.Span.{Span}
+use Rattle.lists.specs.Lists.{flow-span, mail-span, listed}
 use Rattle.counters.specs.Letters.{key-is, has-key, marked, Keyed, Marks, Letters, Named}
-use Rattle.counters.specs.Ready.{Ready}
-use Rattle.counters.proofs.Facts.{rows-fit, columns-whole, flow-form, mail-form, flow-listed, mail-listed}
+use Rattle.lists.specs.Ready.{Ready}
+use Rattle.lists.proofs.Facts.{rows-fit, columns-whole, flow-form, mail-form, flow-listed, mail-listed}
 use Rattle.counters.proofs.Counts.{any-same, count-same, count-named}
 
 -- (a, l) below (n, 0) has a key below that one's

@@ -1,5 +1,3 @@
-pub mod Rising
-pub mod Facts
 pub mod Counts
 pub mod Marking
 pub mod Keys

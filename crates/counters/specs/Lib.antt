@@ -1,3 +1,1 @@
-pub mod Lists
-pub mod Ready
 pub mod Letters

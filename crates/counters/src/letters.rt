@@ -1,9 +1,9 @@
 // The letters of values, and the tables of letters.
-use crate::lists::Span;
-use crate::lists::flow;
-use crate::lists::left;
-use crate::lists::mail;
-use crate::lists::right;
+use lists::Span;
+use lists::flow;
+use lists::left;
+use lists::mail;
+use lists::right;
 use model::Sizes;
 use program::rows::num;
 use program::rows::tag;
@@ -18,9 +18,9 @@ ghost use Rattle.model.specs.Tables.{tables};
 ghost use Rattle.model.specs.Counters.{letter-key, letter-keys};
 ghost use Rattle.model.specs.Demands.{Within-limits};
 ghost use Rattle.program.specs.Rows.{Whole};
-ghost use Rattle.counters.specs.Lists.{listed, Held};
+ghost use Rattle.lists.specs.Lists.{listed, Held};
 ghost use Rattle.counters.specs.Letters.{marked, Keyed, Marks, Letters, Named};
-ghost use Rattle.counters.specs.Ready.{Ready};
+ghost use Rattle.lists.specs.Ready.{Ready};
 
 // The letter of a value of the tables: a constructor's number, C for a function, C + 1 for an address.
 pub fn row_letter(ws: &[u16], s: Sizes, v: usize) -> usize

@@ -1,6 +1,7 @@
 // The numbers of the letter counters, and how many counters there are; refusal 9.
+use lists::word;
 use crate::letters::letter_keys;
-use crate::lists::tables_at;
+use lists::tables_at;
 use model::MAX_COUNTERS;
 use model::Sizes;
 use model::Verdict;
@@ -13,7 +14,7 @@ ghost use Rattle.model.specs.Counters.{letter-key, has-letter, letter-index, co
 ghost use Rattle.model.specs.Verify.{answer};
 ghost use Rattle.model.specs.Demands.{Within-limits};
 ghost use Rattle.counters.specs.Letters.{Letters};
-ghost use Rattle.counters.specs.Ready.{Ready};
+ghost use Rattle.lists.specs.Ready.{Ready};
 
 // (class, letter) as one number, in ascending order of the pairs.
 pub fn letter_key(s: Sizes, c: usize, l: usize) -> usize
@@ -22,14 +23,6 @@ pub fn letter_key(s: Sizes, c: usize, l: usize) -> usize
     ensures { λ k. ⌜ k ≡ c * (s .constructors + 2) + l ⌝ }
 {
     c * (s.constructors + 2) + l
-}
-
-// A word of a table.
-pub fn word(table: &[u16], k: usize) -> usize
-    requires { ⌜ k < length (now table) ⌝ }
-    ensures { λ n. ⌜ (n ≡ getD (now (table .entry)) k 0) × (n < 65536) ⌝ }
-{
-    table[k] as usize
 }
 
 // The counter of a (class, letter) of mail.

@@ -16,7 +16,7 @@ use Rattle.model.specs.Counters.{letter-key, letter-keys, has-letter, letter-in
 use Rattle.model.proofs.Logic.{test}
 use Rattle.model.proofs.Numbering.Letters.{Keys, low-keys, key-room}
 use Rattle.model.proofs.Numbering.Counters.{state-counter, letter-counter}
-use Rattle.counters.specs.Ready.{Ready}
+use Rattle.lists.specs.Ready.{Ready}
 use Rattle.counters.proofs.Keys.{class-low, letter-low}
 use Rattle.items.specs.Numbers.{number-of}
 

@@ -15,7 +15,7 @@ use Rattle.model.specs.Bads.{Counted, bad-rows, counted}
 use Rattle.model.specs.Counters.{counter-count, counter-of}
 use Rattle.model.proofs.Reader.{by-option}
 use Rattle.model.proofs.Numbering.Counters.{counter-below-of}
-use Rattle.counters.specs.Ready.{Ready}
+use Rattle.lists.specs.Ready.{Ready}
 use Rattle.met.specs.Items.{Items-counted}
 use Rattle.met.proofs.BadRows.{bad-inside}
 use Rattle.items.specs.Numbers.{number-of}

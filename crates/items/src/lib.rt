@@ -1,5 +1,5 @@
 // The table of the items' counters, as the check of bads under the ceilings is handed it (refusal 12).
-use counters::lists::state_index;
+use lists::state_index;
 use counters::numbers::has_letter;
 use counters::numbers::letter_index;
 use met::bad_number;
@@ -13,7 +13,7 @@ ghost use Rattle.model.specs.Rows.{program};
 ghost use Rattle.model.specs.Tables.{tables};
 ghost use Rattle.model.specs.Bads.{bad-rows, counted, state-of, letter-of};
 ghost use Rattle.model.specs.Counters.{counter-count, counter-of};
-ghost use Rattle.counters.specs.Ready.{Ready};
+ghost use Rattle.lists.specs.Ready.{Ready};
 ghost use Rattle.counters.specs.Letters.{Letters};
 ghost use Rattle.met.specs.Items.{Items-counted};
 ghost use Rattle.items.specs.Numbers.{number-of};

@@ -19,7 +19,7 @@ use Rattle.model.specs.Bounds.{bounds, highest, leads-out}
 use Rattle.model.proofs.Logic.{and-left}
 use Rattle.model.proofs.Exact.Members.{some-of-iff}
 use Rattle.model.proofs.Numbering.Letters.{Keys, member-letter, low-keys, letter-index-below}
-use Rattle.counters.specs.Ready.{Ready}
+use Rattle.lists.specs.Ready.{Ready}
 use Rattle.counters.proofs.Keys.{letter-low, class-low}
 use Rattle.sources.specs.declared.Source.{Source}
 use Rattle.sources.specs.declared.Source.the-variants.{Nothing, Rest, Give, Call, Send, Spawn, Case, Receive}

@@ -23,7 +23,7 @@ ghost use Rattle.model.specs.Tables.{tables, state-at};
 ghost use Rattle.model.specs.Rules.{rules};
 ghost use Rattle.model.specs.Bounds.{bounds, bound-entries, leak-check};
 ghost use Rattle.model.specs.Verify.{answer};
-ghost use Rattle.counters.specs.Ready.{Ready};
+ghost use Rattle.lists.specs.Ready.{Ready};
 ghost use Rattle.sources.specs.Sources.{outer-to};
 ghost use Rattle.system.specs.Slots.{Slots-ask, inner-rules, source-rules};
 ghost use Rattle.system.specs.Prepared.{Prepared, Sourced};

@@ -8,7 +8,7 @@ use Rattle.model.specs.Words.{columns}
 use Rattle.model.specs.Rows.{program}
 use Rattle.model.specs.Tables.{tables, entries, State, state-index}
 use Rattle.model.specs.Counters.{letter-key, letter-index}
-use Rattle.counters.specs.Ready.{Ready}
+use Rattle.lists.specs.Ready.{Ready}
 use Rattle.counters.proofs.Keys.{letters-few}
 use Rattle.sources.specs.declared.Source.{Source}
 use Rattle.sources.specs.declared.Source.the-variants.{Nothing, Rest, Give, Call, Send, Spawn, Case, Receive}

@@ -1,6 +1,6 @@
 // The listing is written: S, letters, rules, rows, then all tags, then all numbers.
 use counters::letters::letter_keys;
-use counters::numbers::word;
+use lists::word;
 use model::Sizes;
 use sources::Source;
 use sources::inner_count;
@@ -17,7 +17,7 @@ ghost use Rattle.model.specs.Rows.{program};
 ghost use Rattle.model.specs.Tables.{tables};
 ghost use Rattle.model.specs.Rules.{rules};
 ghost use Rattle.model.specs.Listing.{line, system-words, written};
-ghost use Rattle.counters.specs.Ready.{Ready};
+ghost use Rattle.lists.specs.Ready.{Ready};
 ghost use Rattle.sources.specs.Sources.{outer-to};
 ghost use Rattle.system.specs.Slots.{slot-rules, Slots-ask, inner-rules, source-rules};
 ghost use Rattle.listing.specs.Putting.{put-line, Small, Room, Put};

@@ -19,32 +19,16 @@ use Rattle.model.proofs.Numbering.Counters.{class-at-most, tag-inside}
 use Rattle.model.proofs.Parse.Locations.{Location, head-range, location-known}
 use Rattle.model.proofs.Parse.Lengths.{row-location, row-within}
 use Rattle.program.specs.Layout.{owner}
-use Rattle.counters.specs.declared.lists.Span.{Span}
-use Rattle.counters.specs.Lists.{flow-span, mail-span, state-span, listed, place}
-use Rattle.counters.specs.Ready.{Ready}
-use Rattle.counters.proofs.Facts.{rows-fit, columns-whole, states-form, flow-listed, mail-listed, states-listed}
+use Rattle.lists.specs.declared.Span.{Span}
+use Rattle.lists.specs.Lists.{flow-span, mail-span, state-span, listed, place, range-from, range-to}
+use Rattle.lists.specs.Ready.{Ready}
+use Rattle.lists.proofs.Facts.{rows-fit, columns-whole, states-form, flow-listed, mail-listed, states-listed}
 use Rattle.sources.specs.declared.Source.the-variants.{Nothing, Rest, Give, Call, Send, Spawn, Case, Receive}
-use Rattle.sources.specs.Sources.{range-from, range-to, give-source, source, Sound}
-use Rattle.sources.proofs.Placed.{row-low}
-use Rattle.sources.proofs.Standing.{call-name, spawn-name, send-names, case-run, receive-run}
+use Rattle.sources.specs.Sources.{give-source, source, Sound}
+use Rattle.positions.proofs.Placed.{row-low}
+use Rattle.positions.proofs.Standing.{call-name, spawn-name, send-names, case-run, receive-run}
 
 -- the entries of a name, in the span that was searched
-pub from-told : (ws : List ℕ) (s : Sizes) (l : Span) (n i : ℕ) → l ≡ flow-span s → i ≡ place (listed ws l) n 0 → i ≡ range-from (tables ws s .flow) n
-unfolding range-from
-from-told ws s l n i e f = f ∙ rw (e, flow-listed ws s)
-
-pub to-told : (ws : List ℕ) (s : Sizes) (l : Span) (n i : ℕ) → l ≡ flow-span s → i ≡ place (listed ws l) (n + 1) 0 → i ≡ range-to (tables ws s .flow) n
-unfolding range-to
-to-told ws s l n i e f = f ∙ rw (e, flow-listed ws s)
-
-pub mail-from-told : (ws : List ℕ) (s : Sizes) (l : Span) (n i : ℕ) → l ≡ mail-span s → i ≡ place (listed ws l) n 0 → i ≡ range-from (tables ws s .mail) n
-unfolding range-from
-mail-from-told ws s l n i e f = f ∙ rw (e, mail-listed ws s)
-
-pub mail-to-told : (ws : List ℕ) (s : Sizes) (l : Span) (n i : ℕ) → l ≡ mail-span s → i ≡ place (listed ws l) (n + 1) 0 → i ≡ range-to (tables ws s .mail) n
-unfolding range-to
-mail-to-told ws s l n i e f = f ∙ rw (e, mail-listed ws s)
-
 -- a head by its tag
 pub tag-head : (t k : ℕ) → t ≡ k → 1 ≤ k → k ≤ 9 → is-head t ≡ true
 unfolding is-head

@@ -8,18 +8,10 @@ use Rattle.model.specs.Scopes.{rest}
 use Rattle.model.specs.Heads.{innermost, branch-rows, head-at, cases, receives}
 use Rattle.model.specs.Letters.{letters}
 use Rattle.model.specs.Tables.{Tables, State, state, state-index}
-use Rattle.counters.specs.Lists.{place}
+use Rattle.lists.specs.Lists.{place, range-from, range-to}
 use Rattle.sources.specs.declared.Source.{Source}
 use Rattle.sources.specs.declared.Source.the-variants.{Nothing, Rest, Give, Call, Send, Spawn, Case, Receive}
-use Rattle.sources.specs.Positions.{Run}
-
--- in a list that ascends the pairs that begin with a stand from here ...
-unfoldable pub range-from : Columns → ℕ → ℕ
-range-from c a = place c a 0
-
--- ... up to here
-unfoldable pub range-to : Columns → ℕ → ℕ
-range-to c a = place c (a + 1) 0
+use Rattle.positions.specs.Positions.{Run}
 
 unfoldable pub give-source : Tables → ℕ → Option ℕ → Source
 give-source t c none = Nothing

@@ -1,27 +1,25 @@
 // Where the rules of a state come from.
-pub mod positions;
-
-use crate::positions::rest;
-use counters::lists::flow;
-use counters::lists::left;
-use counters::lists::mail;
-use counters::lists::place;
-use counters::lists::right;
-use counters::lists::state_index;
-use counters::lists::states;
-use counters::numbers::word;
+use lists::flow_from;
+use lists::flow_to;
+use positions::rest;
+use lists::left;
+use lists::right;
+use lists::state_index;
+use lists::states;
+use lists::word;
 use model::Sizes;
 use program::rows::num;
 use program::rows::tag;
 ghost use mathlib.Core.Path.{_≡_};
 ghost use mathlib.Core.Bool.{true};
 ghost use Prim.Native.Nat.{_+_, _≤_, _<_};
+ghost use Rattle.lists.specs.Lists.{};
 ghost use Rattle.model.specs.Rows.{program, tag, is-head};
 ghost use Rattle.model.specs.Scopes.{rest};
 ghost use Rattle.model.specs.Tables.{tables, state, state-at, state-index};
-ghost use Rattle.counters.specs.Ready.{Ready};
-ghost use Rattle.sources.specs.Positions.{Ends, Owners};
-ghost use Rattle.sources.specs.Sources.{range-from, range-to, source, outer-from, outer-to, inner-count};
+ghost use Rattle.lists.specs.Ready.{Ready};
+ghost use Rattle.positions.specs.Positions.{Ends, Owners};
+ghost use Rattle.sources.specs.Sources.{source, outer-from, outer-to, inner-count};
 
 pub enum Source {
     Nothing,
@@ -39,40 +37,6 @@ pub enum Source {
     Case(usize, usize, usize, usize),
     // class, row and number of the branches
     Receive(usize, usize, usize),
-}
-
-// The flow entries of a name stand from here ...
-fn flow_from(ws: &[u16], s: Sizes, n: usize) -> usize
-    requires { ⌜ Ready (now ws) s ⌝ }
-    ensures { λ i. ⌜ i ≡ range-from (tables (now (ws .entry)) s .flow) n ⌝ }
-{
-    place(ws, flow(s), n, 0)
-}
-
-// ... up to here.
-fn flow_to(ws: &[u16], s: Sizes, n: usize) -> usize
-    requires { ⌜ Ready (now ws) s ⌝ }
-    requires { ⌜ n < 512 ⌝ }
-    ensures { λ i. ⌜ i ≡ range-to (tables (now (ws .entry)) s .flow) n ⌝ }
-{
-    place(ws, flow(s), n + 1, 0)
-}
-
-// The mail entries of a class stand from here ...
-pub fn mail_from(ws: &[u16], s: Sizes, c: usize) -> usize
-    requires { ⌜ Ready (now ws) s ⌝ }
-    ensures { λ i. ⌜ i ≡ range-from (tables (now (ws .entry)) s .mail) c ⌝ }
-{
-    place(ws, mail(s), c, 0)
-}
-
-// ... up to here.
-pub fn mail_to(ws: &[u16], s: Sizes, c: usize) -> usize
-    requires { ⌜ Ready (now ws) s ⌝ }
-    requires { ⌜ c ≤ s .rows ⌝ }
-    ensures { λ i. ⌜ i ≡ range-to (tables (now (ws .entry)) s .mail) c ⌝ }
-{
-    place(ws, mail(s), c + 1, 0)
 }
 
 // The state behind the head at a row.

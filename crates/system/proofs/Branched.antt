@@ -25,12 +25,12 @@ use Rattle.model.proofs.Index.{any-intro, any-elim, any-none, none-any}
 use Rattle.model.proofs.Numbering.States.{Ascending}
 use Rattle.patterns.specs.Patterns.{code}
 use Rattle.flow.specs.Branches.{value-code, name-code, Branches}
-use Rattle.counters.specs.Lists.{place}
+use Rattle.lists.specs.Lists.{place, range-from, range-to}
 use Rattle.counters.proofs.Keys.{product-most}
-use Rattle.counters.proofs.Rising.{place-upto, begins-before, begins-within, begins-behind}
-use Rattle.sources.specs.Positions.{branch-row, Run, Ends}
-use Rattle.sources.specs.Sources.{range-from, range-to, Case-rows, Receive-rows}
-use Rattle.sources.proofs.Standing.{run-prefix, run-last, run-body, row-listed}
+use Rattle.lists.proofs.Rising.{place-upto, begins-before, begins-within, begins-behind}
+use Rattle.positions.specs.Positions.{branch-row, Run, Ends}
+use Rattle.sources.specs.Sources.{Case-rows, Receive-rows}
+use Rattle.positions.proofs.Standing.{run-prefix, run-last, run-body, row-listed}
 use Rattle.system.specs.declared.slots.Slot.the-variants.{Empty, Quiet, Reads}
 use Rattle.system.specs.Slots.{filled, case-slot, receive-slot, takes-entry, Codes}
 

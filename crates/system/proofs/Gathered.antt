@@ -22,11 +22,11 @@ use Rattle.model.proofs.Index.{gather-end}
 use Rattle.model.proofs.Heads.{by-kind, head-give, head-build, head-function, head-call, head-send, head-spawn, head-self, head-case, head-receive, head-other}
 use Rattle.model.proofs.Reader.{by-option}
 use Rattle.model.proofs.Numbering.States.{Ascending}
-use Rattle.counters.specs.Lists.{place}
-use Rattle.counters.proofs.Rising.{place-upto, begins-before, begins-within, begins-behind, begins-order}
+use Rattle.lists.specs.Lists.{place, range-from, range-to}
+use Rattle.lists.proofs.Rising.{place-upto, begins-before, begins-within, begins-behind, begins-order}
 use Rattle.sources.specs.declared.Source.the-variants.{Nothing, Rest, Give, Call, Send, Spawn, Case, Receive}
-use Rattle.sources.specs.Positions.{branch-row}
-use Rattle.sources.specs.Sources.{range-from, range-to, give-source, source, outer-from, outer-to, inner-count}
+use Rattle.positions.specs.Positions.{branch-row}
+use Rattle.sources.specs.Sources.{give-source, source, outer-from, outer-to, inner-count}
 use Rattle.system.specs.declared.slots.Slot.{Slot}
 use Rattle.system.specs.Slots.{slot-rules, filled, give-slot, call-slot, send-slot, spawn-slot, case-slot, receive-slot, slot, inner-rules, source-rules}
 use Rattle.system.proofs.Gather.{gather-same, gather-none, gather-split, gather-one, gather-next}

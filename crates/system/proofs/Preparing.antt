@@ -5,6 +5,7 @@ use mathlib.Core.Path.{_≡_}
 use mathlib.Core.Bool.{true}
 use mathlib.Core.List.{List}
 use lib.ListN.{length}
+use Rattle.lists.specs.Lists.{range-from, range-to}
 use Rattle.model.specs.declared.Sizes.{Sizes}
 use Rattle.model.specs.Words.{left, right, columns}
 use Rattle.model.specs.Rows.{Program, program, size, tag, kind, branch-items, is-head}
@@ -21,15 +22,15 @@ use Rattle.model.proofs.Parse.Lengths.{row-location}
 use Rattle.program.specs.Layout.{Layout}
 use Rattle.flow.specs.Branches.{Branches}
 use Rattle.counters.specs.Letters.{Letters, Named}
-use Rattle.counters.specs.Ready.{Ready}
-use Rattle.counters.proofs.Facts.{rows-fit, columns-whole, flow-form, states-form}
-use Rattle.counters.proofs.Rising.{place-upto, begins-order}
+use Rattle.lists.specs.Ready.{Ready}
+use Rattle.lists.proofs.Facts.{rows-fit, columns-whole, flow-form, states-form}
+use Rattle.lists.proofs.Rising.{place-upto, begins-order}
 use Rattle.sources.specs.declared.Source.{Source}
 use Rattle.sources.specs.declared.Source.the-variants.{Nothing, Rest, Give, Call, Send, Spawn, Case, Receive}
-use Rattle.sources.specs.Positions.{Run}
-use Rattle.sources.specs.Sources.{range-from, range-to, give-source, source, outer-from, outer-to, inner-count}
-use Rattle.sources.proofs.Placed.{rows-most}
-use Rattle.sources.proofs.Standing.{case-run, receive-run}
+use Rattle.positions.specs.Positions.{Run}
+use Rattle.sources.specs.Sources.{give-source, source, outer-from, outer-to, inner-count}
+use Rattle.positions.proofs.Placed.{rows-most}
+use Rattle.positions.proofs.Standing.{case-run, receive-run}
 use Rattle.sources.proofs.Sourced.{source-sound, state-class}
 use Rattle.system.specs.Slots.{source-rules}
 use Rattle.system.specs.Prepared.{Prepared, Low, Sourced}

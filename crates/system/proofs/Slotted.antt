@@ -20,7 +20,7 @@ use Rattle.model.specs.Rules.{letter-of-some}
 use Rattle.model.proofs.Logic.{and-left, and-right}
 use Rattle.model.proofs.Numbering.Counters.{class-at-most, tag-inside}
 use Rattle.counters.specs.Letters.{Named}
-use Rattle.counters.specs.Ready.{Ready}
+use Rattle.lists.specs.Ready.{Ready}
 use Rattle.counters.proofs.Keys.{key-low}
 use Rattle.sources.specs.declared.Source.{Source}
 use Rattle.sources.specs.declared.Source.the-variants.{Send, Case, Receive}

@@ -4,10 +4,10 @@ use mathlib.Core.List.{List}
 use Rattle.model.specs.declared.Sizes.{Sizes}
 use Rattle.model.specs.Rows.{Program, program}
 use Rattle.model.specs.Tables.{tables}
-use Rattle.counters.specs.Ready.{Ready}
+use Rattle.lists.specs.Ready.{Ready}
 use Rattle.sources.specs.declared.Source.{Source}
 use Rattle.sources.specs.declared.Source.the-variants.{Nothing, Rest, Give, Call, Send, Spawn, Case, Receive}
-use Rattle.sources.specs.Positions.{Owners}
+use Rattle.positions.specs.Positions.{Owners}
 use Rattle.sources.specs.Sources.{Sound}
 use Rattle.system.specs.Slots.{Slots-ask}
 

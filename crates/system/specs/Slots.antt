@@ -18,7 +18,7 @@ use Rattle.flow.specs.Branches.{value-code, Branches}
 use Rattle.counters.specs.Letters.{Letters, Named}
 use Rattle.sources.specs.declared.Source.{Source}
 use Rattle.sources.specs.declared.Source.the-variants.{Nothing, Rest, Give, Call, Send, Spawn, Case, Receive}
-use Rattle.sources.specs.Positions.{branch-row, Ends}
+use Rattle.positions.specs.Positions.{branch-row, Ends}
 use Rattle.sources.specs.Sources.{outer-from, outer-to, inner-count, Receive-rows}
 use Rattle.system.specs.declared.slots.Slot.{Slot}
 use Rattle.system.specs.declared.slots.Slot.the-variants.{Empty, Quiet, Reads, Puts, Starts}

@@ -10,7 +10,7 @@ use Rattle.model.specs.Tables.{Tables, tables, state-at}
 use Rattle.model.specs.Rules.{rules}
 use Rattle.model.specs.Listing.{system-words}
 use Rattle.model.proofs.Listed.{length-system}
-use Rattle.counters.specs.Ready.{Ready}
+use Rattle.lists.specs.Ready.{Ready}
 use Rattle.sources.specs.declared.Source.{Source}
 use Rattle.sources.specs.Sources.{source, outer-from, outer-to, inner-count}
 use Rattle.system.specs.declared.slots.Slot.{Slot}

@@ -14,7 +14,7 @@ ghost use Rattle.model.specs.Rows.{program};
 ghost use Rattle.model.specs.Tables.{tables};
 ghost use Rattle.model.specs.Rules.{rules};
 ghost use Rattle.model.specs.Listing.{system-words};
-ghost use Rattle.counters.specs.Ready.{Ready};
+ghost use Rattle.lists.specs.Ready.{Ready};
 ghost use Rattle.sources.specs.Sources.{outer-to};
 ghost use Rattle.system.specs.Slots.{slot-rules, Slots-ask, inner-rules, source-rules};
 ghost use Rattle.totals.specs.Lines.{counted};

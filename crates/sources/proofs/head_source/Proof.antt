@@ -1,6 +1,6 @@
 use native.Mathlib.Omega.{arith}
 use mathlib.Core.Path.{sym, _∙_}
-use Rattle.sources.proofs.Placed.{head-low}
+use Rattle.positions.proofs.Placed.{head-low}
 use Rattle.sources.proofs.Sourced.{case-sourced, receive-sourced, rest-sourced}
 use Rattle.sources.proofs.head_source.Statement.{statement}
 use Rattle.sources.proofs.head_source.Tie as tie

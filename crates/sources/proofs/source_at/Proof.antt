@@ -1,6 +1,6 @@
 use mathlib.Core.Path.{_∙_}
 use borrow.Author.Needs.{needs}
-use Rattle.counters.proofs.Facts.{states-usable}
+use Rattle.lists.proofs.Facts.{states-usable}
 use Rattle.sources.proofs.Sourced.{state-head, state-told}
 use Rattle.sources.proofs.source_at.Statement.{statement}
 use Rattle.sources.proofs.source_at.Tie as tie

@@ -1,6 +1,6 @@
 use native.Mathlib.Omega.{arith}
 use borrow.Author.Needs.{needs}
-use Rattle.counters.proofs.Facts.{mail-usable}
+use Rattle.lists.proofs.Facts.{mail-usable}
 use Rattle.counters.proofs.Keys.{mail-keyed, keys-told, marks-low, marks-few, lettered}
 use Rattle.counters.proofs.letters.fill_letters.Statement.{statement}
 use Rattle.counters.proofs.letters.fill_letters.Tie as tie

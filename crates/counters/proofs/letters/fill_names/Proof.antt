@@ -1,6 +1,6 @@
 use native.Mathlib.Omega.{arith}
 use borrow.Author.Needs.{needs}
-use Rattle.counters.proofs.Facts.{flow-usable}
+use Rattle.lists.proofs.Facts.{flow-usable}
 use Rattle.counters.proofs.Keys.{flow-keyed, named}
 use Rattle.counters.proofs.letters.fill_names.Statement.{statement}
 use Rattle.counters.proofs.letters.fill_names.Tie as tie

@@ -5,7 +5,7 @@ use lib.ListN.{length}
 use borrow.Author.Needs.{needs}
 use Rattle.model.specs.Rows.{program}
 use Rattle.model.specs.Words.{columns}
-use Rattle.counters.specs.Lists.{listed}
+use Rattle.lists.specs.Lists.{listed}
 use Rattle.counters.proofs.Marking.{Marked, marked-cleared, marked-more, marked-all}
 use Rattle.counters.proofs.letters.mark.Statement.{statement}
 use Rattle.counters.proofs.letters.mark.Tie as tie

@@ -1,6 +1,6 @@
 use native.Mathlib.Omega.{arith}
 use borrow.Author.Needs.{needs}
-use Rattle.sources.proofs.Placed.{row-low}
+use Rattle.positions.proofs.Placed.{row-low}
 use Rattle.system.proofs.Slotted.{returns-other, returns-no-call, returns-may, returns-not}
 use Rattle.system.proofs.slots.returns_to.Statement.{statement}
 use Rattle.system.proofs.slots.returns_to.Tie as tie

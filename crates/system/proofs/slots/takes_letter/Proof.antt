@@ -8,7 +8,7 @@ use Rattle.model.specs.Tables.{tables}
 use Rattle.model.specs.Closed.{may-take}
 use Rattle.model.specs.Rules.{letter-of-some}
 use Rattle.model.proofs.Index.{any-end, any-hit, any-miss}
-use Rattle.counters.proofs.Facts.{mail-form}
+use Rattle.lists.proofs.Facts.{mail-form}
 use Rattle.system.specs.Slots.{takes-entry}
 use Rattle.system.proofs.Branched.{letter-begin}
 use Rattle.system.proofs.slots.takes_letter.Statement.{statement}

@@ -1,0 +1,224 @@
+// The flow, mail and state lists, as the words of the message have them.
+use model::Sizes;
+ghost use mathlib.Core.Path.{_≡_};
+ghost use mathlib.Core.Bool.{Bool};
+ghost use Prim.Native.Nat.{_+_, _≤_, _<_};
+ghost use lib.ListN.{length, getD};
+ghost use Rattle.model.specs.Words.{left, right};
+ghost use Rattle.model.specs.Message.{tables-at};
+ghost use Rattle.model.specs.Rows.{program};
+ghost use Rattle.model.specs.Tables.{tables, has, state, state-index};
+ghost use Rattle.model.specs.Demands.{Within-limits};
+ghost use Rattle.lists.specs.Lists.{Ascending, span-at, flow-span, mail-span, state-span, listed, Held, under, place, pair-index, range-from, range-to};
+ghost use Rattle.lists.specs.Ready.{Ready};
+
+// Where a list stands: its size, and the words at which its two columns begin.
+pub struct Span {
+    pub size: usize,
+    pub lefts: usize,
+    pub rights: usize,
+}
+
+// A word of a table.
+pub fn word(table: &[u16], k: usize) -> usize
+    requires { ⌜ k < length (now table) ⌝ }
+    ensures { λ n. ⌜ (n ≡ getD (now (table .entry)) k 0) × (n < 65536) ⌝ }
+{
+    table[k] as usize
+}
+
+// The word at which the tables begin.
+pub fn tables_at(s: Sizes) -> usize
+    requires { ⌜ Within-limits s ⌝ }
+    ensures { λ r. ⌜ r ≡ tables-at s ⌝ }
+{
+    4 + 2 * s.rows + 2 + 2 * s.conditions
+}
+
+// The list of n entries behind k others.
+fn entries(s: Sizes, n: usize, k: usize) -> Span
+    requires { ⌜ Within-limits s ⌝ }
+    requires { ⌜ k ≤ s .flows + s .mails ⌝ }
+    ensures { λ r. ⌜ r ≡ span-at s n k ⌝ }
+{
+    let at = tables_at(s) + 3;
+    Span {
+        size: n,
+        lefts: at + k,
+        rights: at + (s.flows + s.mails + s.states) + k,
+    }
+}
+
+pub fn flow(s: Sizes) -> Span
+    requires { ⌜ Within-limits s ⌝ }
+    ensures { λ r. ⌜ r ≡ flow-span s ⌝ }
+{
+    entries(s, s.flows, 0)
+}
+
+pub fn mail(s: Sizes) -> Span
+    requires { ⌜ Within-limits s ⌝ }
+    ensures { λ r. ⌜ r ≡ mail-span s ⌝ }
+{
+    entries(s, s.mails, s.flows)
+}
+
+pub fn states(s: Sizes) -> Span
+    requires { ⌜ Within-limits s ⌝ }
+    ensures { λ r. ⌜ r ≡ state-span s ⌝ }
+{
+    entries(s, s.states, s.flows + s.mails)
+}
+
+// The first number of entry i, and 0 past the last entry.
+pub fn left(ws: &[u16], l: Span, i: usize) -> usize
+    requires { ⌜ Held (now ws) l ⌝ }
+    ensures { λ a. ⌜ a ≡ left (listed (now (ws .entry)) l) i ⌝ }
+{
+    if i < l.size {
+        ws[l.lefts + i] as usize
+    } else {
+        0
+    }
+}
+
+// The second number of entry i, and 0 past the last entry.
+pub fn right(ws: &[u16], l: Span, i: usize) -> usize
+    requires { ⌜ Held (now ws) l ⌝ }
+    ensures { λ b. ⌜ b ≡ right (listed (now (ws .entry)) l) i ⌝ }
+{
+    if i < l.size {
+        ws[l.rights + i] as usize
+    } else {
+        0
+    }
+}
+
+// Is entry i below the pair (a, b)?
+fn under(ws: &[u16], l: Span, a: usize, b: usize, i: usize) -> bool
+    requires { ⌜ Held (now ws) l ⌝ }
+    ensures { λ r. ⌜ r ≡ under (listed (now (ws .entry)) l) a b i ⌝ }
+{
+    let x = left(ws, l, i);
+    if x == a { right(ws, l, i) < b } else { x < a }
+}
+
+// The first entry of a list that ascends which is not below the pair (a, b).
+pub fn place(ws: &[u16], l: Span, a: usize, b: usize) -> usize
+    requires { ⌜ Held (now ws) l ⌝ }
+    requires { ⌜ Ascending (listed (now ws) l) ⌝ }
+    ensures { λ r. ⌜ r ≡ place (listed (now (ws .entry)) l) a b ⌝ }
+{
+    let mut low = 0;
+    let mut high = l.size;
+    while low < high {
+        let mid = low + (high - low) / 2;
+        if under(ws, l, a, b, mid) {
+            low = mid + 1;
+        } else {
+            high = mid;
+        }
+    }
+    low
+}
+
+// The number of the pair (a, b) in a list that ascends; the list's size where it is not there.
+fn find(ws: &[u16], l: Span, a: usize, b: usize) -> usize
+    requires { ⌜ Held (now ws) l ⌝ }
+    requires { ⌜ Ascending (listed (now ws) l) ⌝ }
+    ensures { λ r. ⌜ r ≡ pair-index (listed (now (ws .entry)) l) a b ⌝ }
+{
+    let i = place(ws, l, a, b);
+    if i >= l.size {
+        return l.size;
+    }
+    if left(ws, l, i) != a {
+        return l.size;
+    }
+    if right(ws, l, i) != b {
+        return l.size;
+    }
+    i
+}
+
+// The number of a state; S where it is not listed.
+pub fn state_index(ws: &[u16], s: Sizes, c: usize, r: usize) -> usize
+    requires { ⌜ Ready (now ws) s ⌝ }
+    ensures { λ i. ⌜ i ≡ state-index (tables (now (ws .entry)) s) (state c r) ⌝ }
+{
+    find(ws, states(s), c, r)
+}
+
+// Does the flow list have the pair?
+pub fn has_flow(ws: &[u16], s: Sizes, n: usize, v: usize) -> bool
+    requires { ⌜ Ready (now ws) s ⌝ }
+    ensures { λ b. ⌜ b ≡ has (tables (now (ws .entry)) s .flow) n v ⌝ }
+{
+    find(ws, flow(s), n, v) < s.flows
+}
+
+// The value of flow entry j.
+pub fn flow_value(ws: &[u16], s: Sizes, j: usize) -> usize
+    requires { ⌜ Ready (now ws) s ⌝ }
+    ensures { λ v. ⌜ v ≡ right (tables (now (ws .entry)) s .flow) j ⌝ }
+{
+    right(ws, flow(s), j)
+}
+
+// The value of mail entry j.
+pub fn mail_value(ws: &[u16], s: Sizes, j: usize) -> usize
+    requires { ⌜ Ready (now ws) s ⌝ }
+    ensures { λ v. ⌜ v ≡ right (tables (now (ws .entry)) s .mail) j ⌝ }
+{
+    right(ws, mail(s), j)
+}
+
+// The class of state j.
+pub fn state_class(ws: &[u16], s: Sizes, j: usize) -> usize
+    requires { ⌜ Ready (now ws) s ⌝ }
+    ensures { λ c. ⌜ c ≡ left (tables (now (ws .entry)) s .states) j ⌝ }
+{
+    left(ws, states(s), j)
+}
+
+// The head of state j.
+pub fn state_location(ws: &[u16], s: Sizes, j: usize) -> usize
+    requires { ⌜ Ready (now ws) s ⌝ }
+    ensures { λ r. ⌜ r ≡ right (tables (now (ws .entry)) s .states) j ⌝ }
+{
+    right(ws, states(s), j)
+}
+
+// The flow entries of a name stand from here ...
+pub fn flow_from(ws: &[u16], s: Sizes, n: usize) -> usize
+    requires { ⌜ Ready (now ws) s ⌝ }
+    ensures { λ i. ⌜ i ≡ range-from (tables (now (ws .entry)) s .flow) n ⌝ }
+{
+    place(ws, flow(s), n, 0)
+}
+
+// ... up to here.
+pub fn flow_to(ws: &[u16], s: Sizes, n: usize) -> usize
+    requires { ⌜ Ready (now ws) s ⌝ }
+    requires { ⌜ n < 512 ⌝ }
+    ensures { λ i. ⌜ i ≡ range-to (tables (now (ws .entry)) s .flow) n ⌝ }
+{
+    place(ws, flow(s), n + 1, 0)
+}
+
+// The mail entries of a class stand from here ...
+pub fn mail_from(ws: &[u16], s: Sizes, c: usize) -> usize
+    requires { ⌜ Ready (now ws) s ⌝ }
+    ensures { λ i. ⌜ i ≡ range-from (tables (now (ws .entry)) s .mail) c ⌝ }
+{
+    place(ws, mail(s), c, 0)
+}
+
+// ... up to here.
+pub fn mail_to(ws: &[u16], s: Sizes, c: usize) -> usize
+    requires { ⌜ Ready (now ws) s ⌝ }
+    requires { ⌜ c ≤ s .rows ⌝ }
+    ensures { λ i. ⌜ i ≡ range-to (tables (now (ws .entry)) s .mail) c ⌝ }
+{
+    place(ws, mail(s), c + 1, 0)
+}

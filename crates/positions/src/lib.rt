@@ -1,0 +1,90 @@
+// Where the parts of a head stand.
+use lists::word;
+use model::Sizes;
+use program::rows::num;
+use program::rows::tag;
+ghost use mathlib.Core.Path.{_≡_};
+ghost use mathlib.Core.Bool.{true};
+ghost use Prim.Native.Nat.{_+_, _<_};
+ghost use Rattle.model.specs.Words.{left, right};
+ghost use Rattle.model.specs.Rows.{program, tag, is-head};
+ghost use Rattle.model.specs.Scopes.{rest};
+ghost use Rattle.model.specs.Heads.{is-function, is-class, body, takes, branch-body};
+ghost use Rattle.model.specs.Tables.{tables};
+ghost use Rattle.program.specs.Rows.{Whole};
+ghost use Rattle.lists.specs.Ready.{Ready};
+ghost use Rattle.positions.specs.Positions.{branch-row, Run, Ends};
+
+// Is row f a function that takes n arguments?
+pub fn takes(ws: &[u16], s: Sizes, f: usize, n: usize) -> bool
+    requires { ⌜ Whole (now ws) s ⌝ }
+    ensures { λ b. ⌜ b ≡ takes (program (now (ws .entry)) s) f n ⌝ }
+{
+    match tag(ws, s, f) {
+        3 | 11 => num(ws, s, f + 1) == n,
+        _ => false,
+    }
+}
+
+// Is it a class: a spawn row, or R for the starting process?
+pub fn is_class(ws: &[u16], s: Sizes, c: usize) -> bool
+    requires { ⌜ Whole (now ws) s ⌝ }
+    ensures { λ b. ⌜ b ≡ is-class (program (now (ws .entry)) s) c ⌝ }
+{
+    if tag(ws, s, c) == 6 {
+        true
+    } else {
+        c == s.rows
+    }
+}
+
+// The body of the function at row f.
+pub fn body(ws: &[u16], s: Sizes, f: usize) -> usize
+    requires { ⌜ Ready (now ws) s ⌝ }
+    requires { ⌜ is-function (program (now ws) s) f ≡ true ⌝ }
+    ensures { λ r. ⌜ r ≡ body (program (now (ws .entry)) s) f ⌝ }
+{
+    f + 2 + num(ws, s, f + 1)
+}
+
+// The rest of the head at row r.
+pub fn rest(ws: &[u16], s: Sizes, afters: &[u16], r: usize) -> usize
+    requires { ⌜ Ready (now ws) s ⌝ }
+    requires { ⌜ Ends (program (now ws) s) (now afters) ⌝ }
+    requires { ⌜ is-head (tag (program (now ws) s) r) ≡ true ⌝ }
+    ensures { λ e. ⌜ e ≡ rest (program (now (ws .entry)) s) r ⌝ }
+{
+    match tag(ws, s, r) {
+        2 => r + 2 + num(ws, s, num(ws, s, r + 1)),
+        3 => word(afters, body(ws, s, r)),
+        4 => r + 3 + num(ws, s, r + 2),
+        5 => r + 3,
+        6 => r + 2,
+        _ => r + 1,
+    }
+}
+
+// The expression of the branch whose pattern stands at row q.
+pub fn branch_body(ws: &[u16], s: Sizes, afters: &[u16], q: usize) -> usize
+    requires { ⌜ Ends (program (now ws) s) (now afters) ⌝ }
+    requires { ⌜ Run (program (now ws) s) q 1 ⌝ }
+    ensures { λ r. ⌜ r ≡ branch-body (program (now (ws .entry)) s) q ⌝ }
+{
+    word(afters, q)
+}
+
+// The pattern row of branch j, of those that stand from row q.
+pub fn branch_row(ws: &[u16], s: Sizes, afters: &[u16], q: usize, j: usize) -> usize
+    requires { ⌜ Ends (program (now ws) s) (now afters) ⌝ }
+    requires { ⌜ Run (program (now ws) s) q (j + 1) ⌝ }
+    ensures { λ r. ⌜ r ≡ branch-row (program (now (ws .entry)) s) q j ⌝ }
+{
+    let mut row = q;
+    let mut left = j;
+    while left > 0 {
+        let expression = branch_body(ws, s, afters, row);
+        row = word(afters, expression);
+        left -= 1;
+    }
+    row
+}
