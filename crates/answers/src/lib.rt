@@ -1,31 +1,80 @@
 // Verdicts as numbers, and whether anything was refused.
-pub mod places;
-
 use model::Verdict;
 ghost use mathlib.Core.Path.{_≡_};
-ghost use Rattle.model.specs.Verdict.{number};
+ghost use Rattle.model.specs.Verdict.{number, place};
 ghost use Rattle.answers.specs.Safe.{is-safe};
 
-// The number of a verdict.
-pub fn number_of(v: Verdict) -> usize
-    ensures { λ n. ⌜ n ≡ number v ⌝ }
+// What document 01 prints of a verdict.
+pub struct Told {
+    pub number: usize,
+    pub place: usize,
+}
+
+// The number and the place of a verdict.
+pub fn told_of(v: Verdict) -> Told
+    ensures { λ t. ⌜ (t .number ≡ number v) × (t .place ≡ place v) ⌝ }
 {
     match v {
-        Verdict::Safe => 0,
-        Verdict::Length(_) => 1,
-        Verdict::Size(_) => 2,
-        Verdict::Row(_) => 3,
-        Verdict::Name(_) => 4,
-        Verdict::Scope(_) => 5,
-        Verdict::Bad(_) => 6,
-        Verdict::Entry(_) => 7,
-        Verdict::Open(_) => 8,
-        Verdict::Counters(_) => 9,
-        Verdict::Ceiling(_) => 10,
-        Verdict::Start(_) => 11,
-        Verdict::Met(_) => 12,
-        Verdict::Leak(_) => 13,
-        Verdict::Space(_) => 14,
+        Verdict::Safe => Told {
+            number: 0,
+            place: 0,
+        },
+        Verdict::Length(at) => Told {
+            number: 1,
+            place: at,
+        },
+        Verdict::Size(at) => Told {
+            number: 2,
+            place: at,
+        },
+        Verdict::Row(at) => Told {
+            number: 3,
+            place: at,
+        },
+        Verdict::Name(at) => Told {
+            number: 4,
+            place: at,
+        },
+        Verdict::Scope(at) => Told {
+            number: 5,
+            place: at,
+        },
+        Verdict::Bad(at) => Told {
+            number: 6,
+            place: at,
+        },
+        Verdict::Entry(at) => Told {
+            number: 7,
+            place: at,
+        },
+        Verdict::Open(at) => Told {
+            number: 8,
+            place: at,
+        },
+        Verdict::Counters(at) => Told {
+            number: 9,
+            place: at,
+        },
+        Verdict::Ceiling(at) => Told {
+            number: 10,
+            place: at,
+        },
+        Verdict::Start(at) => Told {
+            number: 11,
+            place: at,
+        },
+        Verdict::Met(at) => Told {
+            number: 12,
+            place: at,
+        },
+        Verdict::Leak(at) => Told {
+            number: 13,
+            place: at,
+        },
+        Verdict::Space(at) => Told {
+            number: 14,
+            place: at,
+        },
     }
 }
 
@@ -33,5 +82,5 @@ pub fn number_of(v: Verdict) -> usize
 pub fn is_safe(v: Verdict) -> bool
     ensures { λ b. ⌜ b ≡ is-safe v ⌝ }
 {
-    number_of(v) == 0
+    told_of(v).number == 0
 }

@@ -1,7 +1,7 @@
 // The numbers of the letter counters, and how many counters there are; refusal 9.
-use lists::word;
 use crate::letters::letter_keys;
 use lists::tables_at;
+use lists::word;
 use model::MAX_COUNTERS;
 use model::Sizes;
 use model::Verdict;

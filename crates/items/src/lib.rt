@@ -1,7 +1,7 @@
 // The table of the items' counters, as the check of bads under the ceilings is handed it (refusal 12).
-use lists::state_index;
 use counters::numbers::has_letter;
 use counters::numbers::letter_index;
+use lists::state_index;
 use met::bad_number;
 use met::bad_tag;
 use model::Sizes;

@@ -15,10 +15,10 @@ use Rattle.model.specs.Closed.{may-take}
 pub record Branch-bits (p : Program) (t : Tables) (branches : List ℕ) : Type 0 where
   pub room : t .states .size ≤ length branches
   pub case-bit : (i n b : ℕ) (qs : List ℕ) → i < t .states .size → head-at p (right (t .states) i) ≡ cases n qs → b < length qs →
-    bit (getD branches i 0) b ≡ some-of (t .flow) n (may-take p t (getD qs b 0))
+      bit (getD branches i 0) b ≡ some-of (t .flow) n (may-take p t (getD qs b 0))
   pub case-end : (i n : ℕ) (qs : List ℕ) → i < t .states .size → head-at p (right (t .states) i) ≡ cases n qs →
-    getD branches i 0 < 2 ^ length qs
+      getD branches i 0 < 2 ^ length qs
   pub receive-bit : (i b : ℕ) (qs : List ℕ) → i < t .states .size → head-at p (right (t .states) i) ≡ receives qs → b < length qs →
-    bit (getD branches i 0) b ≡ some-of (t .mail) (left (t .states) i) (may-take p t (getD qs b 0))
+      bit (getD branches i 0) b ≡ some-of (t .mail) (left (t .states) i) (may-take p t (getD qs b 0))
   pub receive-end : (i : ℕ) (qs : List ℕ) → i < t .states .size → head-at p (right (t .states) i) ≡ receives qs →
-    getD branches i 0 < 2 ^ length qs
+      getD branches i 0 < 2 ^ length qs

@@ -1,13 +1,13 @@
 // Where the rules of a state come from.
 use lists::flow_from;
 use lists::flow_to;
-use positions::rest;
 use lists::left;
 use lists::right;
 use lists::state_index;
 use lists::states;
 use lists::word;
 use model::Sizes;
+use positions::rest;
 use program::rows::num;
 use program::rows::tag;
 ghost use mathlib.Core.Path.{_≡_};

@@ -1,7 +1,7 @@
 use borrow.Author.Needs.{needs}
-use Rattle.model.specs.Verdict.{place}
-use Rattle.answers.proofs.places.place_of.Statement.{statement}
-use Rattle.answers.proofs.places.place_of.Tie as tie
+use Rattle.model.specs.Verdict.{number, place}
+use Rattle.answers.proofs.told_of.Statement.{statement}
+use Rattle.answers.proofs.told_of.Tie as tie
 
 enum-told : tie.Need-enum-told
 enum-told c = search needs
@@ -49,67 +49,67 @@ enum-known-v-14 : tie.Need-enum-known-v-14
 enum-known-v-14 c = search needs
 
 returns : tie.Need-returns
-unfolding place
+unfolding number place
 returns c = search needs
 
 returns-2 : tie.Need-returns-2
-unfolding place
+unfolding number place
 returns-2 c = search needs
 
 returns-3 : tie.Need-returns-3
-unfolding place
+unfolding number place
 returns-3 c = search needs
 
 returns-4 : tie.Need-returns-4
-unfolding place
+unfolding number place
 returns-4 c = search needs
 
 returns-5 : tie.Need-returns-5
-unfolding place
+unfolding number place
 returns-5 c = search needs
 
 returns-6 : tie.Need-returns-6
-unfolding place
+unfolding number place
 returns-6 c = search needs
 
 returns-7 : tie.Need-returns-7
-unfolding place
+unfolding number place
 returns-7 c = search needs
 
 returns-8 : tie.Need-returns-8
-unfolding place
+unfolding number place
 returns-8 c = search needs
 
 returns-9 : tie.Need-returns-9
-unfolding place
+unfolding number place
 returns-9 c = search needs
 
 returns-10 : tie.Need-returns-10
-unfolding place
+unfolding number place
 returns-10 c = search needs
 
 returns-11 : tie.Need-returns-11
-unfolding place
+unfolding number place
 returns-11 c = search needs
 
 returns-12 : tie.Need-returns-12
-unfolding place
+unfolding number place
 returns-12 c = search needs
 
 returns-13 : tie.Need-returns-13
-unfolding place
+unfolding number place
 returns-13 c = search needs
 
 returns-14 : tie.Need-returns-14
-unfolding place
+unfolding number place
 returns-14 c = search needs
 
 returns-15 : tie.Need-returns-15
-unfolding place
+unfolding number place
 returns-15 c = search needs
 
-pub place-of-spec : {M : Type 1} → statement M
-place-of-spec =
+pub told-of-spec : {M : Type 1} → statement M
+told-of-spec =
     tie.close
     (tie.spec
     enum-told
