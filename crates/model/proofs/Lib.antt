@@ -26,3 +26,4 @@ pub mod Runs
 pub mod Demands
 pub mod Refusals
 pub mod Controls
+pub mod Transitions

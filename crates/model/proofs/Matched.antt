@@ -150,7 +150,8 @@ module _ (p : Program) (n q m : ℕ) (v : Value) (vs held held′ : Bindings) (h
 
   turn-any : eqb (tag p q) 31 ≡ false → eqb (tag p q) 30 ≡ false → match-rows p n (q + 1) vs held ≡ some held′
   unfolding match-rows
-  turn-any e f = rw (e, match-rows, f) at h
+  turn-any e f =
+      test (eqb (tag p q) 32) (λ g. rw (e, match-rows, f, g) at h) (λ g. absurd (Option·none-ne-some held′ (rw (e, match-rows, f, g) at h)))
 
 module _ {p : Program} (fit : Rows-fit p) (w : Columns-whole p) (t : Tables) (classes : List ℕ) where
   -- a match of values with patterns: each may match, and what is bound is held where flow has the spots

@@ -10,6 +10,8 @@ pub mod Heads
 pub mod Values
 pub mod Matching
 pub mod Run
+pub mod Patterns
+pub mod Transitions
 pub mod Letters
 pub mod Bads
 pub mod Tables

@@ -15,7 +15,8 @@ arguments-of k (built r k′ vs) = elim (eqb k k′) [ true ↦ some vs | false 
 arguments-of k (address i) = none
 
 -- The values still to be matched stand in order, and so do the pattern rows from q on: a name takes its value, a constructor puts the arguments
--- in its value's place, any value is passed over. n rows are left; `held` are the bindings in force, the names matched so far in front.
+-- in its value's place, any value is passed over, and a row that is no pattern matches nothing. n rows are left; `held` are the bindings in force,
+-- the names matched so far in front.
 unfoldable pub match-rows : Program → ℕ → ℕ → Bindings → Bindings → Option Bindings
 match-rows p zero q empty held = some held
 match-rows p zero q (bind m v vs) held = none
@@ -26,7 +27,7 @@ match-rows p (suc n) q (bind m v vs) held =
       | false ↦
           elim (eqb (tag p q) 30) [
             | true ↦ match-rows p n (q + 1) vs (bind (num p q) v held)
-            | false ↦ match-rows p n (q + 1) vs held
+            | false ↦ elim (eqb (tag p q) 32) [ true ↦ match-rows p n (q + 1) vs held | false ↦ none ]
           ]
     ]
 

@@ -1,9 +1,9 @@
 -- What a process brings to the counts, by its place and its mailbox.
 use Prim.Native.Nat.{ℕ, _+_, _≤_}
 use native.Mathlib.Omega.{arith}
-use mathlib.Core.Path.{_≡_, refl, sym, ap}
+use mathlib.Core.Path.{_≡_, refl, sym, _∙_, ap}
 use mathlib.Core.Bool.{_&&_}
-use mathlib.Core.List.{List, [], _∷_, _++_, List·Memᴰ, List·Memᴰ·cases-cons, List·Memᴰ·not-nil}
+use mathlib.Core.List.{List, [], _∷_, _++_, append-nil, List·Memᴰ, List·Memᴰ·cases-cons, List·Memᴰ·not-nil}
 use mathlib.Core.Logic.{⊎-elim}
 use mathlib.Core.Option.{some}
 use lib.ListN.{getElem?}
@@ -16,11 +16,14 @@ use Rattle.model.specs.Bads.{Counted, state-of, letter-of}
 use Rattle.model.proofs.Logic.{test}
 use Rattle.model.proofs.Counting.Station.{process-count, station-count, same, counted-at, station-least}
 
--- a message put last
-pub letters-append : (p : Program) (vs : List Value) (v : Value) (l : ℕ) → letters-in p (vs ++ (v ∷ [])) l ≡ letters-in p vs l + one-if (eqb (value-letter p v) l)
+-- a message among others, and one put last
+pub letters-among : (p : Program) (us vs : List Value) (v : Value) (l : ℕ) → letters-in p (us ++ v ∷ vs) l ≡ letters-in p (us ++ vs) l + one-if (eqb (value-letter p v) l)
 unfolding letters-in
-letters-append p [] v l = omega arith
-letters-append p (a ∷ vs) v l = omega (arith, letters-append p vs v l)
+letters-among p [] vs v l = omega arith
+letters-among p (a ∷ us) vs v l = omega (arith, letters-among p us vs v l)
+
+pub letters-append : (p : Program) (vs : List Value) (v : Value) (l : ℕ) → letters-in p (vs ++ (v ∷ [])) l ≡ letters-in p vs l + one-if (eqb (value-letter p v) l)
+letters-append p vs v l = letters-among p vs [] v l ∙ ap (λ (us : List Value). letters-in p us l + one-if (eqb (value-letter p v) l)) (append-nil vs)
 
 -- each message is counted
 pub letters-least : (p : Program) (vs : List Value) (v : Value) → List·Memᴰ v vs → 1 ≤ letters-in p vs (value-letter p v)

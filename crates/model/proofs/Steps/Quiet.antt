@@ -2,14 +2,13 @@
 use Prim.Native.Nat.{ℕ, _+_, _<_}
 use native.Mathlib.Omega.{arith}
 use mathlib.Core.Path.{_≡_, refl, sym, _∙_, ap, subst}
-use mathlib.Core.Bool.{true}
 use mathlib.Core.List.{List, [], _∷_, List·Memᴰ}
 use mathlib.Core.Option.{some, Option·some-injective, Option·none-ne-some}
-use lib.ListN.{length, getD, set, take, drop, length-take}
+use lib.ListN.{length, getD, set, drop, length-take}
 use Rattle.model.specs.Rows.{Program, tag, num, arity, kind}
 use Rattle.model.specs.Rows.{give, build, function, call, self, case}
 use Rattle.model.specs.Scopes.{rest}
-use Rattle.model.specs.Heads.{nums, branch-rows, branch-body, call-at, head-at, gives, is-function, takes, parameters, body}
+use Rattle.model.specs.Heads.{nums, branch-rows, branch-body, call-at, head-at, gives, is-function, parameters, body}
 use Rattle.model.specs.Values.{Value, closure, built, address, Bindings, bind, value-of, values-of, bind-all, Frame, Process, process, Processes}
 use Rattle.model.specs.Matching.{Taken, first-branch}
 use Rattle.model.specs.Run.{_>>=_, moved, Function, function-of, give-back, enter, act}
@@ -17,10 +16,11 @@ use Rattle.model.specs.Tables.{Tables}
 use Rattle.model.specs.Rules.{quiet, rules}
 use Rattle.model.specs.Wanted.{Member, Closed, flow, state, build-name, build-rest, function-name, function-rest, self-name, self-rest, call-parameter, call-body, return-name, return-rest, by-state}
 use Rattle.model.specs.Wanted.{Returns, MayCall, by-case}
+use Rattle.model.proofs.Transitions.Callees.{function-of-some}
 use Rattle.model.proofs.Heads.{tag-is, head-give, head-build, head-function, head-call, head-self, head-case}
 use lib.Dec.{eqb}
 use borrow.Author.Tests.{eq-eqb}
-use Rattle.model.proofs.Logic.{test, or-left}
+use Rattle.model.proofs.Logic.{or-left}
 use Rattle.model.proofs.Acts.{act-give, act-build, act-function, act-call, act-self, act-case}
 use Rattle.model.proofs.Covering.{row-for, names-of, Covered, Held}
 use Rattle.model.proofs.Lookups.{bind-some, value-held, values-held, bind-all-held}
@@ -44,17 +44,6 @@ pub record Quietly (p : Program) (t : Tables) (classes : List ℕ) (qs : Process
   pub result : qs′ ≡ set qs i (process (q .class) to held frames (q .mailbox))
   pub good : Good p t classes (process (q .class) to held frames (q .mailbox))
   pub follows : List·Memᴰ (moving p t (q .class) (q .location) to quiet) (rules p t)
-
--- only a function that takes so many arguments can be called with them
-pub function-of-some : (p : Program) (n : ℕ) (v : Value) (f : Function) → function-of p n v ≡ some f → (v ≡ closure (f .row) (f .held)) × (takes p (f .row) n ≡ true)
-unfolding function-of
-function-of-some p n (closure g held) f h =
-    test (takes p g n)
-    (λ e. let z = Option·some-injective (record { row = g; held = held }) f (rw (e, function-of) at h) in
-    subst (λ (x : Function). (closure g held ≡ closure (x .row) (x .held)) × (takes p (x .row) n ≡ true)) z (refl, e))
-    (λ e. absurd (Option·none-ne-some f (rw (e, function-of) at h)))
-function-of-some p n (built r k vs) f h = absurd (Option·none-ne-some f h)
-function-of-some p n (address i) f h = absurd (Option·none-ne-some f h)
 
 by-frames {ℓ} : {A : Type ℓ} (l : List Frame) → (l ≡ [] → A) → ((f : Frame) (fs : List Frame) → l ≡ f ∷ fs → A) → A
 by-frames [] a b = a refl

@@ -3,18 +3,19 @@ use Prim.Native.Nat.{ℕ, _+_, _<_}
 use mathlib.Core.Path.{_≡_, sym, _∙_, ap, subst}
 use mathlib.Core.Logic.{⊎-elim}
 use mathlib.Core.List.{List, [], _∷_, _++_, List·Memᴰ, List·Memᴰ·append-cases, List·Memᴰ·eq-of-singleton}
-use mathlib.Core.Option.{some, Option·some-injective, Option·none-ne-some}
+use mathlib.Core.Option.{some}
 use lib.ListN.{length, getD, set}
 use Rattle.model.specs.Rows.{Program, size, tag, num, kind}
 use Rattle.model.specs.Rows.{send}
 use Rattle.model.specs.Scopes.{rest}
 use Rattle.model.specs.Letters.{letters, row-letter, value-letter}
-use Rattle.model.specs.Values.{Value, closure, built, address, Bindings, bind, value-of, Process, process, Processes}
+use Rattle.model.specs.Values.{Value, Bindings, bind, value-of, Process, Processes}
 use Rattle.model.specs.Run.{_>>=_, moved, process-of, deliver, act}
 use Rattle.model.specs.Tables.{Tables}
 use Rattle.model.specs.Rules.{puts, rules}
 use Rattle.model.specs.Counters.{letter-index}
 use Rattle.model.specs.Wanted.{Member, Closed, flow, mail, state, Sends, send-mail, send-name, send-rest, by-state}
+use Rattle.model.proofs.Transitions.Callees.{process-of-some}
 use Rattle.model.proofs.Heads.{head-send}
 use Rattle.model.proofs.Acts.{act-send}
 use Rattle.model.proofs.Lookups.{bind-some, value-held}
@@ -39,13 +40,6 @@ pub record Sent (p : Program) (t : Tables) (classes : List ℕ) (qs : Processes)
   pub mailed : Member (t .mail) (getD classes target 0) (row-for classes message)
   pub same : row-letter p (row-for classes message) ≡ value-letter p message
   pub follows : List·Memᴰ (moving p t (q .class) (q .location) (rest p (q .location)) (puts (letter-index p t (getD classes target 0) (value-letter p message)))) (rules p t)
-
--- only an address is a target
-process-of-some : (v : Value) (j : ℕ) → process-of v ≡ some j → v ≡ address j
-unfolding process-of
-process-of-some (closure f held) j h = absurd (Option·none-ne-some j h)
-process-of-some (built r k vs) j h = absurd (Option·none-ne-some j h)
-process-of-some (address i) j h = ap address (Option·some-injective i j h)
 
 module _ (p : Program) (t : Tables) (fit : Rows-fit p) (w : Columns-whole p) (past-end : tag p (size p) ≡ 0) (low : (v : ℕ) → row-letter p v < letters p) (closed : Closed p t) (classes : List ℕ) (classed : Classes p classes) (qs : Processes) (i : ℕ) (q : Process) (qs′ : Processes) (g : Good p t classes q) (k : kind (tag p (q .location)) ≡ send) where
   sent : (target v : Value) (j : ℕ) → value-of p (q .held) (num p (q .location + 1)) ≡ some target → process-of target ≡ some j → value-of p (q .held) (num p (q .location + 2)) ≡ some v → deliver (set qs i (moved q (rest p (q .location)) (bind (num p (q .location)) v (q .held)))) j v ≡ some qs′ → Sent p t classes qs i q qs′

@@ -12,7 +12,7 @@ use Rattle.model.specs.Rows.{Program, size, tag, num, kind}
 use Rattle.model.specs.Rows.{spawn}
 use Rattle.model.specs.Scopes.{rest}
 use Rattle.model.specs.Heads.{body, is-class}
-use Rattle.model.specs.Values.{Value, address, Bindings, bind, value-of, Process, process, Processes}
+use Rattle.model.specs.Values.{Value, address, Bindings, bind, value-of, Process, Processes}
 use Rattle.model.specs.Run.{_>>=_, moved, Function, function-of, spawned, act}
 use Rattle.model.specs.Tables.{Tables, state-index}
 use Rattle.model.specs.Tables.{state as at-state}
@@ -28,7 +28,8 @@ use Rattle.model.proofs.Parse.Reached.{Rows-fit}
 use Rattle.model.proofs.Parse.Heads.{rest-of}
 use Rattle.model.proofs.Parse.Functions.{body-location}
 use Rattle.model.proofs.Parse.Lengths.{Columns-whole, function-within}
-use Rattle.model.proofs.Steps.Quiet.{at-rest, function-of-some}
+use Rattle.model.proofs.Transitions.Callees.{function-of-some}
+use Rattle.model.proofs.Steps.Quiet.{at-rest}
 use Rattle.model.proofs.Invariant.{Good, good-grown}
 use Rattle.model.proofs.RuleAt.{moving, rule-spawn}
 
