@@ -36,7 +36,7 @@ use Rattle.model.proofs.Numbering.Counters.{listed-keys}
 use Rattle.model.proofs.Bounded.Met.{met-check-exact, met-check-refuses}
 use Rattle.model.proofs.Bounded.Fire.{Shaped}
 use Rattle.model.proofs.Bounded.Shaped.{rules-shaped}
-use Rattle.model.proofs.Bounded.Leak.{start-check-exact, leak-check-exact, leak-check-refuses}
+use Rattle.model.proofs.Bounded.Leak.{start-check-exact, leak-check-exact, leak-check-none, leak-check-refuses}
 
 -- the constructor that a row of a message builds, where its rows fit
 pub message-built : (bytes : List ℕ) → Rows-fit (message bytes .program) → (v : ℕ) → tag (message bytes .program) v ≡ 2 → num (message bytes .program) (v + 1) < message bytes .program .constructors
@@ -81,13 +81,16 @@ module _ (bytes : List ℕ) (short : Bytes bytes) where
     pub met-exact : (met-check (m .sizes) (m .program) (m .tables) (m .bounds) (m .bads) ≡ none) ↔ ((j : ℕ) → j < m .sizes .bads → Allowed m j → ⊥)
     met-exact = met-check-exact (m .program) (m .tables) (m .bounds) (m .bads) keys counters minimums (m .sizes)
 
-    pub met-refuses : (v : Verdict) → met-check (m .sizes) (m .program) (m .tables) (m .bounds) (m .bads) ≡ some v → (j : ℕ) × First-such (m .sizes .bads) (Allowed m) j × (Met (bads-at (m .sizes) + 2 + bad-row (m .program) (m .bads) j) ≡ v)
+    pub met-refuses : (v : Verdict) → (met-check (m .sizes) (m .program) (m .tables) (m .bounds) (m .bads) ≡ some v) ↔ ((j : ℕ) × First-such (m .sizes .bads) (Allowed m) j × (Met (bads-at (m .sizes) + 2 + bad-row (m .program) (m .bads) j) ≡ v))
     met-refuses = met-check-refuses (m .program) (m .tables) (m .bounds) (m .bads) keys counters minimums (m .sizes)
 
     pub leak-exact : (leak-check (m .words) (m .sizes) (m .bounds) (rules (m .program) (m .tables)) ≡ none) ↔ ((counts : Marking) (ρ : Rule) → Under-one (m .bounds) counts → List·Memᴰ ρ (rules (m .program) (m .tables)) → usable ρ counts ≡ true → Under-one (m .bounds) (fire ρ counts))
     leak-exact = leak-check-exact (m .bounds) (rules (m .program) (m .tables)) limits shaped (m .words) (m .sizes)
 
-    pub leak-refuses : (v : Verdict) → leak-check (m .words) (m .sizes) (m .bounds) (rules (m .program) (m .tables)) ≡ some v → (k : ℕ) × First-such (m .bounds .size) (Leaks (m .bounds) (rules (m .program) (m .tables))) k × (Leak (bounds-at (m .sizes) + 2 + bound-entry (m .bounds .counters) (bound-entries (m .words) (m .sizes)) k) ≡ v)
+    pub leak-none : (leak-check (m .words) (m .sizes) (m .bounds) (rules (m .program) (m .tables)) ≡ none) ↔ ((k : ℕ) → k < m .bounds .size → Leaks (m .bounds) (rules (m .program) (m .tables)) k → ⊥)
+    leak-none = leak-check-none (m .bounds) (rules (m .program) (m .tables)) limits shaped (m .words) (m .sizes)
+
+    pub leak-refuses : (v : Verdict) → (leak-check (m .words) (m .sizes) (m .bounds) (rules (m .program) (m .tables)) ≡ some v) ↔ ((k : ℕ) × First-such (m .bounds .size) (Leaks (m .bounds) (rules (m .program) (m .tables))) k × (Leak (bounds-at (m .sizes) + 2 + bound-entry (m .bounds .counters) (bound-entries (m .words) (m .sizes)) k) ≡ v))
     leak-refuses = leak-check-refuses (m .bounds) (rules (m .program) (m .tables)) limits shaped (m .words) (m .sizes)
 
     -- refusals 11 to 13

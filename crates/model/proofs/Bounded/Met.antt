@@ -93,6 +93,6 @@ module _ (p : Program) (t : Tables) (bs : Bounds) (rows : Columns) where
       unfolding met-check
       met-check-exact = first-none (s .bads) allows _ (λ j below. fails-iff (allows j) (bad-allowed-iff (bad-row p rows j)))
 
-      pub met-check-refuses : (v : Verdict) → met-check s p t bs rows ≡ some v → (j : ℕ) × First-such (s .bads) (λ i. Met-below (bad-row p rows i)) j × (refusal s j ≡ v)
+      pub met-check-refuses : (v : Verdict) → (met-check s p t bs rows ≡ some v) ↔ ((j : ℕ) × First-such (s .bads) (λ i. Met-below (bad-row p rows i)) j × (refusal s j ≡ v))
       unfolding met-check
       met-check-refuses = first-some (s .bads) allows (λ j below. bad-allowed-iff (bad-row p rows j)) (refusal s)

@@ -3,11 +3,12 @@ use Prim.Native.Nat.{ℕ, zero, suc, _+_, _-_, _≤_, _<_}
 use native.Mathlib.Decide.{ℕ-discrete}
 use native.Mathlib.Omega.{arith}
 use mathlib.Core.Path.{_≡_, refl, sym, _∙_, ap, ap₂, subst}
+use mathlib.Core.Bool.{false}
 use mathlib.Core.Logic.{_↔_, _⊎_, inl, inr, ⊎-elim}
 use mathlib.Core.List.{List, [], _∷_, _++_}
 use mathlib.Core.Option.{some, none, Option·some-injective, Option·none-ne-some}
 use lib.Dec.{eqb}
-use borrow.Author.Tests.{eqb-false}
+use borrow.Author.Tests.{eqb-false, ne-eqb}
 use Rattle.model.specs.Words.{Columns, left, right}
 use Rattle.model.specs.Reader.{Read, past, wrong, Grammar, read, complete, first-wrong}
 use Rattle.model.specs.Refusals.{Ahead, at-first, after-row, Wrong, unfit, behind, early}
@@ -27,6 +28,10 @@ complete-some size r (past q) h =
     (λ e. let z : q ≡ r = Option·some-injective q r (rw (e, complete) at h) in
     inr (ap past z, λ w. eqb-false q size e (z ∙ w)))
 complete-some size r (wrong q) h = inl (ap wrong (Option·some-injective q r h))
+
+some-complete : (size r : ℕ) → r < size → complete size (past r) ≡ some r
+unfolding complete
+some-complete size r b = let e : eqb r size ≡ false = ne-eqb r size (λ z. omega arith) in rw (e, complete)
 
 module _ {Item : Type 0} (step : Grammar Item) (rows : Columns) (whole : List Item) where
   -- before a row at most one list of items is ahead
@@ -63,9 +68,10 @@ module _ {Item : Type 0} (step : Grammar Item) (rows : Columns) (whole : List It
       (λ e. subst (Wrong step rows whole) (wrong-row r q (sym (read-stop step rows n r item items e) ∙ h)) (unfit r item items a (omega arith) e))
       (λ more e. ahead-wrong n (r + 1) q (more ++ items) (omega arith) (after-row r item items more a e) (sym (read-go step rows n r item items more e) ∙ h))
 
-  pub first-wrong-some : (r : ℕ) → first-wrong step rows whole ≡ some r → Wrong step rows whole r
+  -- the first wrong row is the one that is told
+  wrong-first : (r : ℕ) → first-wrong step rows whole ≡ some r → Wrong step rows whole r
   unfolding first-wrong
-  first-wrong-some r h =
+  wrong-first r h =
       ⊎-elim (λ e. ahead-wrong (rows .size) 0 r whole (omega arith) at-first e)
       (λ x. let (e, ne) = x in
       let (a, b) = read-range step rows (rows .size) 0 r whole e in
@@ -78,6 +84,20 @@ module _ {Item : Type 0} (step : Grammar Item) (rows : Columns) (whole : List It
   ahead-read r′ items′ (after-row r item items more a e) b =
       let z : rows .size - r ≡ suc (rows .size - (r + 1)) = omega arith in
       ahead-read r (item ∷ items) a (omega arith) ∙ (ap (λ n. read step rows n (item ∷ items) r) z ∙ read-go step rows (rows .size - (r + 1)) r item items more e)
+
+  wrong-told : (r : ℕ) → Wrong step rows whole r → first-wrong step rows whole ≡ some r
+  unfolding first-wrong complete
+  wrong-told r (unfit q item items a b e) =
+      let z : rows .size - q ≡ suc (rows .size - (q + 1)) = omega arith in
+      ap (complete (rows .size)) (ahead-read q (item ∷ items) a (omega arith) ∙ (ap (λ n. read step rows n (item ∷ items) q) z ∙ read-stop step rows (rows .size - (q + 1)) q item items e))
+  wrong-told r (behind q a b) =
+      ap (complete (rows .size)) (ahead-read q [] a (omega arith) ∙ read-none step rows (rows .size - q) q) ∙ some-complete (rows .size) q b
+  wrong-told r (early item items a) =
+      let z : rows .size - rows .size ≡ 0 = omega arith in
+      ap (complete (rows .size)) (ahead-read (rows .size) (item ∷ items) a (omega arith) ∙ (ap (λ n. read step rows n (item ∷ items) (rows .size)) z ∙ read-end step rows item items (rows .size)))
+
+  pub first-wrong-some : (r : ℕ) → (first-wrong step rows whole ≡ some r) ↔ Wrong step rows whole r
+  first-wrong-some r = (wrong-first r, wrong-told r)
 
   -- no row is wrong exactly where all are taken, and nothing is ahead then
   pub first-wrong-iff : (first-wrong step rows whole ≡ none) ↔ Ahead step rows whole (rows .size) []
