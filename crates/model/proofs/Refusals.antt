@@ -11,7 +11,7 @@ use lib.ListN.{length, drop, replicate}
 use lib.Dec.{leb}
 use Rattle.model.specs.declared.Sizes.{Sizes}
 use Rattle.model.specs.declared.Verdict.{Verdict}
-use Rattle.model.specs.declared.Verdict.the-variants.{Safe, Row, Name, Scope, Bad, Entry, Open, Counters, Ceiling, Start, Space}
+use Rattle.model.specs.declared.Verdict.the-variants.{Safe, Row, Name, Scope, Bad, Entry, Open, Counters, Ceiling, Start, Met, Space}
 use Rattle.model.specs.Limits.{maxCounters}
 use Rattle.model.specs.Words.{Columns, left, right}
 use Rattle.model.specs.Verdict.{Check, _>>_}
@@ -20,7 +20,7 @@ use Rattle.model.specs.Reader.{Grammar, first-wrong}
 use Rattle.model.specs.Rows.{Program, size, tag, is-head, is-name, step, whole, row-check}
 use Rattle.model.specs.Scopes.{bound-again, name-check, out-of-scope, scope-check}
 use Rattle.model.specs.Heads.{is-class}
-use Rattle.model.specs.Bads.{bad, bad-step, bad-check}
+use Rattle.model.specs.Bads.{bad, bad-step, bad-row, bad-check}
 use Rattle.model.specs.Tables.{Tables, is-value, first-misplaced, list-check, entry-check}
 use Rattle.model.specs.Closed.{opening-closed, open-check}
 use Rattle.model.specs.Counters.{counter-count, counter-check}
@@ -32,7 +32,7 @@ use Rattle.model.specs.Verify.{Message, message, program-check, evidence
 use Rattle.model.specs.Wanted.{Present, Wanted-first}
 use Rattle.model.specs.Wanted.{Entry as Table-entry}
 use Rattle.model.specs.Demands.{Bytes, Listed, Under-one}
-use Rattle.model.specs.Refusals.{First-such, Behind, Behind, Message-part, parts, Whole, Wrong, Bound-again, Bound, Reads-outside, Placed, Lacks, Passed, Refused, Refused-exactly, Said, Verdict-exactly, of-sound, of-refused}
+use Rattle.model.specs.Refusals.{First-such, Behind, Behind, Message-part, parts, Whole, Wrong, Bound-again, Bound, Reads-outside, Placed, Lacks, Allowed, Passed, Refused, Refused-exactly, Said, Verdict-exactly, of-sound, of-refused}
 use Rattle.model.specs.Refusals.{parts-passed, rows-passed, names-passed, scopes-passed, bads-passed, entries-passed, closed-passed, counters-passed, bounds-passed, start-passed, bad-passed, kept-passed}
 use Rattle.model.specs.Refusals.{sizes-short, arrays-short, bytes-remain, size-outside, row-wrong, name-again, name-unbound, scope-left, bad-wrong, flow-misplaced, mail-misplaced, state-misplaced, opening-missing, state-open, counters-over, ceiling-wrong, start-outside, bad-met, ceiling-left, no-space}
 use Rattle.model.proofs.Logic.{test}
@@ -168,7 +168,16 @@ module _ (bytes : List ℕ) (short : Bytes bytes) (lent : ℕ) where
   start-some v = unless-refutes _ _ v (under-some-exact bs (initial p t))
 
   keys : Passed bytes 12 → Keys p t
-  keys (start-passed (bounds-passed (counters-passed (closed-passed (entries-passed (bads-passed (scopes-passed (names-passed (rows-passed x fit) n₁ n₂) c) b) flow mail states) w) k) e) u) = message-keys bytes fit mail
+  keys (start-passed (bounds-passed (counters-passed (closed-passed (entries-passed (bads-passed (scopes-passed (names-passed (rows-passed x fit) again bound) within) bads) flow mail states) closed) few) form) under) = message-keys bytes fit mail
+
+  bads-known : Passed bytes 12 → first-wrong (bad-step p) (m .bads) (replicate (s .bads) bad) ≡ none
+  bads-known (start-passed (bounds-passed (counters-passed (closed-passed (entries-passed (bads-passed x bads) flow mail states) closed) few) form) under) = bads
+
+  met-none : Passed bytes 12 → (met-check s p t bs (m .bads) ≡ none) ↔ ((j : ℕ) → j < s .bads → Allowed m j → ⊥)
+  met-none x = met-exact bytes short (keys x) (bads-known x)
+
+  met-some : Passed bytes 12 → (v : Verdict) → (met-check s p t bs (m .bads) ≡ some v) ↔ ((j : ℕ) × First-such (s .bads) (Allowed m) j × (Met (bads-at s + 2 + bad-row p (m .bads) j) ≡ v))
+  met-some x = met-refuses bytes short (keys x) (bads-known x)
 
   keys-met : Passed bytes 13 → Keys p t
   keys-met (bad-passed x n) = keys x
@@ -287,8 +296,8 @@ module _ (bytes : List ℕ) (short : Bytes bytes) (lent : ℕ) where
   met-stage : Stage (met-check s p t bs (m .bads)) (Passed bytes 12) (Passed bytes 13)
   met-stage =
       record {
-        refuses = λ x v h. let (j, f, q) = met-refuses bytes short (keys x) v .0 h in told (bad-met j x f) q;
-        passes = λ x h. bad-passed x (met-exact bytes short (keys x) .0 h);
+        refuses = λ x v h. let (j, f, q) = met-some x v .0 h in told (bad-met j x f) q;
+        passes = λ x h. bad-passed x (met-none x .0 h);
       }
 
   leak-stage : Stage (leak-check (m .words) s bs (rules p t)) (Passed bytes 13) (Passed bytes 14)
@@ -338,7 +347,7 @@ module _ (bytes : List ℕ) (short : Bytes bytes) (lent : ℕ) where
   others (counters-passed x few) = others x ∙ skip _ (counter-none .1 few)
   others (bounds-passed x fit) = others x ∙ skip _ (bound-none (m .words) s (bs .counters) .1 fit)
   others (start-passed x under) = others x ∙ skip _ (start-check-exact s p t bs .1 under)
-  others (bad-passed x none-met) = others x ∙ skip _ (met-exact bytes short (keys x) .1 none-met)
+  others (bad-passed x none-met) = others x ∙ skip _ (met-none x .1 none-met)
   others (kept-passed x none-left) = others x ∙ skip _ (leak-none bytes short (keys-met x) .1 none-left)
 
   -- A line that holds is the answer.
@@ -368,7 +377,7 @@ module _ (bytes : List ℕ) (short : Bytes bytes) (lent : ℕ) where
   said-refuses v (counters-over x l) = others x ∙ stop _ (counter-some v .1 (λ z. omega arith, refl))
   said-refuses v (ceiling-wrong e x w) = others x ∙ stop _ (bound-some v .1 (e, w, refl))
   said-refuses v (start-outside x n) = others x ∙ stop _ (start-some v .1 (n, refl))
-  said-refuses v (bad-met j x f) = others x ∙ stop _ (met-refuses bytes short (keys x) v .1 (j, f, refl))
+  said-refuses v (bad-met j x f) = others x ∙ stop _ (met-some x v .1 (j, f, refl))
   said-refuses v (ceiling-left k x f) = others x ∙ stop _ (leak-refuses bytes short (keys-met x) v .1 (k, f, refl))
   said-refuses v (no-space x l) = others x ∙ space-some v .1 (λ z. omega arith, refl)
 

@@ -5,7 +5,7 @@ use native.Mathlib.Omega.{arith}
 use mathlib.Core.Path.{_≡_, refl, sym, _∙_, ap, ap₂, subst}
 use mathlib.Core.Bool.{false}
 use mathlib.Core.Logic.{_↔_, _⊎_, inl, inr, ⊎-elim}
-use mathlib.Core.List.{List, [], _∷_, _++_}
+use mathlib.Core.List.{List, [], _∷_, _++_, append-assoc, append-nil}
 use mathlib.Core.Option.{some, none, Option·some-injective, Option·none-ne-some}
 use lib.Dec.{eqb}
 use borrow.Author.Tests.{eqb-false, ne-eqb}
@@ -47,14 +47,19 @@ module _ {Item : Type 0} (step : Grammar Item) (rows : Columns) (whole : List It
       let said : some more ≡ some more′ = sym e ∙ (ap₂ (λ i k. step i (left rows k) (right rows k)) front w ∙ e′) in
       ap₂ (λ m is. m ++ is) (Option·some-injective more more′ said) back
 
-  -- where the items end, nothing is ahead
-  ahead-past : (n r q : ℕ) (items : List Item) → Ahead step rows whole r items → read step rows n items r ≡ past q → Ahead step rows whole q []
-  ahead-past zero r q [] a h = subst (λ k. Ahead step rows whole k []) (past-row r q (sym (read-none step rows zero r) ∙ h)) a
-  ahead-past zero r q (item ∷ items) a h = past-wrong q r (sym h ∙ read-end step rows item items r)
-  ahead-past (suc n) r q [] a h = subst (λ k. Ahead step rows whole k []) (past-row r q (sym (read-none step rows (suc n) r) ∙ h)) a
-  ahead-past (suc n) r q (item ∷ items) a h =
+  -- where items end, what is below them is ahead
+  pub ahead-past : (n r q : ℕ) (items below : List Item) → Ahead step rows whole r (items ++ below) → read step rows n items r ≡ past q → Ahead step rows whole q below
+  ahead-past zero r q [] below a h = subst (λ k. Ahead step rows whole k below) (past-row r q (sym (read-none step rows zero r) ∙ h)) a
+  ahead-past zero r q (item ∷ items) below a h = past-wrong q r (sym h ∙ read-end step rows item items r)
+  ahead-past (suc n) r q [] below a h = subst (λ k. Ahead step rows whole k below) (past-row r q (sym (read-none step rows (suc n) r) ∙ h)) a
+  ahead-past (suc n) r q (item ∷ items) below a h =
       by-option (step item (left rows r) (right rows r)) (λ e. past-wrong q r (sym h ∙ read-stop step rows n r item items e))
-      (λ more e. ahead-past n (r + 1) q (more ++ items) (after-row r item items more a e) (sym (read-go step rows n r item items more e) ∙ h))
+      (λ more e. ahead-past n (r + 1) q (more ++ items) below (rw append-assoc (after-row r item (items ++ below) more a e))
+      (sym (read-go step rows n r item items more e) ∙ h))
+
+  -- ... and where all end, nothing
+  ahead-end : (n q : ℕ) → read step rows n whole 0 ≡ past q → Ahead step rows whole q []
+  ahead-end n q h = ahead-past n 0 q whole [] (rw append-nil at-first) h
 
   ahead-wrong : (n r q : ℕ) (items : List Item) → r + n ≡ rows .size → Ahead step rows whole r items → read step rows n items r ≡ wrong q → Wrong step rows whole q
   ahead-wrong zero r q [] s a h = past-wrong r q (sym (read-none step rows zero r) ∙ h)
@@ -75,7 +80,7 @@ module _ {Item : Type 0} (step : Grammar Item) (rows : Columns) (whole : List It
       ⊎-elim (λ e. ahead-wrong (rows .size) 0 r whole (omega arith) at-first e)
       (λ x. let (e, ne) = x in
       let (a, b) = read-range step rows (rows .size) 0 r whole e in
-      behind r (ahead-past (rows .size) 0 r whole at-first e) (omega arith))
+      behind r (ahead-end (rows .size) r e) (omega arith))
       (complete-some (rows .size) r (read step rows (rows .size) whole 0) h)
 
   -- what is ahead is what is left to read
@@ -102,9 +107,26 @@ module _ {Item : Type 0} (step : Grammar Item) (rows : Columns) (whole : List It
   -- no row is wrong exactly where all are taken, and nothing is ahead then
   pub first-wrong-iff : (first-wrong step rows whole ≡ none) ↔ Ahead step rows whole (rows .size) []
   first-wrong-iff = (
-    λ h. ahead-past (rows .size) 0 (rows .size) whole at-first (first-wrong-none step rows whole h),
+    λ h. ahead-end (rows .size) (rows .size) (first-wrong-none step rows whole h),
     λ a. none-first-wrong step rows whole (ahead-read (rows .size) [] a (omega arith) ∙ read-none step rows (rows .size - rows .size) (rows .size)),
   )
+
+  -- where no row is wrong, what is ahead takes the next row
+  pub record Next (item : Item) (items : List Item) (r : ℕ) : Type 0 where
+    pub within : r < rows .size
+    pub more : List Item
+    pub said : step item (left rows r) (right rows r) ≡ some more
+    pub ahead : Ahead step rows whole (r + 1) (more ++ items)
+
+  pub ahead-next : first-wrong step rows whole ≡ none → (r : ℕ) (item : Item) (items : List Item) → r ≤ rows .size → Ahead step rows whole r (item ∷ items) → Next item items r
+  ahead-next fit r item items b a = elim (ℕ-discrete r (rows .size)) [
+    | yes z ↦ refuted (rows .size) (early item items (subst (λ k. Ahead step rows whole k (item ∷ items)) z a))
+    | no z ↦ by-option (step item (left rows r) (right rows r)) (λ e. refuted r (unfit r item items a (omega arith) e))
+        (λ more e. record { within = omega arith; more = more; said = e; ahead = after-row r item items more a e })
+  ]
+    where
+      refuted : (q : ℕ) → Wrong step rows whole q → Next item items r
+      refuted q w = absurd (Option·none-ne-some q (sym fit ∙ wrong-told q w))
 
   -- each row before is taken
   pub ahead-taken : (r : ℕ) (items : List Item) (k : ℕ) → Ahead step rows whole r items → k < r → Taken step rows k
