@@ -358,7 +358,7 @@ module _ (bytes : List ℕ) (short : Bytes bytes) (lent : ℕ) where
   said-refuses : (v : Verdict) → Refused bytes lent v → check bytes lent ≡ some v
   unfolding message
   said-refuses v (sizes-short k part b n) = part-told k part b (inl (n, refl))
-  said-refuses v (arrays-short k part b w n) = 
+  said-refuses v (arrays-short k part b w n) =
       test (leb (part .first + length (part .sizes)) (length (m .words)))
       (λ e. part-told k part b (inr (leb-iff _ _ .0 e, inr (w, (n, refl)))))
       (λ e. part-told k part b (inl (fails-iff _ (leb-iff _ _) .0 e, refl)))

@@ -16,11 +16,11 @@ use Rattle.model.specs.Bads.{Counted, state-of, letter-of, bad, bad-step
 -- "(40, class), (41, head) or (42, letter), (43, minimum from 1)": the item whose first row is r, what it counts, and its minimum
 pub data Item (rows : Columns) (r : ℕ) : Counted → ℕ → Type 0 where
   of-states :
-    left rows r ≡ 40 → left rows (r + 1) ≡ 41 → left rows (r + 2) ≡ 43 →
-    Item rows r (state-of (right rows r) (right rows (r + 1))) (right rows (r + 2))
+      left rows r ≡ 40 → left rows (r + 1) ≡ 41 → left rows (r + 2) ≡ 43 →
+      Item rows r (state-of (right rows r) (right rows (r + 1))) (right rows (r + 2))
   of-letters :
-    left rows r ≡ 40 → left rows (r + 1) ≡ 42 → left rows (r + 2) ≡ 43 →
-    Item rows r (letter-of (right rows r) (right rows (r + 1))) (right rows (r + 2))
+      left rows r ≡ 40 → left rows (r + 1) ≡ 42 → left rows (r + 2) ≡ 43 →
+      Item rows r (letter-of (right rows r) (right rows (r + 1))) (right rows (r + 2))
 
 -- "then (44, 0)" closes a bad: a row is of bad number j where so many bads are closed before it
 unfoldable pub closed-before : Columns → ℕ → ℕ
