@@ -1,7 +1,7 @@
 use mathlib.Core.Path.{ap, _∙_}
 use Rattle.model.specs.Verdict.{number, place}
 use Rattle.model.specs.Demands.{Bytes}
-use Rattle.verifier.proofs.Promised.{both, nothing-changed, sound-exactly, system-put, runs-followed}
+use Rattle.verifier.proofs.Promised.{both, promised}
 use borrow.Author.Needs.{needs}
 use Rattle.verifier.proofs.verify.Statement.{statement}
 use Rattle.verifier.proofs.verify.Tie as tie
@@ -28,10 +28,10 @@ returns c =
     let l = o .args .lent .now in
     let bytes : Bytes b = λ i. c .before .before .before .before .before .before .before .before .before .shared-slice-known .given i .fits in
     let v = c .before .before .before .before .before .before .verdict-of .ensures in
-    let part = c .part-of .ensures in (
-      both _ _ _ _ (c .before .before .before .number-of .ensures ∙ ap number (v .0)) (c .before .before .place-of .ensures ∙ ap place (v .0)),
-      (part, (v .1, (nothing-changed b l _ _ (v .1) part, (sound-exactly b l bytes, (system-put b l _ (v .1), runs-followed b l _ bytes (v .1)))))),
-    )
+    let part = c .part-of .ensures in
+    let n = c .before .before .before .number-of .ensures ∙ ap number (v .0) in
+    let p = c .before .before .place-of .ensures ∙ ap place (v .0) in
+    (both _ _ _ _ n p, (part, (v .1, promised b l _ _ _ _ n p bytes (v .1) part)))
 
 pub verify-spec : {M : Type 1} → statement M
 verify-spec =
