@@ -52,7 +52,7 @@ refusal-changes-nothing =
 
 -- refusals 11 to 13 are exact
 bounds-exactly : Bounds-exactly
-bounds-exactly bytes short formed = tests-exact bytes short (message-keys bytes (formed .program .rows-fit) (formed .form .mail))
+bounds-exactly bytes short formed = tests-exact bytes short (message-keys bytes (formed .program .rows-fit) (formed .form .mail)) (formed .form .bads)
 
 -- Demand 2
 pub safe-exactly : Safe-exactly

@@ -1,25 +1,26 @@
--- What the table of refusals says of a verdict holds of it (`Refused` of specs/Refusals.antt): each check refuses as its line says, and where it
--- refuses nothing, what holds is more.
-use Prim.Native.Nat.{ℕ, _+_, _<_}
+-- The table of refusals is exact (`Refused` of specs/Refusals.antt): each check refuses what its line says and nothing else; where it refuses nothing,
+-- what holds is more, and where a line holds, no check before it refuses.
+use Prim.Native.Nat.{ℕ, _+_, _-_, _≤_, _<_}
 use native.Mathlib.Omega.{arith}
-use mathlib.Core.Path.{_≡_, sym, ap, subst}
+use mathlib.Core.Path.{_≡_, refl, sym, ap, subst, _∙_}
 use mathlib.Core.Bool.{Bool, true}
-use mathlib.Core.Logic.{_↔_, ⊎-elim}
-use mathlib.Core.List.{List}
-use mathlib.Core.Option.{some, none, Option·map, map-eq-some-iff}
-use lib.ListN.{length, replicate}
+use mathlib.Core.Logic.{_↔_, Iff·trans, Iff·and, Iff·rfl, _⊎_, inl, inr, ⊎-elim}
+use mathlib.Core.List.{List, [], _∷_}
+use mathlib.Core.Option.{some, none, Option·map, map-eq-some-iff, Option·some-injective, Option·none-ne-some}
+use lib.ListN.{length, drop, replicate}
+use lib.Dec.{leb}
 use Rattle.model.specs.declared.Sizes.{Sizes}
 use Rattle.model.specs.declared.Verdict.{Verdict}
-use Rattle.model.specs.declared.Verdict.the-variants.{Safe, Row, Name, Scope, Bad, Entry, Open, Ceiling}
+use Rattle.model.specs.declared.Verdict.the-variants.{Safe, Row, Name, Scope, Bad, Entry, Open, Counters, Ceiling, Start, Met, Space}
 use Rattle.model.specs.Limits.{maxCounters}
-use Rattle.model.specs.Words.{Columns}
+use Rattle.model.specs.Words.{Columns, left, right}
 use Rattle.model.specs.Verdict.{Check, _>>_}
-use Rattle.model.specs.Message.{bads-at, tables-at, bounds-at, part-check, parts-check}
+use Rattle.model.specs.Message.{bads-at, tables-at, bounds-at, parts-check}
 use Rattle.model.specs.Reader.{Grammar, first-wrong}
 use Rattle.model.specs.Rows.{Program, size, tag, is-head, is-name, step, whole, row-check}
 use Rattle.model.specs.Scopes.{bound-again, name-check, out-of-scope, scope-check}
 use Rattle.model.specs.Heads.{is-class}
-use Rattle.model.specs.Bads.{bad, bad-step, bad-check}
+use Rattle.model.specs.Bads.{bad, bad-step, bad-row, bad-check}
 use Rattle.model.specs.Tables.{Tables, is-value, first-misplaced, list-check, entry-check}
 use Rattle.model.specs.Closed.{opening-closed, open-check}
 use Rattle.model.specs.Counters.{counter-count, counter-check}
@@ -28,38 +29,60 @@ use Rattle.model.specs.Listing.{system-words, space-check}
 use Rattle.model.specs.Markings.{initial}
 use Rattle.model.specs.Bounds.{Bounds, bound-entries, bound-step, bounds-of, bounds, bound-check, start-check, met-check, leak-check}
 use Rattle.model.specs.Verify.{Message, message, program-check, evidence-check, bounds-check, message-check, check, answer, verdict}
-use Rattle.model.specs.Wanted.{Wanted-first}
-use Rattle.model.specs.Demands.{Bytes}
-use Rattle.model.specs.Refusals.{First-such, Behind, Message-part, parts, Whole, Wrong, Bound, Reads-outside, Placed, Passed, Refused, Refused-as-said}
+use Rattle.model.specs.Wanted.{Present, Wanted-first}
+use Rattle.model.specs.Wanted.{Entry as Table-entry}
+use Rattle.model.specs.Demands.{Bytes, Listed, Under-one}
+use Rattle.model.specs.Refusals.{First-such, Behind, Behind, Message-part, parts, Whole, Wrong, Bound-again, Bound, Reads-outside, Placed, Lacks, Allowed, Passed, Refused, Refused-exactly, Said, Verdict-exactly, of-sound, of-refused}
 use Rattle.model.specs.Refusals.{parts-passed, rows-passed, names-passed, scopes-passed, bads-passed, entries-passed, closed-passed, counters-passed, bounds-passed, start-passed, bad-passed, kept-passed}
 use Rattle.model.specs.Refusals.{sizes-short, arrays-short, bytes-remain, size-outside, row-wrong, name-again, name-unbound, scope-left, bad-wrong, flow-misplaced, mail-misplaced, state-misplaced, opening-missing, state-open, counters-over, ceiling-wrong, start-outside, bad-met, ceiling-left, no-space}
+use Rattle.model.proofs.Logic.{test}
+use Rattle.model.proofs.Reader.{by-option}
 use Rattle.model.proofs.Exact.Tests.{leb-iff, fails-iff, passes-iff, all-refuted}
-use Rattle.model.proofs.Exact.Checks.{then-none, then-some, unless-none, unless-some, unless-iff, unless-refutes, first-none, first-some}
-use Rattle.model.proofs.Exact.Parts.{sizes-none, sizes-some, check-of, parts-none, parts-some}
+use Rattle.model.proofs.Exact.Checks.{then-none, then-some, then-some-iff, unless-some, unless-iff, unless-refutes, first-none, first-some}
+use Rattle.model.proofs.Exact.Answer.{Refuses, check-refuses, verdict-safe}
+use Rattle.model.proofs.Exact.Parts.{Part-wrong, parts-none, parts-some}
 use Rattle.model.proofs.Exact.Reading.{first-wrong-some}
 use Rattle.model.proofs.Exact.Rows.{row-none, reads-name}
-use Rattle.model.proofs.Exact.Names.{Bound-once, again-iff, again-none, once-iff, binder-iff, name-none, outside-iff}
+use Rattle.model.proofs.Exact.Names.{None-again, again-iff, again-none, once-iff, binder-iff, name-none, outside-iff}
 use Rattle.model.proofs.Exact.Entries.{placed-iff, list-none, entry-none, bad-none, bound-none}
 use Rattle.model.proofs.Exact.Closed.{finds-first, lacks-iff, function-below, open-none}
-use Rattle.model.proofs.Exact.Finds.{Finds}
+use Rattle.model.proofs.Exact.Finds.{Finds, found-iff, missing-iff}
 use Rattle.model.proofs.Bounded.Under.{under-some-exact}
-use Rattle.model.proofs.Parse.Reached.{Rows-fit}
 use Rattle.model.proofs.Numbering.Letters.{Keys}
 use Rattle.model.proofs.Bounded.Leak.{start-check-exact}
-use Rattle.model.proofs.Bounded.Exact.{message-keys, met-exact, met-refuses, leak-exact, leak-refuses}
+use Rattle.model.proofs.Bounded.Exact.{message-keys, met-exact, met-refuses, leak-none, leak-refuses}
+use Rattle.model.proofs.Demands.{safe-exactly}
 
--- a reading that refuses its first wrong row
-wrong-some : {Item : Type 0} (step : Grammar Item) (rows : Columns) (items : List Item) (f : ℕ → Verdict) (v : Verdict) → Option·map f (first-wrong step rows items) ≡ some v → (r : ℕ) × Wrong step rows items r × (f r ≡ v)
-wrong-some step rows items f v h =
-    let (r, e, q) = map-eq-some-iff f (first-wrong step rows items) .0 h in
-    (r, first-wrong-some step rows items r e, q)
+-- a reading refuses its first wrong row
+wrong-some : {Item : Type 0} (step : Grammar Item) (rows : Columns) (items : List Item) (f : ℕ → Verdict) (v : Verdict) → (Option·map f (first-wrong step rows items) ≡ some v) ↔ ((r : ℕ) × Wrong step rows items r × (f r ≡ v))
+wrong-some step rows items f v =
+    Iff·trans (map-eq-some-iff f (first-wrong step rows items)) (
+      λ h. let (r, e, q) = h in (r, first-wrong-some step rows items r .0 e, q),
+      λ h. let (r, w, q) = h in (r, first-wrong-some step rows items r .1 w, q),
+    )
 
--- a list that refuses its first misplaced entry
-list-some : (l r : ℕ → Bool) (c : Columns) (at : ℕ) (v : Verdict) → list-check at l r c ≡ some v → (i : ℕ) × First-such (c .size) (λ j. Placed l r c j → ⊥) i × (Entry (at + i) ≡ v)
+-- a list refuses its first misplaced entry
+abbrev Misplaced : (ℕ → Bool) → (ℕ → Bool) → Columns → ℕ → Verdict → Type 0
+Misplaced l r c at v = (i : ℕ) × First-such (c .size) (λ j. Placed l r c j → ⊥) i × (Entry (at + i) ≡ v)
+
+list-some : (l r : ℕ → Bool) (c : Columns) (at : ℕ) (v : Verdict) → (list-check at l r c ≡ some v) ↔ Misplaced l r c at v
 unfolding list-check first-misplaced
-list-some l r c at v h = first-some (c .size) _ (λ i b. passes-iff _ (placed-iff c l r i)) (λ i. Entry (at + i)) v h
+list-some l r c at v = first-some (c .size) _ (λ i b. passes-iff _ (placed-iff c l r i)) (λ i. Entry (at + i)) v
 
-module _ (bytes : List ℕ) (short : Bytes bytes) (lent : ℕ) (v : Verdict) where
+-- one check after the other
+then-assoc : (a b c : Check) → ((a >> b) >> c) ≡ (a >> (b >> c))
+unfolding _>>_
+then-assoc (some v) b c = refl
+then-assoc none b c = refl
+
+skip : {a : Check} (b : Check) → a ≡ none → (a >> b) ≡ b
+unfolding _>>_
+skip b e = rw e
+
+stop : {a : Check} {v : Verdict} (b : Check) → a ≡ some v → (a >> b) ≡ some v
+stop {a} {v} b e = then-some a b v .1 (inl e)
+
+module _ (bytes : List ℕ) (short : Bytes bytes) (lent : ℕ) where
   abbrev m : Message
   m = message bytes
 
@@ -75,196 +98,310 @@ module _ (bytes : List ℕ) (short : Bytes bytes) (lent : ℕ) (v : Verdict) whe
   abbrev bs : Bounds
   bs = m .bounds
 
-  abbrev Told : Type 0
-  Told = Refused bytes lent v
+  -- Each check refuses what its line says, exactly.
 
-  -- the verdict that a way to be refused gives
-  told : (w : Verdict) → Refused bytes lent w → w ≡ v → Told
-  told w r q = subst (Refused bytes lent) q r
+  row-some : (v : Verdict) → (row-check p ≡ some v) ↔ ((r : ℕ) × Wrong (step p) (p .rows) (whole p) r × (Row (4 + r) ≡ v))
+  unfolding row-check
+  row-some v = wrong-some (step p) (p .rows) (whole p) (λ r. Row (4 + r)) v
+
+  abbrev Unbound : Type 0
+  Unbound = (n : ℕ) × (n < p .names) × (Bound p n → ⊥)
+
+  name-some : (v : Verdict) → (name-check p ≡ some v) ↔ (((r : ℕ) × First-such (size p) (Bound-again p) r × (Name (4 + r) ≡ v)) ⊎ (None-again p × (Unbound × (Name 1 ≡ v))))
+  unfolding name-check
+  name-some v =
+      then-some-iff _ _ v (again-none p _) (first-some (size p) (bound-again p) (λ r b. again-iff p r) (λ r. Name (4 + r)) v)
+      (Iff·trans (unless-some _ (Name 1) v) (Iff·and (all-refuted (p .names) _ (binder-iff p)) Iff·rfl))
+
+  outside : Passed bytes 5 → (r : ℕ) → r < size p → (out-of-scope p r ≡ true) ↔ Reads-outside p r
+  outside (names-passed (rows-passed x fit) again bound) r b = outside-iff p (reads-name p fit) (once-iff p .0 again) bound r b
+
+  scope-some : Passed bytes 5 → (v : Verdict) → (scope-check p ≡ some v) ↔ ((r : ℕ) × First-such (size p) (Reads-outside p) r × (Scope (4 + r) ≡ v))
+  unfolding scope-check
+  scope-some x v = first-some (size p) (out-of-scope p) (outside x) (λ r. Scope (4 + r)) v
+
+  scope-none : Passed bytes 5 → (scope-check p ≡ none) ↔ ((r : ℕ) → r < size p → Reads-outside p r → ⊥)
+  unfolding scope-check
+  scope-none x = first-none (size p) (out-of-scope p) _ (λ r b. fails-iff _ (outside x r b))
+
+  bad-some : (v : Verdict) → (bad-check (m .words) s p ≡ some v) ↔ ((r : ℕ) × Wrong (bad-step p) (m .bads) (replicate (s .bads) bad) r × (Bad (bads-at s + 2 + r) ≡ v))
+  unfolding bad-check message
+  bad-some v = wrong-some (bad-step p) (m .bads) (replicate (s .bads) bad) (λ r. Bad (bads-at s + 2 + r)) v
+
+  abbrev Flow-listed : Type 0
+  Flow-listed = Listed (is-name p) (is-value p) (t .flow)
+
+  abbrev Mail-listed : Type 0
+  Mail-listed = Listed (is-class p) (is-value p) (t .mail)
+
+  entry-some : (v : Verdict) → (entry-check s p t ≡ some v) ↔ (Misplaced (is-name p) (is-value p) (t .flow) (tables-at s + 3) v ⊎ (Flow-listed × (Misplaced (is-class p) (is-value p) (t .mail) (tables-at s + 3 + s .flows) v ⊎ (Mail-listed × Misplaced (is-class p) (λ r. is-head (tag p r)) (t .states) (tables-at s + 3 + s .flows + s .mails) v))))
+  unfolding entry-check
+  entry-some v =
+      then-some-iff _ _ v (list-none (t .flow) (is-name p) (is-value p) _) (list-some (is-name p) (is-value p) (t .flow) _ v)
+      (then-some-iff _ _ v (list-none (t .mail) (is-class p) (is-value p) _) (list-some (is-class p) (is-value p) (t .mail) _ v)
+      (list-some (is-class p) (λ r. is-head (tag p r)) (t .states) _ v))
+
+  opening : Finds t (opening-closed p t) (Wanted-first p)
+  unfolding message
+  opening = finds-first p t (function-below (m .words) s)
+
+  open-some : (v : Verdict) → (open-check s p t ≡ some v) ↔ ((((e : Table-entry) × Wanted-first p e × (Present t e → ⊥)) × (Open (tables-at s) ≡ v)) ⊎ (((e : Table-entry) → Wanted-first p e → Present t e) × ((i : ℕ) × First-such (t .states .size) (λ j. Lacks p t (left (t .states) j) (right (t .states) j)) i × (Open (tables-at s + 3 + s .flows + s .mails + i) ≡ v))))
+  unfolding open-check
+  open-some v =
+      then-some-iff _ _ v (unless-iff _ _ (found-iff t opening)) (Iff·trans (unless-some _ _ v) (Iff·and (missing-iff t opening) Iff·rfl))
+      (first-some (t .states .size) _ (λ i b. lacks-iff p t i) (λ i. Open (tables-at s + 3 + s .flows + s .mails + i)) v)
+
+  counter-some : (v : Verdict) → (counter-check s p t ≡ some v) ↔ ((counter-count p t ≤ maxCounters → ⊥) × (Counters (tables-at s + 2) ≡ v))
+  unfolding counter-check
+  counter-some v = unless-refutes _ _ v (leb-iff (counter-count p t) maxCounters)
+
+  counter-none : (counter-check s p t ≡ none) ↔ (counter-count p t ≤ maxCounters)
+  unfolding counter-check
+  counter-none = unless-iff _ _ (leb-iff (counter-count p t) maxCounters)
+
+  bound-some : (v : Verdict) → (bound-check (m .words) s (counter-count p t) ≡ some v) ↔ ((e : ℕ) × Wrong (bound-step (bs .counters)) (bound-entries (m .words) s) (bounds-of (s .bounds)) e × (Ceiling (bounds-at s + 2 + e) ≡ v))
+  unfolding bound-check message bounds
+  bound-some v = wrong-some (bound-step (bs .counters)) (bound-entries (m .words) s) (bounds-of (s .bounds)) (λ e. Ceiling (bounds-at s + 2 + e)) v
+
+  start-some : (v : Verdict) → (start-check s p t bs ≡ some v) ↔ ((Under-one bs (initial p t) → ⊥) × (Start (bounds-at s) ≡ v))
+  unfolding start-check
+  start-some v = unless-refutes _ _ v (under-some-exact bs (initial p t))
+
+  keys : Passed bytes 12 → Keys p t
+  keys (start-passed (bounds-passed (counters-passed (closed-passed (entries-passed (bads-passed (scopes-passed (names-passed (rows-passed x fit) again bound) within) bads) flow mail states) closed) few) form) under) = message-keys bytes fit mail
+
+  bads-known : Passed bytes 12 → first-wrong (bad-step p) (m .bads) (replicate (s .bads) bad) ≡ none
+  bads-known (start-passed (bounds-passed (counters-passed (closed-passed (entries-passed (bads-passed x bads) flow mail states) closed) few) form) under) = bads
+
+  met-none : Passed bytes 12 → (met-check s p t bs (m .bads) ≡ none) ↔ ((j : ℕ) → j < s .bads → Allowed m j → ⊥)
+  met-none x = met-exact bytes short (keys x) (bads-known x)
+
+  met-some : Passed bytes 12 → (v : Verdict) → (met-check s p t bs (m .bads) ≡ some v) ↔ ((j : ℕ) × First-such (s .bads) (Allowed m) j × (Met (bads-at s + 2 + bad-row p (m .bads) j) ≡ v))
+  met-some x = met-refuses bytes short (keys x) (bads-known x)
+
+  keys-met : Passed bytes 13 → Keys p t
+  keys-met (bad-passed x n) = keys x
+
+  space-some : (v : Verdict) → (space-check p t lent ≡ some v) ↔ ((length (system-words p t) ≤ lent → ⊥) × (Space (length (system-words p t)) ≡ v))
+  unfolding space-check
+  space-some v = unless-refutes _ _ v (leb-iff (length (system-words p t)) lent)
 
   -- a check, what is known before it, and after it where it refuses nothing
   record Stage (c : Check) (Before After : Type 0) : Type 0 where
-    refuses : Before → c ≡ some v → Told
+    refuses : Before → (v : Verdict) → c ≡ some v → Refused bytes lent v
     passes : Before → c ≡ none → After
 
   infixr 20 _then_
   _then_ : {a b : Check} {P Q R : Type 0} → Stage a P Q → Stage b Q R → Stage (a >> b) P R
   _then_ {a} {b} f g =
       record {
-        refuses = λ x h. ⊎-elim (f .refuses x) (λ y. g .refuses (f .passes x (y .0)) (y .1)) (then-some a b v h);
+        refuses = λ x v h. ⊎-elim (f .refuses x v) (λ y. g .refuses (f .passes x (y .0)) v (y .1)) (then-some a b v .0 h);
         passes = λ x h. let (y, z) = then-none a b .0 h in g .passes (f .passes x y) z;
       }
 
-  -- what is known besides
-  keep : {c : Check} {P Q : Type 0} (K : Type 0) → Stage c P Q → Stage c (P × K) (Q × K)
-  keep K f = record { refuses = λ x. f .refuses (x .0); passes = λ x h. (f .passes (x .0) h, x .1) }
-
-  -- 1 and 2
-  part-refused : (k : ℕ) (x : Message-part) → Behind (Whole (m .words)) (parts s) k x → check-of (m .words) x ≡ some v → Told
-  unfolding part-check
-  part-refused k x b h =
-      ⊎-elim (λ e. let (n, q) = unless-refutes _ _ v (leb-iff _ (length (m .words))) e in told _ (sizes-short k x b n) q)
-      (λ y. let fits = leb-iff _ _ .0 (unless-none _ _ .0 (y .0)) in
-      ⊎-elim (λ e. let (i, l, c, n, q) = sizes-some (x .first) (x .sizes) v e in told _ (size-outside k i x l b fits c n) q)
-      (λ z. let (n, q) = unless-refutes _ _ v (leb-iff _ (length (m .words))) (z .1) in
-      told _ (arrays-short k x b (sizes-none (x .first) (x .sizes) .0 (z .0)) n) q)
-      (then-some _ _ v (y .1)))
-      (then-some _ _ v h)
+  -- the verdict that a way to be refused gives
+  told : {v w : Verdict} → Refused bytes lent w → w ≡ v → Refused bytes lent v
+  told r q = subst (Refused bytes lent) q r
 
   parts-stage : Stage (parts-check bytes) (Unit {0}) (Passed bytes 3)
   unfolding message
   parts-stage =
       record {
-        refuses = λ x h. ⊎-elim (λ y. let (k, part, b, e) = y in part-refused k part b e) (λ y. let (w, l, q) = y in told _ (bytes-remain w l) q) (parts-some bytes v h);
+        refuses = λ x v h. ⊎-elim
+            (λ y. let (k, part, b, w) = y in
+            ⊎-elim (λ z. told (sizes-short k part b (z .0)) (z .1))
+            (λ z. ⊎-elim (λ u. let (i, l, c, n, q) = u in told (size-outside k i part l b (z .0) c n) q)
+            (λ u. told (arrays-short k part b (u .0) (u .1 .0)) (u .1 .1))
+            (z .1))
+            w)
+            (λ y. let (w, l, q) = y in told (bytes-remain w l) q)
+            (parts-some bytes v .0 h);
         passes = λ x h. let (a, b) = parts-none bytes .0 h in parts-passed a b;
       }
 
-  -- 3
-  row-stage : Stage (row-check p) (Passed bytes 3) (Passed bytes 4 × Rows-fit p)
-  unfolding row-check
+  row-stage : Stage (row-check p) (Passed bytes 3) (Passed bytes 4)
   row-stage =
       record {
-        refuses = λ x h. let (r, w, q) = wrong-some (step p) (p .rows) (whole p) (λ r. Row (4 + r)) v h in told _ (row-wrong r x w) q;
-        passes = λ x h. let fit = row-none p .0 h in (rows-passed x fit, fit);
+        refuses = λ x v h. let (r, w, q) = row-some v .0 h in told (row-wrong r x w) q;
+        passes = λ x h. rows-passed x (row-none p .0 h);
       }
 
-  -- 4
-  abbrev Named : Type 0
-  Named = Rows-fit p × (Bound-once p × ((n : ℕ) → n < p .names → Bound p n))
-
-  name-stage : Stage (name-check p) (Passed bytes 4 × Rows-fit p) (Passed bytes 5 × Named)
-  unfolding name-check
+  name-stage : Stage (name-check p) (Passed bytes 4) (Passed bytes 5)
   name-stage =
       record {
-        refuses = λ x h. ⊎-elim
-            (λ e. let (r, f, q) = first-some (size p) (bound-again p) (λ r b. again-iff p r) (λ r. Name (4 + r)) v e in told _ (name-again r (x .0) f) q)
-            (λ y. let (f, q) = unless-some _ (Name 1) v (y .1) in
-            let (n, b, u) = all-refuted (p .names) _ (binder-iff p) f in
-            told _ (name-unbound n (x .0) (again-none p _ .0 (y .0)) b u) q)
-            (then-some _ _ v h);
-        passes = λ x h. let (once, bound) = name-none p .0 h in (names-passed (x .0) (once-iff p .1 once) bound, (x .1, (once, bound)));
+        refuses = λ x v h. ⊎-elim (λ y. let (r, f, q) = y in told (name-again r x f) q)
+            (λ y. let (again, ((n, b, u), q)) = y in told (name-unbound n x again b u) q)
+            (name-some v .0 h);
+        passes = λ x h. let (once, bound) = name-none p .0 h in names-passed x (once-iff p .1 once) bound;
       }
 
-  -- 5
-  scope-stage : Stage (scope-check p) (Passed bytes 5 × Named) (Passed bytes 6 × Rows-fit p)
-  unfolding scope-check
+  scope-stage : Stage (scope-check p) (Passed bytes 5) (Passed bytes 6)
   scope-stage =
       record {
-        refuses = λ x h. let (r, f, q) = first-some (size p) (out-of-scope p) (outside x) (λ r. Scope (4 + r)) v h in told _ (scope-left r (x .0) f) q;
-        passes = λ x h. (scopes-passed (x .0) (first-none (size p) (out-of-scope p) _ (λ r b. fails-iff _ (outside x r b)) .0 h), x .1 .0);
+        refuses = λ x v h. let (r, f, q) = scope-some x v .0 h in told (scope-left r x f) q;
+        passes = λ x h. scopes-passed x (scope-none x .0 h);
       }
-    where
-      outside : Passed bytes 5 × Named → (r : ℕ) → r < size p → (out-of-scope p r ≡ true) ↔ Reads-outside p r
-      outside x r b = outside-iff p (reads-name p (x .1 .0)) (x .1 .1 .0) (x .1 .1 .1) r b
 
-  -- 6
   bad-stage : Stage (bad-check (m .words) s p) (Passed bytes 6) (Passed bytes 7)
-  unfolding bad-check message
+  unfolding message
   bad-stage =
       record {
-        refuses = λ x h. let (r, w, q) = wrong-some (bad-step p) (m .bads) (replicate (s .bads) bad) (λ r. Bad (bads-at s + 2 + r)) v h in told _ (bad-wrong r x w) q;
+        refuses = λ x v h. let (r, w, q) = bad-some v .0 h in told (bad-wrong r x w) q;
         passes = λ x h. bads-passed x (bad-none (m .words) s p .0 h);
       }
 
-  -- 7
-  entry-stage : Stage (entry-check s p t) (Passed bytes 7 × Rows-fit p) (Passed bytes 8 × Keys p t)
-  unfolding entry-check
+  entry-stage : Stage (entry-check s p t) (Passed bytes 7) (Passed bytes 8)
   entry-stage =
       record {
-        refuses = λ x h. ⊎-elim (λ e. let (i, f, q) = list-some (is-name p) (is-value p) (t .flow) _ v e in told _ (flow-misplaced i (x .0) f) q)
-            (λ y. let flow = list-none (t .flow) (is-name p) (is-value p) _ .0 (y .0) in
-            ⊎-elim (λ e. let (i, f, q) = list-some (is-class p) (is-value p) (t .mail) _ v e in told _ (mail-misplaced i (x .0) flow f) q)
-            (λ z. let (i, f, q) = list-some (is-class p) (λ r. is-head (tag p r)) (t .states) _ v (z .1) in
-            told _ (state-misplaced i (x .0) flow (list-none (t .mail) (is-class p) (is-value p) _ .0 (z .0)) f) q)
-            (then-some _ _ v (y .1)))
-            (then-some _ _ v h);
-        passes = λ x h. let (flow, (mail, states)) = entry-none s p t .0 h in
-            (entries-passed (x .0) flow mail states, message-keys bytes (x .1) mail);
+        refuses = λ x v h. ⊎-elim (λ y. let (i, f, q) = y in told (flow-misplaced i x f) q)
+            (λ y. ⊎-elim (λ z. let (i, f, q) = z in told (mail-misplaced i x (y .0) f) q)
+            (λ z. let (i, f, q) = z .1 in told (state-misplaced i x (y .0) (z .0) f) q)
+            (y .1))
+            (entry-some v .0 h);
+        passes = λ x h. let (flow, (mail, states)) = entry-none s p t .0 h in entries-passed x flow mail states;
       }
 
-  -- 8
   open-stage : Stage (open-check s p t) (Passed bytes 8) (Passed bytes 9)
-  unfolding open-check message
+  unfolding message
   open-stage =
       record {
-        refuses = λ x h. ⊎-elim
-            (λ e. let (f, q) = unless-some (opening-closed p t) (Open (tables-at s)) v e in
-            let (k, w, n) = opening .missing f in told _ (opening-missing k x w n) q)
-            (λ y. let (i, f, q) = first-some (t .states .size) _ (λ i b. lacks-iff p t i) (λ i. Open (tables-at s + 3 + s .flows + s .mails + i)) v (y .1) in
-            told _ (state-open i x (opening .there (unless-none (opening-closed p t) (Open (tables-at s)) .0 (y .0))) f) q)
-            (then-some _ _ v h);
+        refuses = λ x v h. ⊎-elim (λ y. let ((e, w, n), q) = y in told (opening-missing e x w n) q)
+            (λ y. let (o, (i, f, q)) = y in told (state-open i x o f) q)
+            (open-some v .0 h);
         passes = λ x h. closed-passed x (open-none (m .words) s t .0 h);
       }
-    where
-      opening : Finds t (opening-closed p t) (Wanted-first p)
-      opening = finds-first p t (function-below (m .words) s)
 
-  -- 9
   counter-stage : Stage (counter-check s p t) (Passed bytes 9) (Passed bytes 10)
-  unfolding counter-check
   counter-stage =
       record {
-        refuses = λ x h. let (n, q) = unless-refutes _ _ v (leb-iff (counter-count p t) maxCounters) h in told _ (counters-over x (omega arith)) q;
-        passes = λ x h. counters-passed x (unless-iff _ _ (leb-iff (counter-count p t) maxCounters) .0 h);
+        refuses = λ x v h. let (n, q) = counter-some v .0 h in told (counters-over x (omega arith)) q;
+        passes = λ x h. counters-passed x (counter-none .0 h);
       }
 
-  -- 10
   bound-stage : Stage (bound-check (m .words) s (counter-count p t)) (Passed bytes 10) (Passed bytes 11)
-  unfolding bound-check message bounds
+  unfolding message bounds
   bound-stage =
       record {
-        refuses = λ x h. let (e, w, q) = wrong-some (bound-step (bs .counters)) (bound-entries (m .words) s) (bounds-of (s .bounds)) (λ e. Ceiling (bounds-at s + 2 + e)) v h in told _ (ceiling-wrong e x w) q;
+        refuses = λ x v h. let (e, w, q) = bound-some v .0 h in told (ceiling-wrong e x w) q;
         passes = λ x h. bounds-passed x (bound-none (m .words) s (bs .counters) .0 h);
       }
 
-  -- 11
   start-stage : Stage (start-check s p t bs) (Passed bytes 11) (Passed bytes 12)
-  unfolding start-check
   start-stage =
       record {
-        refuses = λ x h. let (n, q) = unless-refutes _ _ v (under-some-exact bs (initial p t)) h in told _ (start-outside x n) q;
+        refuses = λ x v h. let (n, q) = start-some v .0 h in told (start-outside x n) q;
         passes = λ x h. start-passed x (start-check-exact s p t bs .0 h);
       }
 
-  -- 12
-  met-stage : Stage (met-check s p t bs (m .bads)) (Passed bytes 12 × Keys p t) (Passed bytes 13 × Keys p t)
+  met-stage : Stage (met-check s p t bs (m .bads)) (Passed bytes 12) (Passed bytes 13)
   met-stage =
       record {
-        refuses = λ x h. let (j, f, q) = met-refuses bytes short (x .1) v h in told _ (bad-met j (x .0) f) q;
-        passes = λ x h. (bad-passed (x .0) (met-exact bytes short (x .1) .0 h), x .1);
+        refuses = λ x v h. let (j, f, q) = met-some x v .0 h in told (bad-met j x f) q;
+        passes = λ x h. bad-passed x (met-none x .0 h);
       }
 
-  -- 13
-  leak-stage : Stage (leak-check (m .words) s bs (rules p t)) (Passed bytes 13 × Keys p t) (Passed bytes 14)
+  leak-stage : Stage (leak-check (m .words) s bs (rules p t)) (Passed bytes 13) (Passed bytes 14)
   leak-stage =
       record {
-        refuses = λ x h. let (k, f, q) = leak-refuses bytes short (x .1) v h in told _ (ceiling-left k (x .0) f) q;
-        passes = λ x h. kept-passed (x .0) (λ k b l. l .out (leak-exact bytes short (x .1) .0 h (l .counts) (l .rule) (k, b, l .under) (l .listed) (l .used)));
+        refuses = λ x v h. let (k, f, q) = leak-refuses bytes short (keys-met x) v .0 h in told (ceiling-left k x f) q;
+        passes = λ x h. kept-passed x (leak-none bytes short (keys-met x) .0 h);
       }
 
-  -- 14
   space-stage : Stage (space-check p t lent) (Passed bytes 14) (Unit {0})
-  unfolding space-check
   space-stage =
       record {
-        refuses = λ x h. let (n, q) = unless-refutes _ _ v (leb-iff (length (system-words p t)) lent) h in told _ (no-space x (omega arith)) q;
+        refuses = λ x v h. let (n, q) = space-some v .0 h in told (no-space x (omega arith)) q;
         passes = λ x h. tt;
       }
 
   -- "Checked in that order"
-  all-stages : Stage (check bytes lent) (Unit {0}) (Unit {0})
+  abbrev checks : List Check
+  checks =
+      row-check p ∷ name-check p ∷ scope-check p ∷ bad-check (m .words) s p ∷ entry-check s p t ∷ open-check s p t ∷ counter-check s p t ∷
+      bound-check (m .words) s (counter-count p t) ∷ start-check s p t bs ∷ met-check s p t bs (m .bads) ∷ leak-check (m .words) s bs (rules p t) ∷ []
+
+  abbrev from : List Check → Check
+  from [] = space-check p t lent
+  from (c ∷ cs) = c >> from cs
+
+  in-order : check bytes lent ≡ (parts-check bytes >> from checks)
   unfolding check message-check program-check evidence-check bounds-check
-  all-stages =
-      parts-stage then
-      ((row-stage then (name-stage then scope-stage)) then
-      ((keep (Rows-fit p) bad-stage then (entry-stage then (keep (Keys p t) open-stage then keep (Keys p t) counter-stage))) then
-      ((keep (Keys p t) bound-stage then (keep (Keys p t) start-stage then (met-stage then leak-stage))) then space-stage)))
+  in-order = simp (program-check, evidence-check, bounds-check, then-assoc)
 
-answer-some : (c : Check) (v : Verdict) → answer c ≡ v → (v ≡ Safe → ⊥) → c ≡ some v
+  refuses-as-said : (v : Verdict) → check bytes lent ≡ some v → Refused bytes lent v
+  refuses-as-said v h =
+      (parts-stage then row-stage then name-stage then scope-stage then bad-stage then entry-stage then open-stage then counter-stage then
+      bound-stage then start-stage then met-stage then leak-stage then space-stage)
+      .refuses tt v (sym in-order ∙ h)
+
+  -- Where checks have passed, the answer is that of the others.
+  others : {k : ℕ} → Passed bytes k → check bytes lent ≡ from (drop (k - 3) checks)
+  unfolding message bounds
+  others (parts-passed a b) = in-order ∙ skip _ (parts-none bytes .1 (a, b))
+  others (rows-passed x fit) = others x ∙ skip _ (row-none p .1 fit)
+  others (names-passed x again bound) = others x ∙ skip _ (name-none p .1 (once-iff p .0 again, bound))
+  others (scopes-passed x within) = others x ∙ skip _ (scope-none x .1 within)
+  others (bads-passed x fit) = others x ∙ skip _ (bad-none (m .words) s p .1 fit)
+  others (entries-passed x flow mail states) = others x ∙ skip _ (entry-none s p t .1 (flow, (mail, states)))
+  others (closed-passed x closed) = others x ∙ skip _ (open-none (m .words) s t .1 closed)
+  others (counters-passed x few) = others x ∙ skip _ (counter-none .1 few)
+  others (bounds-passed x fit) = others x ∙ skip _ (bound-none (m .words) s (bs .counters) .1 fit)
+  others (start-passed x under) = others x ∙ skip _ (start-check-exact s p t bs .1 under)
+  others (bad-passed x none-met) = others x ∙ skip _ (met-none x .1 none-met)
+  others (kept-passed x none-left) = others x ∙ skip _ (leak-none bytes short (keys-met x) .1 none-left)
+
+  -- A line that holds is the answer.
+  part-told : {v : Verdict} (k : ℕ) (part : Message-part) → Behind (Whole (m .words)) (parts s) k part → Part-wrong (m .words) part v → check bytes lent ≡ some v
+  unfolding message
+  part-told {v} k part b w = in-order ∙ stop _ (parts-some bytes v .1 (inl (k, part, b, w)))
+
+  said-refuses : (v : Verdict) → Refused bytes lent v → check bytes lent ≡ some v
+  unfolding message
+  said-refuses v (sizes-short k part b n) = part-told k part b (inl (n, refl))
+  said-refuses v (arrays-short k part b w n) =
+      test (leb (part .first + length (part .sizes)) (length (m .words)))
+      (λ e. part-told k part b (inr (leb-iff _ _ .0 e, inr (w, (n, refl)))))
+      (λ e. part-told k part b (inl (fails-iff _ (leb-iff _ _) .0 e, refl)))
+  said-refuses v (bytes-remain w l) = in-order ∙ stop _ (parts-some bytes v .1 (inr (w, l, refl)))
+  said-refuses v (size-outside k i part l b whole c n) = part-told k part b (inr (whole, inl (i, l, c, n, refl)))
+  said-refuses v (row-wrong r x w) = others x ∙ stop _ (row-some v .1 (r, w, refl))
+  said-refuses v (name-again r x f) = others x ∙ stop _ (name-some v .1 (inl (r, f, refl)))
+  said-refuses v (name-unbound n x again b u) = others x ∙ stop _ (name-some v .1 (inr (again, ((n, b, u), refl))))
+  said-refuses v (scope-left r x f) = others x ∙ stop _ (scope-some x v .1 (r, f, refl))
+  said-refuses v (bad-wrong r x w) = others x ∙ stop _ (bad-some v .1 (r, w, refl))
+  said-refuses v (flow-misplaced i x f) = others x ∙ stop _ (entry-some v .1 (inl (i, f, refl)))
+  said-refuses v (mail-misplaced i x flow f) = others x ∙ stop _ (entry-some v .1 (inr (flow, inl (i, f, refl))))
+  said-refuses v (state-misplaced i x flow mail f) = others x ∙ stop _ (entry-some v .1 (inr (flow, inr (mail, (i, f, refl)))))
+  said-refuses v (opening-missing e x w n) = others x ∙ stop _ (open-some v .1 (inl ((e, w, n), refl)))
+  said-refuses v (state-open i x o f) = others x ∙ stop _ (open-some v .1 (inr (o, (i, f, refl))))
+  said-refuses v (counters-over x l) = others x ∙ stop _ (counter-some v .1 (λ z. omega arith, refl))
+  said-refuses v (ceiling-wrong e x w) = others x ∙ stop _ (bound-some v .1 (e, w, refl))
+  said-refuses v (start-outside x n) = others x ∙ stop _ (start-some v .1 (n, refl))
+  said-refuses v (bad-met j x f) = others x ∙ stop _ (met-some x v .1 (j, f, refl))
+  said-refuses v (ceiling-left k x f) = others x ∙ stop _ (leak-refuses bytes short (keys-met x) v .1 (k, f, refl))
+  said-refuses v (no-space x l) = others x ∙ space-some v .1 (λ z. omega arith, refl)
+
+answer-iff : (c : Check) (v : Verdict) → Refuses c → ((answer c ≡ v) × (v ≡ Safe → ⊥)) ↔ (c ≡ some v)
 unfolding answer
-answer-some none v h n = absurd (n (sym h))
-answer-some (some w) v h n = ap some h
+answer-iff none v r = (λ h. absurd (h .1 (sym (h .0))), λ h. absurd (Option·none-ne-some v h))
+answer-iff (some w) v r = (λ h. ap some (h .0), λ h. (Option·some-injective w v h, λ e. r (h ∙ ap some e)))
 
-pub refused-as-said : Refused-as-said
+-- The table is exact
+pub refused-exactly : Refused-exactly
 unfolding verdict
-refused-as-said bytes lent short v h n = all-stages bytes short lent v .refuses tt (answer-some (check bytes lent) v h n)
+refused-exactly bytes lent short v =
+    Iff·trans (answer-iff (check bytes lent) v (check-refuses bytes lent)) (refuses-as-said bytes short lent v, said-refuses bytes short lent v)
+
+-- The verdict is what is said of it: safe of a sound message, or a line of the table
+pub verdict-exactly : Verdict-exactly
+verdict-exactly bytes lent short v = (said, given v)
+  where
+    given : (w : Verdict) → Said bytes lent w → verdict bytes lent ≡ w
+    given w (of-sound x) = safe-exactly bytes lent short .1 x
+    given w (of-refused u x) = refused-exactly bytes lent short u .1 x .0
+
+    said : verdict bytes lent ≡ v → Said bytes lent v
+    said h =
+        by-option (check bytes lent)
+        (λ e. let safe = verdict-safe bytes lent .1 e in subst (Said bytes lent) (sym safe ∙ h) (of-sound (safe-exactly bytes lent short .0 safe)))
+        (λ w e. of-refused v (refused-exactly bytes lent short v .0 (h, λ q. Option·none-ne-some w (sym (verdict-safe bytes lent .0 (h ∙ q)) ∙ e))))

@@ -18,9 +18,10 @@ use Rattle.model.specs.Heads.{is-class}
 use Rattle.model.specs.Values.{Processes}
 use Rattle.model.specs.Run.{step-of, run}
 use Rattle.model.specs.Letters.{processes-at, messages-of}
-use Rattle.model.specs.Bads.{bad-step, bad, bad-row, met, state-of, letter-of}
+use Rattle.model.specs.Bads.{bad-step, bad, state-of, letter-of}
 use Rattle.model.specs.Tables.{is-value}
 use Rattle.model.specs.Wanted.{Closed}
+use Rattle.model.specs.Met.{All-met}
 use Rattle.model.specs.Counters.{counter-count}
 use Rattle.model.specs.Rules.{Rule, rules}
 use Rattle.model.specs.Listing.{system-words, written, listed-rules}
@@ -91,7 +92,7 @@ Under-one bs m = (k : ℕ) × (k < bs .size) × Under bs k m
 
 -- bad number j is met by the counts
 abbrev pub Met : Message → Marking → ℕ → Type 0
-Met m counts j = met (count-in (m .program) (m .tables) counts) (m .bads) (bad-row (m .program) (m .bads) j) ≡ true
+Met m counts j = All-met (count-in (m .program) (m .tables) counts) (m .bads) j
 
 -- "the counts under the ceilings contain the start, are kept by each derived rule and meet no named bad count"
 pub record Inductive (m : Message) : Type 0 where

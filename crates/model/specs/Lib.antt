@@ -24,5 +24,6 @@ pub mod Bounds
 pub mod Verify
 pub mod Cases
 pub mod Wanted
+pub mod Met
 pub mod Demands
 pub mod Refusals

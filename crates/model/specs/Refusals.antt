@@ -2,7 +2,7 @@
 use Prim.Native.Nat.{ℕ, _+_, _-_, _*_, _≤_, _<_}
 use mathlib.Core.Path.{_≡_}
 use mathlib.Core.Bool.{Bool, true}
-use mathlib.Core.Logic.{_⊎_}
+use mathlib.Core.Logic.{_↔_, _⊎_}
 use mathlib.Core.List.{List, [], _∷_, _++_, List·Memᴰ}
 use mathlib.Core.Option.{some, none}
 use lib.ListN.{length, replicate}
@@ -26,7 +26,7 @@ use Rattle.model.specs.Bounds.{Bounds, bound-entries, bound-step, bounds
 use Rattle.model.specs.Verify.{Message, message, verdict}
 use Rattle.model.specs.Wanted.{Present, Wanted-first, Wanted-by, Closed}
 use Rattle.model.specs.Wanted.{Entry as Table-entry}
-use Rattle.model.specs.Demands.{Bytes, Between, Within-limits, Pair-below, Listed, Under, Under-one}
+use Rattle.model.specs.Demands.{Bytes, Between, Within-limits, Pair-below, Listed, Under, Under-one, Sound}
 use Rattle.model.specs.Demands.{Met as Meets}
 
 -- the first of n that is so
@@ -198,6 +198,16 @@ module _ (bytes : List ℕ) where
     -- 14 space: "system words exceed the lent slice: the words needed"
     no-space : Passed 14 → lent < length (system-words p t) → Refused lent (Space (length (system-words p t)))
 
--- The table: what it says of a refusal holds where that is the verdict
-abbrev pub Refused-as-said : Type 0
-Refused-as-said = (bytes : List ℕ) (lent : ℕ) → Bytes bytes → (v : Verdict) → verdict bytes lent ≡ v → (v ≡ Safe → ⊥) → Refused bytes lent v
+-- The table is exact: a refusal is the verdict exactly where its line holds.
+abbrev pub Refused-exactly : Type 0
+Refused-exactly =
+    (bytes : List ℕ) (lent : ℕ) → Bytes bytes → (v : Verdict) → ((verdict bytes lent ≡ v) × (v ≡ Safe → ⊥)) ↔ Refused bytes lent v
+
+-- What document 01 says of a verdict: safe of a sound message, a refusal in the words of its line.
+pub data Said (bytes : List ℕ) (lent : ℕ) : Verdict → Type 0 where
+  of-sound : Sound bytes lent → Said bytes lent Safe
+  of-refused : (v : Verdict) → Refused bytes lent v → Said bytes lent v
+
+-- Every message has exactly one verdict of which that holds: the one that is given.
+abbrev pub Verdict-exactly : Type 0
+Verdict-exactly = (bytes : List ℕ) (lent : ℕ) → Bytes bytes → (v : Verdict) → (verdict bytes lent ≡ v) ↔ Said bytes lent v

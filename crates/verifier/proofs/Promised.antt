@@ -1,4 +1,4 @@
--- The demands, of what the entry gives back.
+-- The demands and the table of refusals, of what the entry gives back.
 use Prim.Native.Nat.{ℕ, _≤_}
 use native.Mathlib.Omega.{arith}
 use mathlib.Core.Logic.{_↔_}
@@ -9,13 +9,14 @@ use lib.Dec.{eqb}
 use borrow.Author.Tests.{eq-eqb}
 use Rattle.model.specs.declared.Verdict.{Verdict}
 use Rattle.model.specs.declared.Verdict.the-variants.{Safe, Length, Size, Row, Name, Scope, Bad, Entry, Open, Counters, Ceiling, Start, Met, Leak, Space}
-use Rattle.model.specs.Verdict.{number}
+use Rattle.model.specs.Verdict.{number, place}
 use Rattle.model.specs.Verify.{message, verdict, lent-after, part-handed}
 use Rattle.model.specs.Listing.{listed-rules}
 use Rattle.model.specs.Demands.{Bytes, All-runs-followed}
 use Rattle.model.proofs.Demands as demands
+use Rattle.model.proofs.Refusals.{refused-exactly}
 use Rattle.answers.specs.Safe.{is-safe}
-use Rattle.verifier.specs.Promises.{Refusal-changes-nothing, Safe-exactly-when-sound, System-is-written, Runs-are-followed}
+use Rattle.verifier.specs.Promises.{Refusal-changes-nothing, Safe-exactly-when-sound, System-is-written, Runs-are-followed, Refused-exactly-by-the-table}
 use Rattle.answers.proofs.Passing.{safe-only}
 
 -- only safe has the number 0
@@ -27,35 +28,53 @@ safe-zero : (v : Verdict) → v ≡ Safe → number v ≡ 0
 unfolding number
 safe-zero v h = ap number h
 
-module _ (bytes lent : List ℕ) where
+-- The answer is the verdict's number and place; the lent words and the part are those of the definitions.
+module _ (bytes lent out part : List ℕ) (told at : ℕ) where
   abbrev v : Verdict
   v = verdict bytes (length lent)
 
-  pub nothing-changed : (out part : List ℕ) → out ≡ lent-after bytes lent → part ≡ part-handed bytes (length lent) → Refusal-changes-nothing (number v) lent out part
-  nothing-changed out part e h other =
-      let refused : v ≡ Safe → ⊥ = λ s. other (safe-zero v s) in
-      let d = demands.refusal-changes-nothing in
-      (e ∙ d .lent-unchanged bytes lent refused, h ∙ d .nothing-handed bytes (length lent) refused)
+  abbrev Promised : Type 0
+  Promised =
+      Refusal-changes-nothing told lent out part ×
+      (Safe-exactly-when-sound told bytes (length lent) ×
+      (System-is-written told bytes lent out × (Runs-are-followed told bytes out × Refused-exactly-by-the-table told at bytes (length lent))))
 
-  pub sound-exactly : Bytes bytes → Safe-exactly-when-sound (number v) bytes (length lent)
-  sound-exactly b =
-      let d = demands.safe-exactly bytes (length lent) b in
-      (λ z. d .0 (zero-safe v z), λ s. safe-zero v (d .1 s))
+  module _ (is-number : told ≡ number v) (is-place : at ≡ place v) where
+    safe : told ≡ 0 → v ≡ Safe
+    safe z = zero-safe v (sym is-number ∙ z)
 
-  pub system-put : (out : List ℕ) → out ≡ lent-after bytes lent → System-is-written (number v) bytes lent out
-  system-put out e z = e ∙ demands.system-written bytes lent (zero-safe v z)
+    refused : (told ≡ 0 → ⊥) → v ≡ Safe → ⊥
+    refused other s = other (is-number ∙ safe-zero v s)
 
-  pub runs-followed : (out : List ℕ) → Bytes bytes → out ≡ lent-after bytes lent → Runs-are-followed (number v) bytes out
-  runs-followed out b e z =
-      subst (λ o. All-runs-followed (message bytes) (listed-rules o)) (sym e) (demands.runs-stay-counted bytes lent b (zero-safe v z))
+    module _ (short : Bytes bytes) where
+      sound-exactly : Safe-exactly-when-sound told bytes (length lent)
+      sound-exactly =
+          let sound = demands.safe-exactly bytes (length lent) short in
+          (λ z. sound .0 (safe z), λ s. is-number ∙ safe-zero v (sound .1 s))
 
-  -- all of them, of a number that is the verdict's
-  pub promised : (out : List ℕ) (k : ℕ) → k ≡ number v → Bytes bytes → out ≡ lent-after bytes lent → Refusal-changes-nothing k lent out (part-handed bytes (length lent)) × (Safe-exactly-when-sound k bytes (length lent) × (System-is-written k bytes lent out × Runs-are-followed k bytes out))
-  promised out k e b h =
-      subst
-      (λ n. Refusal-changes-nothing n lent out (part-handed bytes (length lent)) × (Safe-exactly-when-sound n bytes (length lent) × (System-is-written n bytes lent out × Runs-are-followed n bytes out)))
-      (sym e)
-      (nothing-changed out _ h refl, (sound-exactly b, (system-put out h, runs-followed out b h)))
+      by-the-table : Refused-exactly-by-the-table told at bytes (length lent)
+      by-the-table =
+          record {
+            by-a-line = λ other. (v, refused-exactly bytes (length lent) short v .0 (refl, refused other), sym is-number, sym is-place);
+            as-each-line = λ w line. let same = sym (refused-exactly bytes (length lent) short w .1 line .0) in
+                (ap number same ∙ sym is-number, ap place same ∙ sym is-place);
+          }
+
+      module _ (words : out ≡ lent-after bytes lent) where
+        nothing-changed : part ≡ part-handed bytes (length lent) → Refusal-changes-nothing told lent out part
+        nothing-changed h other =
+            let d = demands.refusal-changes-nothing in
+            (words ∙ d .lent-unchanged bytes lent (refused other), h ∙ d .nothing-handed bytes (length lent) (refused other))
+
+        system-put : System-is-written told bytes lent out
+        system-put z = words ∙ demands.system-written bytes lent (safe z)
+
+        runs-followed : Runs-are-followed told bytes out
+        runs-followed z =
+            subst (λ o. All-runs-followed (message bytes) (listed-rules o)) (sym words) (demands.runs-stay-counted bytes lent short (safe z))
+
+        pub promised : part ≡ part-handed bytes (length lent) → Promised
+        promised h = (nothing-changed h, (sound-exactly, (system-put, (runs-followed, by-the-table))))
 
 -- two numbers told
 pub both : (a b x y : ℕ) → a ≡ x → b ≡ y → _≡_ {A = List ℕ} (a ∷ b ∷ []) (x ∷ y ∷ [])

@@ -1,24 +1,43 @@
--- What a caller has of the entry: the three demands, said of what it gives back.
+-- What a caller has of the entry, said of what it gives back: the verdict's number and place, the three demands, and the table of refusals.
 use Prim.Native.Nat.{ℕ}
 use mathlib.Core.Logic.{_↔_}
 use mathlib.Core.Path.{_≡_}
-use mathlib.Core.List.{List, []}
+use mathlib.Core.List.{List, [], _∷_}
+use lib.ListN.{getD}
+use Rattle.model.specs.declared.Verdict.{Verdict}
+use Rattle.model.specs.Verdict.{number, place}
 use Rattle.model.specs.Listing.{system-words, written, listed-rules}
-use Rattle.model.specs.Verify.{message}
+use Rattle.model.specs.Verify.{message, verdict}
 use Rattle.model.specs.Demands.{Sound, All-runs-followed}
+use Rattle.model.specs.Refusals.{Refused}
+
+-- An answer is two numbers: the verdict's, and its place.
+abbrev pub answer-to : List ℕ → ℕ → List ℕ
+answer-to bytes lent = number (verdict bytes lent) ∷ place (verdict bytes lent) ∷ []
+
+abbrev pub number-in : List ℕ → ℕ
+number-in answer = getD answer 0 0
+
+abbrev pub place-in : List ℕ → ℕ
+place-in answer = getD answer 1 0
 
 -- Demand 1: a refusal leaves the lent words as they came and hands on nothing.
 abbrev pub Refusal-changes-nothing : ℕ → List ℕ → List ℕ → List ℕ → Type 0
-Refusal-changes-nothing number before after part = (number ≡ 0 → ⊥) → (after ≡ before) × (part ≡ [])
+Refusal-changes-nothing told before after part = (told ≡ 0 → ⊥) → (after ≡ before) × (part ≡ [])
 
 -- Demand 2: safe exactly when the message is sound; the system written is then the one that the analysis defines.
 abbrev pub Safe-exactly-when-sound : ℕ → List ℕ → ℕ → Type 0
-Safe-exactly-when-sound number bytes lent = (number ≡ 0) ↔ Sound bytes lent
+Safe-exactly-when-sound told bytes lent = (told ≡ 0) ↔ Sound bytes lent
 
 abbrev pub System-is-written : ℕ → List ℕ → List ℕ → List ℕ → Type 0
-System-is-written number bytes before after =
-    number ≡ 0 → after ≡ written (system-words (message bytes .program) (message bytes .tables)) before
+System-is-written told bytes before after =
+    told ≡ 0 → after ≡ written (system-words (message bytes .program) (message bytes .tables)) before
 
 -- Demand 3: after safe, every run of the station has its run of the counters, by rules of the words written.
 abbrev pub Runs-are-followed : ℕ → List ℕ → List ℕ → Type 0
-Runs-are-followed number bytes after = number ≡ 0 → All-runs-followed (message bytes) (listed-rules after)
+Runs-are-followed told bytes after = told ≡ 0 → All-runs-followed (message bytes) (listed-rules after)
+
+-- The table of refusals: a number other than 0 and its place are those of a line that holds, and each line that holds has them.
+pub record Refused-exactly-by-the-table (told at : ℕ) (bytes : List ℕ) (lent : ℕ) : Type 0 where
+  pub by-a-line : (told ≡ 0 → ⊥) → (v : Verdict) × Refused bytes lent v × (number v ≡ told) × (place v ≡ at)
+  pub as-each-line : (v : Verdict) → Refused bytes lent v → (number v ≡ told) × (place v ≡ at)

@@ -1,28 +1,40 @@
 // The verifier: a message and lent words in; the verdict, the part handed on and the words written out.
-use answers::number_of;
-use answers::places::place_of;
+use answers::told_of;
 use checks::verdict::verdict_of;
 use handed::part_of;
 ghost use mathlib.Core.Path.{_≡_};
-ghost use mathlib.Core.List.{[], _∷_};
 ghost use lib.ListN.{length};
 ghost use Rattle.model.specs.Verdict.{number, place};
 ghost use Rattle.model.specs.Verify.{verdict, lent-after, part-handed};
-ghost use Rattle.verifier.specs.Promises.{Refusal-changes-nothing, Safe-exactly-when-sound, System-is-written, Runs-are-followed};
+ghost use Rattle.verifier.specs.Promises.{answer-to, number-in, place-in};
+ghost use Rattle.verifier.specs.Promises.{Refusal-changes-nothing, Safe-exactly-when-sound, System-is-written};
+ghost use Rattle.verifier.specs.Promises.{Runs-are-followed, Refused-exactly-by-the-table};
 
 // The entry. Gives the part handed on; number and place of the verdict to `answer`; after safe the system to the lent words.
 pub fn verify<'a>(message: &'a [u8], lent: &mut [u32], answer: &mut [usize; 2]) -> &'a [u8]
-    ensures { λ _. ⌜ now (answer .exit) ≡ number (verdict (now (message .entry)) (length (now (lent .entry)))) ∷ place (verdict (now (message .entry)) (length (now (lent .entry)))) ∷ [] ⌝ }
+    ensures { λ _. ⌜ now (answer .exit) ≡ answer-to (now (message .entry)) (length (now (lent .entry))) ⌝ }
     ensures { λ part. ⌜ now part ≡ part-handed (now (message .entry)) (length (now (lent .entry))) ⌝ }
     ensures { λ _. ⌜ now (lent .exit) ≡ lent-after (now (message .entry)) (now (lent .entry)) ⌝ }
-    ensures { λ part. ⌜ Refusal-changes-nothing (number (verdict (now (message .entry)) (length (now (lent .entry))))) (now (lent .entry)) (now (lent .exit)) (now part) ⌝ }
-    ensures { λ _. ⌜ Safe-exactly-when-sound (number (verdict (now (message .entry)) (length (now (lent .entry))))) (now (message .entry)) (length (now (lent .entry))) ⌝ }
-    ensures { λ _. ⌜ System-is-written (number (verdict (now (message .entry)) (length (now (lent .entry))))) (now (message .entry)) (now (lent .entry)) (now (lent .exit)) ⌝ }
-    ensures { λ _. ⌜ Runs-are-followed (number (verdict (now (message .entry)) (length (now (lent .entry))))) (now (message .entry)) (now (lent .exit)) ⌝ }
+    ensures { λ part. ⌜
+        Refusal-changes-nothing (number-in (now (answer .exit)))
+        (now (lent .entry)) (now (lent .exit)) (now part) ⌝ }
+    ensures { λ _. ⌜
+        Safe-exactly-when-sound (number-in (now (answer .exit)))
+        (now (message .entry)) (length (now (lent .entry))) ⌝ }
+    ensures { λ _. ⌜
+        System-is-written (number-in (now (answer .exit)))
+        (now (message .entry)) (now (lent .entry)) (now (lent .exit)) ⌝ }
+    ensures { λ _. ⌜
+        Runs-are-followed (number-in (now (answer .exit)))
+        (now (message .entry)) (now (lent .exit)) ⌝ }
+    ensures { λ _. ⌜
+        Refused-exactly-by-the-table (number-in (now (answer .exit))) (place-in (now (answer .exit)))
+        (now (message .entry)) (length (now (lent .entry))) ⌝ }
 {
     let words = lent.len();
     let v = verdict_of(message, lent);
-    *answer = [number_of(v), place_of(v)];
+    let told = told_of(v);
+    *answer = [told.number, told.place];
     part_of(message, words, v)
 }
 
@@ -36,12 +48,18 @@ pub extern "C" fn delungkaw_verify(
 ) -> u32
     ensures { λ r. ⌜ r ≡ number (verdict (now (message .entry)) (length (now (lent .entry)))) ⌝ }
     ensures { λ _. ⌜ now (position .exit) ≡ place (verdict (now (message .entry)) (length (now (lent .entry)))) ⌝ }
-    ensures { λ _. ⌜ now (handed .exit) ≡ length (part-handed (now (message .entry)) (length (now (lent .entry)))) ⌝ }
+    ensures { λ _. ⌜
+        now (handed .exit) ≡ length (part-handed (now (message .entry)) (length (now (lent .entry)))) ⌝ }
     ensures { λ _. ⌜ now (lent .exit) ≡ lent-after (now (message .entry)) (now (lent .entry)) ⌝ }
-    ensures { λ r. ⌜ Refusal-changes-nothing r (now (lent .entry)) (now (lent .exit)) (part-handed (now (message .entry)) (length (now (lent .entry)))) ⌝ }
+    ensures { λ r. ⌜
+        Refusal-changes-nothing r (now (lent .entry)) (now (lent .exit))
+        (part-handed (now (message .entry)) (length (now (lent .entry)))) ⌝ }
     ensures { λ r. ⌜ Safe-exactly-when-sound r (now (message .entry)) (length (now (lent .entry))) ⌝ }
     ensures { λ r. ⌜ System-is-written r (now (message .entry)) (now (lent .entry)) (now (lent .exit)) ⌝ }
     ensures { λ r. ⌜ Runs-are-followed r (now (message .entry)) (now (lent .exit)) ⌝ }
+    ensures { λ r. ⌜
+        Refused-exactly-by-the-table r (now (position .exit))
+        (now (message .entry)) (length (now (lent .entry))) ⌝ }
 {
     let mut answer = [0usize; 2];
     let part = verify(message, lent, &mut answer);

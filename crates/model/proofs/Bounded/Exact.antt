@@ -1,5 +1,5 @@
--- Refusals 10 to 13 are exact: they refuse nothing exactly where the bounds are in form and are an inductive invariant of the system that no
--- bad meets; and what refusals 12 and 13 tell.
+-- Refusals 11 to 13 are exact: they refuse nothing exactly where the bounds are an inductive invariant of the system that meets no bad; and what
+-- refusals 12 and 13 tell.
 use Prim.Native.Nat.{ℕ, _+_, _≤_, _<_}
 use native.Mathlib.Omega.{arith}
 use mathlib.Core.Path.{_≡_, refl}
@@ -7,6 +7,7 @@ use mathlib.Core.Bool.{true}
 use mathlib.Core.Logic.{_↔_, Iff·trans}
 use mathlib.Core.List.{List, List·Memᴰ}
 use mathlib.Core.Option.{some, none}
+use lib.ListN.{replicate}
 use Rattle.model.specs.declared.Verdict.{Verdict}
 use Rattle.model.specs.declared.Verdict.the-variants.{Met, Leak}
 use Rattle.model.specs.Limits.{omega-limit}
@@ -15,18 +16,17 @@ use Rattle.model.specs.Message.{sizes, bads-at, bounds-at}
 use Rattle.model.specs.Reader.{first-wrong}
 use Rattle.model.specs.Rows.{tag, num}
 use Rattle.model.specs.Heads.{is-class}
-use Rattle.model.specs.Bads.{bad-row}
+use Rattle.model.specs.Bads.{bad, bad-step, bad-row}
 use Rattle.model.specs.Tables.{is-value}
 use Rattle.model.specs.Counters.{counter-count}
 use Rattle.model.specs.Rules.{Rule, rules}
 use Rattle.model.specs.Markings.{Marking, usable, fire}
-use Rattle.model.specs.Bounds.{bound-entries, bound-step, bounds-of, bound-entry, bounds, bound-check, met-check, leak-check}
-use Rattle.model.specs.Verify.{Message, message, bounds-check}
+use Rattle.model.specs.Bounds.{bound-entries, bound-entry, bounds, met-check, leak-check}
+use Rattle.model.specs.Verify.{Message, message}
 use Rattle.model.specs.Demands.{Bytes, Listed, Under-one, Inductive}
 use Rattle.model.specs.Refusals.{First-such, Allowed, Leaks}
 use Rattle.model.proofs.Bounded.Words.{short-words, short-minimum, short-limit}
 use Rattle.model.proofs.Exact.Checks.{then-iff}
-use Rattle.model.proofs.Exact.Entries.{bound-none}
 use Rattle.model.proofs.Exact.Sound.{tests-of-bounds}
 use Rattle.model.proofs.Rows.{tag-inside}
 use Rattle.model.proofs.Parse.Reached.{Rows-fit}
@@ -36,7 +36,7 @@ use Rattle.model.proofs.Numbering.Counters.{listed-keys}
 use Rattle.model.proofs.Bounded.Met.{met-check-exact, met-check-refuses}
 use Rattle.model.proofs.Bounded.Fire.{Shaped}
 use Rattle.model.proofs.Bounded.Shaped.{rules-shaped}
-use Rattle.model.proofs.Bounded.Leak.{start-check-exact, leak-check-exact, leak-check-refuses}
+use Rattle.model.proofs.Bounded.Leak.{start-check-exact, leak-check-exact, leak-check-none, leak-check-refuses}
 
 -- the constructor that a row of a message builds, where its rows fit
 pub message-built : (bytes : List ℕ) → Rows-fit (message bytes .program) → (v : ℕ) → tag (message bytes .program) v ≡ 2 → num (message bytes .program) (v + 1) < message bytes .program .constructors
@@ -67,38 +67,34 @@ module _ (bytes : List ℕ) (short : Bytes bytes) where
   unfolding message
   minimums i = short-minimum (words bytes) (sizes (words bytes)) i (short-words bytes short)
 
-  -- the bounds are in form, as `In-form` says it
-  abbrev pub Bounds-in-form : Type 0
-  Bounds-in-form = first-wrong (bound-step (m .bounds .counters)) (bound-entries (m .words) (m .sizes)) (bounds-of (m .sizes .bounds)) ≡ none
-
-  bound-check-exact : (bound-check (m .words) (m .sizes) (counter-count (m .program) (m .tables)) ≡ none) ↔ Bounds-in-form
-  bound-check-exact = rw (← counters) (bound-none (m .words) (m .sizes) (m .bounds .counters))
+  -- the bads are in form, as `In-form` says it
+  abbrev pub Bads-in-form : Type 0
+  Bads-in-form = first-wrong (bad-step (m .program)) (m .bads) (replicate (m .sizes .bads) bad) ≡ none
 
   module _ (keys : Keys (m .program) (m .tables)) where
     shaped : (ρ : Rule) → List·Memᴰ ρ (rules (m .program) (m .tables)) → Shaped (m .bounds .counters) ρ
     shaped = rw counters (rules-shaped (m .program) (m .tables) keys)
 
-    pub met-exact : (met-check (m .sizes) (m .program) (m .tables) (m .bounds) (m .bads) ≡ none) ↔ ((j : ℕ) → j < m .sizes .bads → Allowed m j → ⊥)
-    met-exact = met-check-exact (m .program) (m .tables) (m .bounds) (m .bads) keys counters minimums (m .sizes)
+    pub met-exact : Bads-in-form → (met-check (m .sizes) (m .program) (m .tables) (m .bounds) (m .bads) ≡ none) ↔ ((j : ℕ) → j < m .sizes .bads → Allowed m j → ⊥)
+    met-exact form = met-check-exact (m .program) (m .tables) (m .bounds) (m .bads) keys counters minimums (m .sizes) form
 
-    pub met-refuses : (v : Verdict) → met-check (m .sizes) (m .program) (m .tables) (m .bounds) (m .bads) ≡ some v → (j : ℕ) × First-such (m .sizes .bads) (Allowed m) j × (Met (bads-at (m .sizes) + 2 + bad-row (m .program) (m .bads) j) ≡ v)
-    met-refuses = met-check-refuses (m .program) (m .tables) (m .bounds) (m .bads) keys counters minimums (m .sizes)
+    pub met-refuses : Bads-in-form → (v : Verdict) → (met-check (m .sizes) (m .program) (m .tables) (m .bounds) (m .bads) ≡ some v) ↔ ((j : ℕ) × First-such (m .sizes .bads) (Allowed m) j × (Met (bads-at (m .sizes) + 2 + bad-row (m .program) (m .bads) j) ≡ v))
+    met-refuses form = met-check-refuses (m .program) (m .tables) (m .bounds) (m .bads) keys counters minimums (m .sizes) form
 
     pub leak-exact : (leak-check (m .words) (m .sizes) (m .bounds) (rules (m .program) (m .tables)) ≡ none) ↔ ((counts : Marking) (ρ : Rule) → Under-one (m .bounds) counts → List·Memᴰ ρ (rules (m .program) (m .tables)) → usable ρ counts ≡ true → Under-one (m .bounds) (fire ρ counts))
     leak-exact = leak-check-exact (m .bounds) (rules (m .program) (m .tables)) limits shaped (m .words) (m .sizes)
 
-    pub leak-refuses : (v : Verdict) → leak-check (m .words) (m .sizes) (m .bounds) (rules (m .program) (m .tables)) ≡ some v → (k : ℕ) × First-such (m .bounds .size) (Leaks (m .bounds) (rules (m .program) (m .tables))) k × (Leak (bounds-at (m .sizes) + 2 + bound-entry (m .bounds .counters) (bound-entries (m .words) (m .sizes)) k) ≡ v)
+    pub leak-none : (leak-check (m .words) (m .sizes) (m .bounds) (rules (m .program) (m .tables)) ≡ none) ↔ ((k : ℕ) → k < m .bounds .size → Leaks (m .bounds) (rules (m .program) (m .tables)) k → ⊥)
+    leak-none = leak-check-none (m .bounds) (rules (m .program) (m .tables)) limits shaped (m .words) (m .sizes)
+
+    pub leak-refuses : (v : Verdict) → (leak-check (m .words) (m .sizes) (m .bounds) (rules (m .program) (m .tables)) ≡ some v) ↔ ((k : ℕ) × First-such (m .bounds .size) (Leaks (m .bounds) (rules (m .program) (m .tables))) k × (Leak (bounds-at (m .sizes) + 2 + bound-entry (m .bounds .counters) (bound-entries (m .words) (m .sizes)) k) ≡ v))
     leak-refuses = leak-check-refuses (m .bounds) (rules (m .program) (m .tables)) limits shaped (m .words) (m .sizes)
 
     -- refusals 11 to 13
-    pub tests-exact : (tests-of-bounds m ≡ none) ↔ Inductive m
-    tests-exact =
-        Iff·trans (then-iff _ _ (start-check-exact (m .sizes) (m .program) (m .tables) (m .bounds)) (then-iff _ _ met-exact leak-exact)) (
+    pub tests-exact : Bads-in-form → (tests-of-bounds m ≡ none) ↔ Inductive m
+    tests-exact form =
+        Iff·trans (then-iff _ _ (start-check-exact (m .sizes) (m .program) (m .tables) (m .bounds)) (then-iff _ _ (met-exact form) leak-exact)) (
           λ h. let (start, (meets, keeps)) = h in
               record { contain-start = start; kept = keeps; meet-no-bad = λ counts j u b x. meets j b (counts, u, x) },
           λ i. (i .contain-start, (λ j b x. let (counts, u, y) = x in i .meet-no-bad counts j u b y, i .kept)),
         )
-
-    pub bounds-check-exact : (bounds-check m ≡ none) ↔ (Bounds-in-form × Inductive m)
-    unfolding bounds-check
-    bounds-check-exact = then-iff _ _ bound-check-exact tests-exact

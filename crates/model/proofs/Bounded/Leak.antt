@@ -1,5 +1,5 @@
 -- Refusals 11 and 13 are exact: from counts under a bound a rule leads out of all bounds exactly where one does from the bound's highest counts.
-use Prim.Native.Nat.{ℕ, _+_, _≤_}
+use Prim.Native.Nat.{ℕ, _+_, _≤_, _<_}
 use mathlib.Core.Path.{_≡_, refl}
 use mathlib.Core.Bool.{Bool, true, false, not, _&&_}
 use mathlib.Core.Logic.{⊎-elim, _↔_, Iff·trans, Iff·rfl}
@@ -90,6 +90,11 @@ module _ (bs : Bounds) (ρs : List Rule) (short : (k x : ℕ) → bs .limit k x 
         Iff·trans (first-none (bs .size) leaks _ (λ k below. leads-out-exact k))
         (λ h m ρ u. let (k, below, lies) = u in h k below m ρ lies, λ h k below m ρ lies. h m ρ (k, below, lies))
 
-    pub leak-check-refuses : (v : Verdict) → leak-check ws s bs ρs ≡ some v → (k : ℕ) × First-such (bs .size) (Leaks bs ρs) k × (refusal k ≡ v)
+    -- no bound is left, or the first that is
+    pub leak-check-none : (leak-check ws s bs ρs ≡ none) ↔ ((k : ℕ) → k < bs .size → Leaks bs ρs k → ⊥)
+    unfolding leak-check
+    leak-check-none = first-none (bs .size) leaks _ (λ k below. fails-iff (leaks k) (leads-out-iff k))
+
+    pub leak-check-refuses : (v : Verdict) → (leak-check ws s bs ρs ≡ some v) ↔ ((k : ℕ) × First-such (bs .size) (Leaks bs ρs) k × (refusal k ≡ v))
     unfolding leak-check
     leak-check-refuses = first-some (bs .size) leaks (λ k below. leads-out-iff k) refusal

@@ -3,8 +3,9 @@ use Prim.Native.Nat.{ℕ, zero, suc, _+_, _-_, _≤_, _<_}
 use native.Mathlib.Omega.{arith}
 use mathlib.Core.Path.{_≡_, refl}
 use mathlib.Core.Bool.{Bool, true}
-use mathlib.Core.Logic.{_⊎_, inl, inr, ⊎-elim, _↔_}
+use mathlib.Core.Logic.{_⊎_, inl, inr, ⊎-elim, _↔_, Iff·trans}
 use mathlib.Core.Option.{Option, some, none}
+use lib.ListN.{replicate}
 use lib.Dec.{leb, eqb}
 use borrow.Author.Tests.{leb-true, le-leb}
 use Rattle.model.specs.declared.Sizes.{Sizes}
@@ -13,12 +14,14 @@ use Rattle.model.specs.declared.Verdict.the-variants.{Met}
 use Rattle.model.specs.Limits.{omega-limit}
 use Rattle.model.specs.Words.{Columns, left, right}
 use Rattle.model.specs.Message.{bads-at}
+use Rattle.model.specs.Reader.{first-wrong}
 use Rattle.model.specs.Rows.{Program}
 use Rattle.model.specs.Tables.{Tables}
-use Rattle.model.specs.Bads.{Counted, counted, met-from, met, bad-row}
+use Rattle.model.specs.Bads.{Counted, counted, met-from, met, bad, bad-step, bad-row}
 use Rattle.model.specs.Counters.{counter-count, counter-of}
 use Rattle.model.specs.Markings.{Marking, standing, count-in}
 use Rattle.model.specs.Bounds.{Bounds, highest, bad-allowed, met-check}
+use Rattle.model.specs.Met.{All-met}
 use Rattle.model.specs.Demands.{Under, Under-one}
 use Rattle.model.specs.Refusals.{First-such}
 use Rattle.model.proofs.Logic.{test, and-left, and-right, and-intro}
@@ -28,6 +31,7 @@ use Rattle.model.proofs.Numbering.Letters.{Keys}
 use Rattle.model.proofs.Numbering.Counters.{counter-below-of}
 use Rattle.model.proofs.Exact.Tests.{fails-iff}
 use Rattle.model.proofs.Exact.Checks.{first-none, first-some}
+use Rattle.model.proofs.Exact.Met.{met-exactly}
 
 -- counts that are as high, or past every minimum, meet what the lower ones meet
 met-from-higher : (low high : Counted → ℕ) (rows : Columns) (n r : ℕ) → ((k : Counted) → (low k ≤ high k) ⊎ (omega-limit ≤ high k)) → ((i : ℕ) → right rows i ≤ omega-limit) → met-from low rows n r ≡ true → met-from high rows n r ≡ true
@@ -61,7 +65,7 @@ module _ (p : Program) (t : Tables) (bs : Bounds) (rows : Columns) where
   refusal s j = Met (bads-at s + 2 + bad-row p rows j)
 
   -- counts under a bound meet it
-  abbrev pub Met-below : ℕ → Type 0
+  abbrev Met-below : ℕ → Type 0
   Met-below r = (m : Marking) × Under-one bs m × Meets m r
 
   -- some bound allows a bad: its highest counts meet it
@@ -88,11 +92,25 @@ module _ (p : Program) (t : Tables) (bs : Bounds) (rows : Columns) where
       λ h. let (m, u, meets) = h in any-intro 0 (bs .size) (u .0) _ (omega arith) (u .1) (highest-meet (u .0) m r (u .2) meets),
     )
 
-    module _ (s : Sizes) where
-      pub met-check-exact : (met-check s p t bs rows ≡ none) ↔ ((j : ℕ) → j < s .bads → Met-below (bad-row p rows j) → ⊥)
-      unfolding met-check
-      met-check-exact = first-none (s .bads) allows _ (λ j below. fails-iff (allows j) (bad-allowed-iff (bad-row p rows j)))
+    -- in bads that are in form, which is what the bounds say of the bad with this number
+    module _ (s : Sizes) (form : first-wrong (bad-step p) rows (replicate (s .bads) bad) ≡ none) where
+      abbrev Met-under : ℕ → Type 0
+      Met-under j = (m : Marking) × Under-one bs m × All-met (count-in p t m) rows j
 
-      pub met-check-refuses : (v : Verdict) → met-check s p t bs rows ≡ some v → (j : ℕ) × First-such (s .bads) (λ i. Met-below (bad-row p rows i)) j × (refusal s j ≡ v)
+      allows-iff : (j : ℕ) → j < s .bads → (allows j ≡ true) ↔ Met-under j
+      allows-iff j below =
+          Iff·trans (bad-allowed-iff (bad-row p rows j)) (
+            λ h. let (m, u, meets) = h in (m, u, exactly m .0 meets),
+            λ h. let (m, u, meets) = h in (m, u, exactly m .1 meets),
+          )
+        where
+          exactly : (m : Marking) → Meets m (bad-row p rows j) ↔ All-met (count-in p t m) rows j
+          exactly m = met-exactly p rows (s .bads) form (count-in p t m) j below
+
+      pub met-check-exact : (met-check s p t bs rows ≡ none) ↔ ((j : ℕ) → j < s .bads → Met-under j → ⊥)
       unfolding met-check
-      met-check-refuses = first-some (s .bads) allows (λ j below. bad-allowed-iff (bad-row p rows j)) (refusal s)
+      met-check-exact = first-none (s .bads) allows _ (λ j below. fails-iff (allows j) (allows-iff j below))
+
+      pub met-check-refuses : (v : Verdict) → (met-check s p t bs rows ≡ some v) ↔ ((j : ℕ) × First-such (s .bads) Met-under j × (refusal s j ≡ v))
+      unfolding met-check
+      met-check-refuses = first-some (s .bads) allows allows-iff (refusal s)

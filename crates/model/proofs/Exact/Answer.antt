@@ -31,7 +31,7 @@ abbrev pub Refuses : Check → Type 0
 Refuses c = c ≡ some Safe → ⊥
 
 pub then-refuses : (a b : Check) → Refuses a → Refuses b → Refuses (a >> b)
-then-refuses a b ha hb h = ⊎-elim ha (λ x. hb (x .1)) (then-some a b Safe h)
+then-refuses a b ha hb h = ⊎-elim ha (λ x. hb (x .1)) (then-some a b Safe .0 h)
 
 -- a verdict with a number from 1 on is no safe one
 not-safe : (v : Verdict) → T (ltb 0 (number v)) → v ≡ Safe → ⊥
@@ -39,7 +39,7 @@ unfolding number
 not-safe v h e = subst (λ n. T (ltb 0 n)) (ap number e) h
 
 unless-refuses : (b : Bool) (v : Verdict) → T (ltb 0 (number v)) → Refuses (unless b v)
-unless-refuses b v n h = not-safe v n (unless-some b v Safe h .1)
+unless-refuses b v n h = not-safe v n (unless-some b v Safe .0 h .1)
 
 map-refuses : (f : ℕ → Verdict) (o : Option ℕ) → ((r : ℕ) → T (ltb 0 (number (f r)))) → Refuses (Option·map f o)
 map-refuses f o n h = let (r, e, q) = map-eq-some-iff f o .0 h in not-safe (f r) (n r) q

@@ -65,7 +65,7 @@ module _ (t : Tables) where
   finds-all n f g =
       record {
         there = λ h e x. let (i, b, y) = x in g i .there (all-elim 0 n i f h (omega arith) b) e y;
-        missing = λ h. let (i, b, out) = all-refuted n f (λ i. Iff·rfl) h in
+        missing = λ h. let (i, b, out) = all-refuted n f (λ i. Iff·rfl) .0 h in
             let (e, y, m) = g i .missing (test (f i) (λ z. absurd (out z)) (λ z. z)) in (e, (i, b, y), m);
       }
 

@@ -15,10 +15,10 @@ use Rattle.model.specs.Words.{words}
 use Rattle.model.specs.Verdict.{Check, _>>_}
 use Rattle.model.specs.Message.{Limited, sizes, bads-at, tables-at, bounds-at, end-at, sizes-check, part-check, program-part, bads-part, tables-part, bounds-part, nothing-left, parts-check}
 use Rattle.model.specs.Demands.{Within-limits}
-use Rattle.model.specs.Refusals.{Behind, here, there, Message-part, parts, Within, Each-within, Whole}
+use Rattle.model.specs.Refusals.{Behind, here, there, Message-part, parts, Within, Each-within, Sizes-whole, Arrays-whole, Whole}
 use Rattle.model.proofs.Logic.{true-false, test}
 use Rattle.model.proofs.Exact.Tests.{fails-iff, leb-iff, and-iff}
-use Rattle.model.proofs.Exact.Checks.{then-iff, then-some, unless-iff, unless-refutes}
+use Rattle.model.proofs.Exact.Checks.{then-iff, then-some, then-some-iff, unless-iff, unless-refutes}
 
 -- the bytes are twice the words, or one more
 pub words-length : (bytes : List ℕ) → (2 * length (words bytes) ≤ length bytes) × (length bytes ≤ 2 * length (words bytes) + 1)
@@ -35,7 +35,7 @@ choice-none false c v = (λ h. absurd (Option·some-ne-none v h), λ h. true-fal
 within-iff : (l : Limited) → (leb (l .least) (l .size) && leb (l .size) (l .most) ≡ true) ↔ Within l
 within-iff l = and-iff (leb (l .least) (l .size)) (leb (l .size) (l .most)) (leb-iff (l .least) (l .size)) (leb-iff (l .size) (l .most))
 
-pub sizes-none : (at : ℕ) (ls : List Limited) → (sizes-check at ls ≡ none) ↔ Each-within ls
+sizes-none : (at : ℕ) (ls : List Limited) → (sizes-check at ls ≡ none) ↔ Each-within ls
 unfolding sizes-check
 sizes-none at [] = (λ h. tt, λ h. refl)
 sizes-none at (l ∷ ls) =
@@ -43,16 +43,29 @@ sizes-none at (l ∷ ls) =
     (Iff·and (within-iff l) (sizes-none (at + 1) ls))
 
 -- the first size outside its limits
-pub sizes-some : (at : ℕ) (ls : List Limited) (v : Verdict) → sizes-check at ls ≡ some v → (i : ℕ) × (l : Limited) × Behind Within ls i l × (Within l → ⊥) × (Size (at + i) ≡ v)
+abbrev pub Size-outside : ℕ → List Limited → Verdict → Type 0
+Size-outside at ls v = (i : ℕ) × (l : Limited) × Behind Within ls i l × (Within l → ⊥) × (Size (at + i) ≡ v)
+
+sizes-stop : (at i : ℕ) (ls : List Limited) (l : Limited) → Behind Within ls i l → (Within l → ⊥) → sizes-check at ls ≡ some (Size (at + i))
 unfolding sizes-check
-sizes-some at [] v h = absurd (Option·none-ne-some v h)
-sizes-some at (l ∷ ls) v h =
+sizes-stop at i ls l (here x xs) n = let z : at ≡ at + 0 = omega arith in rw (fails-iff _ (within-iff x) .1 n, sizes-check) (ap (λ k. some (Size k)) z)
+sizes-stop at i ls l (there y x xs k w b) n =
+    let z : at + 1 + k ≡ at + (1 + k) = omega arith in
+    rw (within-iff y .1 w, sizes-check) (sizes-stop (at + 1) k xs x b n ∙ ap (λ j. some (Size j)) z)
+
+sizes-first : (at : ℕ) (ls : List Limited) (v : Verdict) → sizes-check at ls ≡ some v → Size-outside at ls v
+unfolding sizes-check
+sizes-first at [] v h = absurd (Option·none-ne-some v h)
+sizes-first at (l ∷ ls) v h =
     test (leb (l .least) (l .size) && leb (l .size) (l .most))
-    (λ e. let (i, x, b, n, q) = sizes-some (at + 1) ls v (rw (e, sizes-check) at h) in
+    (λ e. let (i, x, b, n, q) = sizes-first (at + 1) ls v (rw (e, sizes-check) at h) in
     let z : at + (1 + i) ≡ at + 1 + i = omega arith in
     (1 + i, x, there l x ls i (within-iff l .0 e) b, n, ap Size z ∙ q))
     (λ e. let z : at + 0 ≡ at = omega arith in
     (0, l, here l ls, fails-iff _ (within-iff l) .0 e, ap Size z ∙ Option·some-injective (Size at) v (rw (e, sizes-check) at h)))
+
+sizes-some : (at : ℕ) (ls : List Limited) (v : Verdict) → (sizes-check at ls ≡ some v) ↔ Size-outside at ls v
+sizes-some at ls v = (sizes-first at ls v, λ x. let (i, l, b, n, q) = x in sizes-stop at i ls l b n ∙ ap some q)
 
 abbrev pub check-of : List ℕ → Message-part → Check
 check-of ws x = part-check ws (x .first) (x .sizes) (x .elements)
@@ -65,6 +78,18 @@ part-none ws x =
     (then-iff _ _ (unless-iff _ _ (leb-iff _ (length ws)))
     (then-iff _ _ (sizes-none (x .first) (x .sizes)) (unless-iff _ _ (leb-iff _ (length ws)))))
     (λ h. h .1, λ h. (omega arith, h))
+
+-- "sizes whole, sizes within limits, arrays whole"
+abbrev pub Part-wrong : List ℕ → Message-part → Verdict → Type 0
+Part-wrong ws x v =
+    ((Sizes-whole ws x → ⊥) × (Length (x .first) ≡ v)) ⊎
+    (Sizes-whole ws x × (Size-outside (x .first) (x .sizes) v ⊎ (Each-within (x .sizes) × ((Arrays-whole ws x → ⊥) × (Length (x .first) ≡ v)))))
+
+pub part-some : (ws : List ℕ) (x : Message-part) (v : Verdict) → (check-of ws x ≡ some v) ↔ Part-wrong ws x v
+unfolding part-check
+part-some ws x v =
+    then-some-iff _ _ v (unless-iff _ _ (leb-iff _ (length ws))) (unless-refutes _ _ v (leb-iff _ (length ws)))
+    (then-some-iff _ _ v (sizes-none (x .first) (x .sizes)) (sizes-some (x .first) (x .sizes) v) (unless-refutes _ _ v (leb-iff _ (length ws))))
 
 -- the checks of some parts in order, and then another
 abbrev checks-of : List ℕ → List Message-part → Check → Check
@@ -86,7 +111,15 @@ checks-some ws (x ∷ xs) last v h =
     ⊎-elim (λ e. inl (0, x, here x xs, e))
     (λ y. let w = part-none ws x .0 (y .0) in
     ⊎-elim (λ z. let (k, u, b, e) = z in inl (1 + k, u, there x u xs k w b, e)) (λ z. inr ((w, z .0), z .1)) (checks-some ws xs last v (y .1)))
-    (then-some _ _ v h)
+    (then-some _ _ v .0 h)
+
+checks-stop : (ws : List ℕ) (xs : List Message-part) (last : Check) (v : Verdict) (k : ℕ) (x : Message-part) → Behind (Whole ws) xs k x → check-of ws x ≡ some v → checks-of ws xs last ≡ some v
+checks-stop ws xs last v k x (here y ys) h = then-some _ _ v .1 (inl h)
+checks-stop ws xs last v k x (there z y ys i w b) h = then-some _ _ v .1 (inr (part-none ws z .1 w, checks-stop ws ys last v i y b h))
+
+checks-last : (ws : List ℕ) (xs : List Message-part) (last : Check) (v : Verdict) → All-whole ws xs → last ≡ some v → checks-of ws xs last ≡ some v
+checks-last ws [] last v w h = h
+checks-last ws (x ∷ xs) last v w h = then-some _ _ v .1 (inr (part-none ws x .1 (w .0), checks-last ws xs last v (w .1) h))
 
 -- Refusals 1 and 2 of a message
 module _ (bytes : List ℕ) where
@@ -104,11 +137,15 @@ module _ (bytes : List ℕ) where
       (Iff·and Iff·rfl (unless-iff _ _ (leb-iff (length bytes) (2 * end-at s)))))
       (λ h. omega (arith, words-length bytes), λ h. omega (arith, words-length bytes))
 
-  pub parts-some : (v : Verdict) → parts-check bytes ≡ some v → ((k : ℕ) × (x : Message-part) × Behind (Whole ws) (parts s) k x × (check-of ws x ≡ some v)) ⊎ (Within-limits s × (2 * end-at s < length bytes) × (Length (end-at s) ≡ v))
-  unfolding parts-check program-part bads-part tables-part bounds-part nothing-left
-  parts-some v h =
-      ⊎-elim inl
-      (λ x. let w = x .0 in
-      let (n, q) = unless-refutes _ (Length (end-at s)) v (leb-iff (length bytes) (2 * end-at s)) (x .1) in
-      inr (omega arith, omega arith, q))
-      (checks-some ws (parts s) (nothing-left bytes s) v h)
+  pub parts-some : (v : Verdict) → (parts-check bytes ≡ some v) ↔ (((k : ℕ) × (x : Message-part) × Behind (Whole ws) (parts s) k x × Part-wrong ws x v) ⊎ (Within-limits s × (2 * end-at s < length bytes) × (Length (end-at s) ≡ v)))
+  unfolding parts-check program-part bads-part tables-part bounds-part nothing-left end-at bounds-at tables-at bads-at
+  parts-some v = (
+    λ h. ⊎-elim (λ x. let (k, y, b, e) = x in inl (k, y, b, part-some ws y v .0 e))
+        (λ x. let w = x .0 in let (n, q) = remain .0 (x .1) in inr (omega arith, omega arith, q))
+        (checks-some ws (parts s) (nothing-left bytes s) v h),
+    ⊎-elim (λ x. let (k, y, b, e) = x in checks-stop ws (parts s) (nothing-left bytes s) v k y b (part-some ws y v .1 e))
+        (λ x. let (w, l, q) = x in checks-last ws (parts s) (nothing-left bytes s) v (omega (arith, words-length bytes)) (remain .1 (λ z. omega arith, q))),
+  )
+    where
+      remain : (nothing-left bytes s ≡ some v) ↔ ((length bytes ≤ 2 * end-at s → ⊥) × (Length (end-at s) ≡ v))
+      remain = unless-refutes _ (Length (end-at s)) v (leb-iff (length bytes) (2 * end-at s))

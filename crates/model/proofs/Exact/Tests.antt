@@ -44,12 +44,14 @@ all-iff n f e = (
   λ h. all-intro 0 n f (λ i a b. e i .1 (h i b)),
 )
 
--- where not all are, one is not
-pub all-refuted : (n : ℕ) (f : ℕ → Bool) {A : ℕ → Type 0} → ((i : ℕ) → (f i ≡ true) ↔ A i) → all 0 n f ≡ false → (i : ℕ) × (i < n) × (A i → ⊥)
-all-refuted n f e h =
-    test (any 0 n (λ i. not (f i)))
-    (λ t. let (i, w, x) = any-elim 0 n (λ i. not (f i)) t in (i, w .1, λ a. true-false (e i .1 a) (not-true (f i) x)))
-    (λ t. true-false (all-intro 0 n f (λ i a b. not-false (f i) (any-none 0 n i (λ j. not (f j)) t a b))) h)
+-- not all are exactly where one is not
+pub all-refuted : (n : ℕ) (f : ℕ → Bool) {A : ℕ → Type 0} → ((i : ℕ) → (f i ≡ true) ↔ A i) → (all 0 n f ≡ false) ↔ ((i : ℕ) × (i < n) × (A i → ⊥))
+all-refuted n f e = (
+  λ h. test (any 0 n (λ i. not (f i)))
+      (λ t. let (i, w, x) = any-elim 0 n (λ i. not (f i)) t in (i, w .1, λ a. true-false (e i .1 a) (not-true (f i) x)))
+      (λ t. true-false (all-intro 0 n f (λ i a b. not-false (f i) (any-none 0 n i (λ j. not (f j)) t a b))) h),
+  λ h. let (i, b, u) = h in fails-iff (all 0 n f) (all-iff n f e) .1 (λ x. u (x i b)),
+)
 
 pub any-iff : (n : ℕ) (f : ℕ → Bool) {A : ℕ → Type 0} → ((i : ℕ) → (f i ≡ true) ↔ A i) → (any 0 n f ≡ true) ↔ ((i : ℕ) × (i < n) × A i)
 any-iff n f e = (

@@ -8,8 +8,8 @@ use Rattle.model.specs.Reader.{first-wrong}
 use Rattle.model.specs.Rows.{Program, size, tag, num, Item, step, whole, past-items}
 use Rattle.model.proofs.Reader.{first-wrong-none}
 use Rattle.model.specs.Refusals.{Ahead, at-first, after-row}
-use Rattle.model.proofs.Exact.Reading.{ahead-unique}
-use Rattle.model.proofs.Parse.Spans.{Spans, spans-past, spans-unique, spans-none, spans-range, spans-takes, spans-split, spans-first}
+use Rattle.model.proofs.Exact.Reading.{ahead-unique, ahead-past}
+use Rattle.model.proofs.Parse.Spans.{Spans, spans-past, spans-unique, spans-none, spans-range, spans-split, spans-first}
 
 -- the program's rows fit: refusal 3 does not apply
 abbrev pub Rows-fit : Program → Type 0
@@ -75,10 +75,6 @@ module _ {p : Program} where
   stands-at : {xs below : List Item} {r e : ℕ} (s : ℕ) → r ≤ s → s ≤ e → Stands p xs below r e → (us : List Item) × Stands p us below s e
   stands-at {xs} {below} {r} {e} s lo hi h = at-in (s - r) xs (omega arith) hi h
 
-  none-left : (us : List Item) {below : List Item} {e : ℕ} → Stands p us below e e → Reached p below e
-  none-left [] h = h .reached
-  none-left (u ∷ us) {below} {e} h = let w = spans-takes (h .spans) in absurd (omega arith)
-
   one-left : (us : List Item) {below : List Item} {s e : ℕ} → s < e → Stands p us below s e → Inside p below s e
   one-left [] {below} {s} {e} l h = let w = spans-unique (spans-none s) (h .spans) in absurd (omega arith)
   one-left (u ∷ us) l h = record { item = u; items = us; stands = h }
@@ -86,9 +82,7 @@ module _ {p : Program} where
   -- where the items end, what is below them is reached
   pub stands-past : {xs below : List Item} {r e : ℕ} → Stands p xs below r e → Reached p below e
   stands-past {xs} {below} {r} {e} h =
-      let w = spans-range (h .spans) in
-      let (us, k) = stands-at e (w .0) (omega arith) h in
-      none-left us k
+      record { ahead = ahead-past (step p) (p .rows) (whole p) (size p - r) r e xs below (h .reached .ahead) (h .spans .reads) }
 
   -- Nesting: a row inside items is taken by an item of theirs.
   pub stands-inside : {xs below : List Item} {r e : ℕ} (s : ℕ) → r ≤ s → s < e → Stands p xs below r e → Inside p below s e

@@ -1,5 +1,5 @@
 use native.Mathlib.Omega.{arith}
-use mathlib.Core.Path.{ap}
+use mathlib.Core.Path.{refl, ap}
 use lib.ListN.{length, getD}
 use Rattle.model.specs.Verify.{verdict}
 use Rattle.model.specs.Demands.{Bytes}
@@ -32,7 +32,8 @@ returns c =
     let bytes : Bytes b = λ i. c .before .before .before .before .before .before .shared-slice-known .given i .fits in
     let v = c .before .before .verify .ensures in
     let n = ap (λ xs. getD xs 0 0) (v .0) in
-    (n, (ap (λ xs. getD xs 1 0) (v .0), (ap length (v .1 .0), (v .1 .1 .0, promised b (o .args .lent .now) _ _ n bytes (v .1 .1 .0)))))
+    let p = ap (λ xs. getD xs 1 0) (v .0) in
+    (n, (p, (ap length (v .1 .0), (v .1 .1 .0, promised b (o .args .lent .now) _ _ _ _ n p bytes (v .1 .1 .0) refl))))
 
 pub delungkaw-verify-spec : {M : Type 1} → statement M
 delungkaw-verify-spec =

@@ -1,7 +1,7 @@
 use mathlib.Core.Path.{ap, _∙_}
 use Rattle.model.specs.Verdict.{number, place}
 use Rattle.model.specs.Demands.{Bytes}
-use Rattle.verifier.proofs.Promised.{both, nothing-changed, sound-exactly, system-put, runs-followed}
+use Rattle.verifier.proofs.Promised.{both, promised}
 use borrow.Author.Needs.{needs}
 use Rattle.verifier.proofs.verify.Statement.{statement}
 use Rattle.verifier.proofs.verify.Tie as tie
@@ -9,11 +9,8 @@ use Rattle.verifier.proofs.verify.Tie as tie
 verdict-of-requires : tie.Need-verdict-of-requires
 verdict-of-requires c κs = search needs
 
-number-of-requires : tie.Need-number-of-requires
-number-of-requires c κs = search needs
-
-place-of-requires : tie.Need-place-of-requires
-place-of-requires c κs = search needs
+told-of-requires : tie.Need-told-of-requires
+told-of-requires c κs = search needs
 
 part-of-requires : tie.Need-part-of-requires
 part-of-requires c κs = search needs
@@ -28,18 +25,17 @@ returns c =
     let l = o .args .lent .now in
     let bytes : Bytes b = λ i. c .before .before .before .before .before .before .before .before .before .shared-slice-known .given i .fits in
     let v = c .before .before .before .before .before .before .verdict-of .ensures in
-    let part = c .part-of .ensures in (
-      both _ _ _ _ (c .before .before .before .number-of .ensures ∙ ap number (v .0)) (c .before .before .place-of .ensures ∙ ap place (v .0)),
-      (part, (v .1, (nothing-changed b l _ _ (v .1) part, (sound-exactly b l bytes, (system-put b l _ (v .1), runs-followed b l _ bytes (v .1)))))),
-    )
+    let part = c .part-of .ensures in
+    let n = c .before .before .before .number-of .ensures ∙ ap number (v .0) in
+    let p = c .before .before .place-of .ensures ∙ ap place (v .0) in
+    (both _ _ _ _ n p, (part, (v .1, promised b l _ _ _ _ n p bytes (v .1) part)))
 
 pub verify-spec : {M : Type 1} → statement M
 verify-spec =
     tie.close
     (tie.spec
     verdict-of-requires
-    number-of-requires
-    place-of-requires
+    told-of-requires
     part-of-requires
     same-length
     returns)
