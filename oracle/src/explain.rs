@@ -4,7 +4,7 @@ use crate::limits;
 use crate::message::{Columns, Message};
 use crate::refusal::{self, Detail, Refusal, Want};
 use crate::symbols::Symbols;
-use crate::verify::{verify_in_detail, Read};
+use crate::verify::{Read, verify_in_detail};
 
 /// The verdict of a message for a person, with so many words lent.
 pub fn explain(bytes: &[u8], lent: usize) -> String {
@@ -36,8 +36,8 @@ struct Explainer<'a> {
 /// The trade's word for a refusal.
 pub fn trade_word(number: u32) -> &'static str {
     const WORDS: [&str; 15] = [
-        "safe", "length", "size", "row", "name", "scope", "bad", "entry", "open", "counters", "ceiling", "start", "met",
-        "leak", "space",
+        "safe", "length", "size", "row", "name", "scope", "bad", "entry", "open", "counters", "ceiling", "start",
+        "met", "leak", "space",
     ];
     WORDS.get(number as usize).copied().unwrap_or("unknown")
 }
@@ -93,7 +93,11 @@ impl Explainer<'_> {
             Detail::Wanted("the end of the message") => format!("{place}: the ceilings end here, but bytes follow"),
             _ => format!("{place}: the part that begins here is not whole"),
         };
-        (what, self.wanted(), "send the whole message, each part as long as its sizes say, and nothing behind it".to_string())
+        (
+            what,
+            self.wanted(),
+            "send the whole message, each part as long as its sizes say, and nothing behind it".to_string(),
+        )
     }
 
     fn size(&self) -> (String, String, String) {
@@ -106,7 +110,9 @@ impl Explainer<'_> {
     /// A row of the program in words.
     fn row_words(&self, row: usize) -> String {
         let pair = self.message().filter(|m| row < m.rows).map(|m| m.program.pair(row));
-        pair.map_or(format!("row {row}: past the last row"), |(tag, number)| format!("row {row}, which is ({tag}, {number})"))
+        pair.map_or(format!("row {row}: past the last row"), |(tag, number)| {
+            format!("row {row}, which is ({tag}, {number})")
+        })
     }
 
     fn row(&self) -> (String, String, String) {
@@ -130,7 +136,9 @@ impl Explainer<'_> {
         let program = self.read.program.as_ref();
         let binder = program.and_then(|p| p.binders.iter().find(|b| b.name == number));
         let bound = binder.map_or(String::new(), |b| match b.from < b.until {
-            true => format!("; name {number} is bound in row {} and holds in rows {} to {}", b.row, b.from, b.until - 1),
+            true => {
+                format!("; name {number} is bound in row {} and holds in rows {} to {}", b.row, b.from, b.until - 1)
+            }
             false => format!("; name {number} is bound in row {} and holds in no row", b.row),
         });
         let what = format!("{}{bound}", self.row_words(row));
@@ -155,10 +163,20 @@ impl Explainer<'_> {
     fn entry(&self) -> (String, String, String) {
         let what = self.message().map_or(String::new(), |m| {
             let i = self.refusal.position.saturating_sub(m.tables.at);
-            let list = if i < m.flow { "flow" } else if i < m.flow + m.mail { "mail" } else { "states" };
+            let list = if i < m.flow {
+                "flow"
+            } else if i < m.flow + m.mail {
+                "mail"
+            } else {
+                "states"
+            };
             format!("{} of the tables, in the list of {list}", self.entry_words("entry", &m.tables))
         });
-        (what, self.wanted(), "sort each list, drop entries that stand twice, keep to names, values, classes and heads".to_string())
+        (
+            what,
+            self.wanted(),
+            "sort each list, drop entries that stand twice, keep to names, values, classes and heads".to_string(),
+        )
     }
 
     fn want(&self, want: &Want) -> String {
@@ -168,7 +186,11 @@ impl Explainer<'_> {
                 format!("flow entry ({name}, {value}): {} may hold {}", symbols.name(name), symbols.value(value))
             }
             Want::Mail { class, value } => {
-                format!("mail entry ({class}, {value}): a mailbox of {} may hold {}", symbols.class(class), symbols.value(value))
+                format!(
+                    "mail entry ({class}, {value}): a mailbox of {} may hold {}",
+                    symbols.class(class),
+                    symbols.value(value)
+                )
             }
             Want::State { class, head } => format!("state entry ({class}, {head}): {}", symbols.state(class, head)),
         }
@@ -186,7 +208,11 @@ impl Explainer<'_> {
             (Some((i, (class, head))), Some(symbols)) => format!("state {i}: {}", symbols.state(class, head)),
             _ => "the size F: an opening entry is missing".to_string(),
         };
-        (what, wanted, "add this entry, then verify again: it may want others (`oracle assemble` finds them all)".to_string())
+        (
+            what,
+            wanted,
+            "add this entry, then verify again: it may want others (`oracle assemble` finds them all)".to_string(),
+        )
     }
 
     fn counters(&self) -> (String, String, String) {
@@ -195,7 +221,11 @@ impl Explainer<'_> {
             _ => 0,
         };
         let what = format!("the size S: states and letters make {count} counters");
-        (what, format!("at most {} counters", limits::COUNTERS), "make the station smaller or drop entries that are not needed".to_string())
+        (
+            what,
+            format!("at most {} counters", limits::COUNTERS),
+            "make the station smaller or drop entries that are not needed".to_string(),
+        )
     }
 
     fn bound(&self) -> (String, String, String) {
@@ -242,7 +272,12 @@ impl Explainer<'_> {
         };
         let what = format!("ceiling {bound}: {}", self.limits(bound));
         let wanted = format!("one ceiling over all that rule {rule} makes of it: {words}");
-        (what, wanted, "raise a limit or add a ceiling that holds the result (65534 and one more lies under 65535 only)".to_string())
+        (
+            what,
+            wanted,
+            "raise a limit or add a ceiling that holds the result (65534 and one more lies under 65535 only)"
+                .to_string(),
+        )
     }
 
     fn space(&self) -> (String, String, String) {

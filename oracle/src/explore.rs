@@ -97,17 +97,23 @@ fn fitting(limits: &[Limits]) -> Result<(), Failure> {
     let entries: usize = limits.iter().map(|l| 1 + l.iter().filter(|&&limit| limit > 0).count()).sum();
     let (most, most_entries) = (limits::BOUNDS.1 as usize, limits::BOUND_ENTRIES.1 as usize);
     if limits.len() > most {
-        return Err(Failure::TooLarge(format!("{} ceilings would be needed, at most {most} are allowed", limits.len())));
+        return Err(Failure::TooLarge(format!(
+            "{} ceilings would be needed, at most {most} are allowed",
+            limits.len()
+        )));
     }
     if entries > most_entries {
-        return Err(Failure::TooLarge(format!("{entries} ceiling entries would be needed, at most {most_entries} are allowed")));
+        return Err(Failure::TooLarge(format!(
+            "{entries} ceiling entries would be needed, at most {most_entries} are allowed"
+        )));
     }
     Ok(())
 }
 
 /// True if no limit of `lesser` is above that of `greater`. By lanes, which the compiler does at once.
 fn covers(greater: &[u16], lesser: &[u16]) -> bool {
-    let above = |lesser: &[u16], greater: &[u16]| lesser.iter().zip(greater).fold(0, |a, (l, g)| a | l.saturating_sub(*g));
+    let above =
+        |lesser: &[u16], greater: &[u16]| lesser.iter().zip(greater).fold(0, |a, (l, g)| a | l.saturating_sub(*g));
     lesser.chunks(LANES).zip(greater.chunks(LANES)).all(|(l, g)| above(l, g) == 0)
 }
 

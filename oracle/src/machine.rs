@@ -83,8 +83,13 @@ pub struct Machine<'a> {
 impl<'a> Machine<'a> {
     /// The starting process alone. The program must have passed the checks up to 5.
     pub fn new(program: &'a Program) -> Machine<'a> {
-        let mut machine =
-            Machine { program, processes: Vec::new(), values: Vec::new(), store: Vec::new(), named: vec![None; program.names] };
+        let mut machine = Machine {
+            program,
+            processes: Vec::new(),
+            values: Vec::new(),
+            store: Vec::new(),
+            named: vec![None; program.names],
+        };
         for function in program.named() {
             machine.named[function.name] = Some(machine.values.len());
             machine.values.push(Value::Function { row: function.row, bindings: None });
@@ -203,7 +208,14 @@ impl<'a> Machine<'a> {
         }
     }
 
-    fn call(&mut self, number: usize, call: Row, bindings: Bindings, callee: Name, args: &[Name]) -> Result<Deed, Idle> {
+    fn call(
+        &mut self,
+        number: usize,
+        call: Row,
+        bindings: Bindings,
+        callee: Name,
+        args: &[Name],
+    ) -> Result<Deed, Idle> {
         let stopped = Idle::Stopped("the value can't be called with that count");
         let (row, mut inner) = self.callable(bindings, callee, args.len()).ok_or(stopped)?;
         let values = self.look_up_all(bindings, args).ok_or(stopped)?;

@@ -2,7 +2,7 @@
 
 mod commands;
 
-use commands::{against, assemble, corpus, disassemble, explain, fuzz, hostile, run, time, verify, Answer};
+use commands::{Answer, against, assemble, corpus, disassemble, explain, fuzz, hostile, run, time, verify};
 use std::io::Write;
 use std::process::ExitCode;
 

@@ -1,11 +1,11 @@
 //! A run shown step by step: the station, and beside it the counters.
 
-use crate::counters::{rule_of, Beside, Counts};
+use crate::counters::{Beside, Counts, rule_of};
 use crate::machine::{Deed, Idle, Machine, Step};
 use crate::symbols::Symbols;
 use crate::system::System;
 use crate::tables::Tables;
-use crate::verify::{inspect, Read};
+use crate::verify::{Read, inspect};
 use std::fmt::Write;
 
 /// Shows a run. A program that passed the checks up to 5 can run; the counters run beside it

@@ -1,6 +1,6 @@
 //! `oracle assemble FILE [OUT]`
 
-use super::{read_text, Answer};
+use super::{Answer, read_text};
 use oracle::text::assemble;
 use std::io::Write;
 

@@ -1,6 +1,6 @@
 //! `oracle disassemble FILE`
 
-use super::{read_message, Answer};
+use super::{Answer, read_message};
 use oracle::text::disassemble;
 
 pub fn command(args: &[String]) -> Answer {

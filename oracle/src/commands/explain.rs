@@ -1,6 +1,6 @@
 //! `oracle explain [--lend N] FILE`
 
-use super::{number, read_message, Answer};
+use super::{Answer, number, read_message};
 use oracle::{explain, limits};
 
 pub fn command(args: &[String]) -> Answer {

@@ -17,7 +17,8 @@ use std::io::Read;
 
 /// What a command for the proved code says in a build that does not have it.
 #[cfg(not(feature = "proved"))]
-pub const WITHOUT_PROVED: &str = "built without the proved code: run `rt staticlib verifier`, then build with `--features proved`";
+pub const WITHOUT_PROVED: &str =
+    "built without the proved code: run `rt staticlib verifier`, then build with `--features proved`";
 
 /// What a command gives: text for standard output, or a word on what went wrong.
 pub type Answer = Result<String, String>;

@@ -1,6 +1,6 @@
 //! `oracle run FILE NUMBERS...`
 
-use super::{number, read_message, Answer};
+use super::{Answer, number, read_message};
 use oracle::run;
 
 /// A number, or `N*K` for the same number K times.

@@ -1,6 +1,6 @@
 //! `oracle time FILE...`: how long the verifier takes.
 
-use super::{read_message, Answer};
+use super::{Answer, read_message};
 use oracle::verify::verify;
 use std::fmt::Write;
 use std::time::Instant;

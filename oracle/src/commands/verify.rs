@@ -1,6 +1,6 @@
 //! `oracle verify [--lend N] FILE...`
 
-use super::{number, read_message, Answer};
+use super::{Answer, number, read_message};
 use oracle::{limits, listing};
 
 struct Options {

@@ -1,7 +1,7 @@
 //! Text to message, with the least closed tables and explored bounds (01: ceilings).
 
 use super::ast::{Bad, Station};
-use super::lower::{lower, Lowered};
+use super::lower::{Lowered, lower};
 use super::parser::parse;
 use crate::evidence;
 use crate::explore::Failure;
@@ -44,7 +44,8 @@ fn assemble_here(text: &str) -> Result<Assembled, String> {
     let station = parse(text)?;
     let lowered = lower(&station)?;
     let mut m = bare(&lowered, station.constructors.len(), station.functions.len(), station.bads.len());
-    let refused = |r: crate::refusal::Refusal| format!("the rows are refused: {} at {} ({:?})", r.number, r.position, r.detail);
+    let refused =
+        |r: crate::refusal::Refusal| format!("the rows are refused: {} at {} ({:?})", r.number, r.position, r.detail);
     let (program, bads) = evidence::read(&m).map_err(refused)?;
     let tables = least(&program);
     evidence::put_tables(&mut m, &program, &tables)?;

@@ -4,7 +4,7 @@ use crate::bads::{Bad, Place};
 use crate::limits::UNBOUNDED;
 use crate::program::{Branch, Head, Pattern, Program, Row};
 use crate::symbols::Symbols;
-use crate::verify::{inspect, Read};
+use crate::verify::{Read, inspect};
 use std::fmt::Write;
 
 /// The text of a message, or a word if not even its rows can be read.
@@ -43,7 +43,8 @@ impl Writer<'_> {
 
     fn program(&mut self) {
         let arities = self.program.arities.iter().enumerate();
-        let constructors: Vec<String> = arities.map(|(i, arity)| format!("{}/{arity}", self.symbols.constructor(i))).collect();
+        let constructors: Vec<String> =
+            arities.map(|(i, arity)| format!("{}/{arity}", self.symbols.constructor(i))).collect();
         if !constructors.is_empty() {
             self.line(0, &format!("constructors {}.", constructors.join(", ")));
         }
@@ -194,7 +195,9 @@ impl Writer<'_> {
         self.line(0, "% ceilings: most of each counter, 0 where none is named");
         for (i, limits) in bounds.limits.iter().enumerate() {
             let held = limits.iter().enumerate().filter(|&(_, &limit)| limit > 0);
-            let words: Vec<String> = held.map(|(c, &limit)| format!("{}<={}", self.symbols.counter(tables, system, c), shown(limit))).collect();
+            let words: Vec<String> = held
+                .map(|(c, &limit)| format!("{}<={}", self.symbols.counter(tables, system, c), shown(limit)))
+                .collect();
             self.line(0, &format!("%   {i}: {}", words.join(" ")));
         }
     }

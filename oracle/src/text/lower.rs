@@ -342,7 +342,8 @@ impl<'a> Lower<'a> {
             return Err(format!("line {}: {name} twice in one pattern; each would bind afresh", branch.line));
         }
         if self.in_scope(name).is_some() {
-            let warning = format!("line {}: {name} binds afresh here, it is not compared with {name} above", branch.line);
+            let warning =
+                format!("line {}: {name} binds afresh here, it is not compared with {name} above", branch.line);
             self.warnings.push(warning);
         }
         let binder = self.fresh(Some(name));
