@@ -26,6 +26,7 @@ pub mod refusal;
 pub mod run;
 pub mod set;
 pub mod stack;
+pub mod store;
 pub mod stress;
 pub mod symbols;
 pub mod system;
