@@ -2,8 +2,10 @@
 
 mod commands;
 
-use commands::{Answer, against, assemble, corpus, disassemble, explain, fuzz, hostile, run, time, verify};
-use std::io::Write;
+use commands::output::say;
+use commands::{
+    Answer, NO_VERDICT, against, assemble, corpus, disassemble, explain, fuzz, hostile, run, time, told, verify,
+};
 use std::process::ExitCode;
 
 const USAGE: &str = "oracle verify [--lend N] FILE...      number, place and listing (- for standard input)
@@ -39,24 +41,24 @@ fn answer(command: &str, args: &[String]) -> Answer {
         "explain" => explain::command(args),
         "assemble" => assemble::command(args),
         "disassemble" => disassemble::command(args),
+        "-h" | "--help" | "help" => told(&format!("{USAGE}\n")),
         _ => Err(USAGE.to_string()),
     }
 }
 
 fn main() -> ExitCode {
-    let args: Vec<String> = std::env::args().skip(1).collect();
+    let args: Vec<String> = std::env::args_os().skip(1).map(|arg| arg.to_string_lossy().into_owned()).collect();
     let (command, rest) = match args.split_first() {
         Some((command, rest)) => (command.as_str(), rest),
         None => ("", &[][..]),
     };
-    match answer(command, rest) {
-        Ok(text) => match std::io::stdout().write_all(text.as_bytes()) {
-            Ok(()) => ExitCode::SUCCESS,
-            Err(_) => ExitCode::from(2),
-        },
-        Err(word) => {
-            eprintln!("{word}");
-            ExitCode::from(2)
+    let status = match std::panic::catch_unwind(|| answer(command, rest)) {
+        Ok(Ok(status)) => status,
+        Ok(Err(word)) => {
+            say(&word);
+            NO_VERDICT
         }
-    }
+        Err(_) => NO_VERDICT,
+    };
+    ExitCode::from(status)
 }

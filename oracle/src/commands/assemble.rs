@@ -17,7 +17,7 @@ pub fn command(args: &[String]) -> Answer {
     }
     .map_err(|e| e.to_string())?;
     match assembled.safe {
-        true => Ok(String::new()),
+        true => Ok(super::DONE),
         false => Err("the message will be refused; `oracle explain` tells where".to_string()),
     }
 }

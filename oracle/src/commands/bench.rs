@@ -1,6 +1,6 @@
 //! `oracle bench`: how long the proved code and `verify` take, as Markdown.
 
-use super::{Answer, read_message};
+use super::{Answer, read_message, told};
 use oracle::stress::growth::{self, Family};
 use oracle::stress::{self, Sample, honest};
 use oracle::verify::{self, Outcome};
@@ -14,6 +14,9 @@ const PLENTY: usize = 1 << 20;
 const TIMES: usize = 201;
 const UNTIL: Duration = Duration::from_millis(600);
 const EXAMPLES: &str = concat!(env!("CARGO_MANIFEST_DIR"), "/../examples");
+
+/// A page, or a part of it.
+type Text = Result<String, String>;
 
 /// Middle times of one call, in microseconds.
 struct Times {
@@ -73,7 +76,7 @@ fn sizes(message: &[u8]) -> String {
 const SIZES: &str = "rows | flow | mail | states | ceilings | entries";
 
 /// A table of messages, one a line.
-fn table(title: &str, samples: &[Sample], lent: &mut [u32]) -> Answer {
+fn table(title: &str, samples: &[Sample], lent: &mut [u32]) -> Text {
     let mut text = format!("## {title}\n\n| message | verdict | {SIZES} | proved | oracle | ratio |\n");
     text.push_str("|---|--:|--:|--:|--:|--:|--:|--:|--:|--:|--:|\n");
     for Sample { name, verdict, message, .. } in samples {
@@ -93,7 +96,7 @@ fn table(title: &str, samples: &[Sample], lent: &mut [u32]) -> Answer {
 }
 
 /// A table of one family; `more` is the time against that of the line before.
-fn grown(family: &Family, lent: &mut [u32]) -> Answer {
+fn grown(family: &Family, lent: &mut [u32]) -> Text {
     let mut text = format!("### {}\n\n| size | {SIZES} | proved | oracle | ratio | more |\n", family.about);
     text.push_str("|--:|--:|--:|--:|--:|--:|--:|--:|--:|--:|--:|\n");
     let mut before = None;
@@ -129,7 +132,7 @@ fn machine() -> String {
     name.unwrap_or("an unknown processor").to_string()
 }
 
-fn report() -> Answer {
+fn report() -> Text {
     let mut lent = vec![0; PLENTY];
     let mut text = format!(
         "# Performance\n\nThe middle time of one call, the proved code and `oracle verify` in turn in one process, on {}.\n\n",
@@ -147,7 +150,7 @@ fn report() -> Answer {
 
 pub fn command(args: &[String]) -> Answer {
     match args {
-        [] => stack::with_stack(proved::STACK, report)?,
+        [] => told(&stack::with_stack(proved::STACK, report)??),
         _ => Err("bench: no words are wanted".to_string()),
     }
 }

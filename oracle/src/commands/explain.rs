@@ -1,6 +1,6 @@
 //! `oracle explain [--lend N] FILE`
 
-use super::{Answer, number, read_message};
+use super::{Answer, number, read_message, told};
 use oracle::{explain, limits};
 
 pub fn command(args: &[String]) -> Answer {
@@ -9,5 +9,5 @@ pub fn command(args: &[String]) -> Answer {
         [file] => (limits::LENT, file),
         _ => return Err("explain: one file is wanted".to_string()),
     };
-    Ok(explain::explain(&read_message(file)?, lent))
+    told(&explain::explain(&read_message(file)?, lent))
 }

@@ -1,6 +1,6 @@
 //! `oracle run FILE NUMBERS...`
 
-use super::{Answer, number, read_message};
+use super::{Answer, number, read_message, told};
 use oracle::run;
 
 /// A number, or `N*K` for the same number K times.
@@ -14,5 +14,5 @@ fn repeated(text: &str) -> Result<Vec<usize>, String> {
 pub fn command(args: &[String]) -> Answer {
     let (file, numbers) = args.split_first().ok_or("run: a file is missing")?;
     let numbers: Result<Vec<Vec<usize>>, String> = numbers.iter().map(|n| repeated(n)).collect();
-    run::show(&read_message(file)?, &numbers?.concat())
+    told(&run::show(&read_message(file)?, &numbers?.concat())?)
 }
