@@ -23,6 +23,7 @@ pub mod program;
 pub mod proved;
 pub mod reader;
 pub mod refusal;
+pub mod replay;
 pub mod run;
 pub mod set;
 pub mod stack;

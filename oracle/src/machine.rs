@@ -80,17 +80,45 @@ impl<'a> Machine<'a> {
         }
     }
 
+    /// Takes calls that were pushed again and again out of a process: the same call with the same bindings right above
+    /// itself, where it only gives back what it gets. Giving back through one or through many of them passes the same
+    /// places with the same bindings, so a loop's states are few and what they lead to is counted the same.
+    pub fn settle(&mut self, number: usize) {
+        let frames = self.processes[number].frames;
+        self.processes[number].frames = self.store.settled(frames, |call| self.program.is_tail_call(call));
+    }
+
     /// The process of this number steps, or tells why it does not.
     pub fn step(&mut self, number: usize) -> Result<Step, Idle> {
         let act = self.next(number)?;
-        let Process { class, location: from, .. } = self.processes[number];
-        let deed = self.act(number, from, act);
-        Ok(Step { class, from, to: self.processes[number].location, deed })
+        let step = self.foreseen(number, &act);
+        self.act(number, act);
+        Ok(step)
     }
 
-    /// Why the process of this number can't step; none if it can.
-    pub fn idle(&self, number: usize) -> Option<Idle> {
-        self.next(number).err()
+    /// The step that the process of this number would take, or why it takes none.
+    pub fn peek(&self, number: usize) -> Result<Step, Idle> {
+        self.next(number).map(|act| self.foreseen(number, &act))
+    }
+
+    fn foreseen(&self, number: usize, act: &Act) -> Step {
+        let process = &self.processes[number];
+        let (to, deed) = match *act {
+            Act::Yield { then, .. } | Act::GiveBack { then, .. } => (then.1, Deed::Inner),
+            Act::Call { body, .. } => (body, Deed::Inner),
+            Act::Send { process, message, then } => {
+                let class = self.processes[process].class;
+                (then.1, Deed::Put { class, letter: self.letter(message), process })
+            }
+            Act::Spawn { head, then, .. } => {
+                (then.1, Deed::New { class: process.location, head, process: self.processes.len() })
+            }
+            Act::Enter { branch, taken: None, .. } => (branch.body, Deed::Inner),
+            Act::Enter { branch, taken: Some(i), .. } => {
+                (branch.body, Deed::Read { letter: self.letter(process.mailbox[i]) })
+            }
+        };
+        Step { class: process.class, from: process.location, to, deed }
     }
 
     fn next(&self, number: usize) -> Result<Act<'a>, Idle> {
@@ -178,50 +206,40 @@ impl<'a> Machine<'a> {
         Ok(Act::Enter { branch, found, taken: Some(i) })
     }
 
-    fn act(&mut self, number: usize, from: Row, act: Act) -> Deed {
+    fn act(&mut self, number: usize, act: Act) {
+        let Process { location: from, bindings, frames, .. } = self.processes[number];
         match act {
             Act::Yield { value, then } => {
                 let value = self.store.add_value(value);
-                self.go_on(number, value, then)
+                self.go_on(number, bindings, value, then);
             }
             Act::GiveBack { value, frame, then } => {
                 self.processes[number].frames = frame.below;
-                self.processes[number].bindings = frame.bindings;
-                self.go_on(number, value, then)
+                self.go_on(number, frame.bindings, value, then);
             }
-            Act::Call { body, bindings, params, args } => {
-                let process = &mut self.processes[number];
-                process.frames =
-                    self.store.pushed(Frame { call: from, bindings: process.bindings, below: process.frames });
-                let named = params.iter().copied().zip(args);
-                self.stand(number, body, bindings, named)
+            Act::Call { body, bindings: inner, params, args } => {
+                self.processes[number].frames = self.store.pushed(Frame { call: from, bindings, below: frames });
+                self.stand(number, body, inner, params.iter().copied().zip(args));
             }
             Act::Send { process, message, then } => {
                 self.processes[process].mailbox.push(message);
-                self.go_on(number, message, then);
-                Deed::Put { class: self.processes[process].class, letter: self.letter(message), process }
+                self.go_on(number, bindings, message, then);
             }
-            Act::Spawn { head, bindings, then } => {
-                let process = self.add_process(from, head, bindings);
+            Act::Spawn { head, bindings: inner, then } => {
+                let process = self.add_process(from, head, inner);
                 let address = self.store.add_value(Value::Address(process));
-                self.go_on(number, address, then);
-                Deed::New { class: from, head, process }
+                self.go_on(number, bindings, address, then);
             }
             Act::Enter { branch, found, taken } => {
-                let bindings = self.processes[number].bindings;
+                taken.map(|i| self.processes[number].mailbox.remove(i));
                 self.stand(number, branch.body, bindings, found.into_iter());
-                match taken.map(|i| self.processes[number].mailbox.remove(i)) {
-                    Some(message) => Deed::Read { letter: self.letter(message) },
-                    None => Deed::Inner,
-                }
             }
         }
     }
 
     /// Binds a head's name and stands at its rest.
-    fn go_on(&mut self, number: usize, value: ValueId, (name, rest): (Name, Row)) -> Deed {
-        let bindings = self.processes[number].bindings;
-        self.stand(number, rest, bindings, std::iter::once((name, value)))
+    fn go_on(&mut self, number: usize, bindings: Bindings, value: ValueId, (name, rest): (Name, Row)) {
+        self.stand(number, rest, bindings, std::iter::once((name, value)));
     }
 
     /// Stands at a head with these bindings and more.
@@ -231,12 +249,11 @@ impl<'a> Machine<'a> {
         location: Row,
         mut bindings: Bindings,
         more: impl Iterator<Item = (Name, ValueId)>,
-    ) -> Deed {
+    ) {
         for (name, value) in more {
             bindings = self.store.bound(bindings, name, value);
         }
         let process = &mut self.processes[number];
         (process.location, process.bindings) = (location, bindings);
-        Deed::Inner
     }
 }

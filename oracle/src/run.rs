@@ -101,7 +101,8 @@ impl Shown<'_> {
     }
 }
 
-fn step_words(symbols: &Symbols, number: usize, step: &Result<Step, Idle>) -> String {
+/// A step in words, or why there is none.
+pub fn step_words(symbols: &Symbols, number: usize, step: &Result<Step, Idle>) -> String {
     match step {
         Ok(step) => {
             let deed = match step.deed {

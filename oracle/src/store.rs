@@ -59,6 +59,8 @@ pub struct Store {
     values: Kept<Value>,
     bindings: Kept<Binding>,
     frames: Kept<Frame>,
+    /// The settled list of each list of pushed calls, where it is known.
+    settled: HashMap<usize, Frames>,
     /// The value of each tag 11 name.
     named: Vec<Option<ValueId>>,
 }
@@ -71,7 +73,7 @@ impl Store {
         for function in program.named() {
             named[function.name] = Some(values.number(Value::Function { row: function.row, bindings: None }));
         }
-        Store { values, bindings: Kept::new(), frames: Kept::new(), named }
+        Store { values, bindings: Kept::new(), frames: Kept::new(), settled: HashMap::new(), named }
     }
 
     pub fn value(&self, id: ValueId) -> &Value {
@@ -93,6 +95,30 @@ impl Store {
     /// The call that was pushed last.
     pub fn frame(&self, frames: Frames) -> Option<Frame> {
         frames.map(|i| self.frames.all[i])
+    }
+
+    /// Pushed calls without those that stand right above the same call with the same bindings and may be left out.
+    pub fn settled(&mut self, frames: Frames, may_be_left_out: impl Fn(Row) -> bool) -> Frames {
+        let mut unknown = Vec::new();
+        let mut at = frames;
+        let mut settled = loop {
+            let Some(i) = at else { break None };
+            if let Some(&known) = self.settled.get(&i) {
+                break known;
+            }
+            unknown.push(i);
+            at = self.frames.all[i].below;
+        };
+        for i in unknown.into_iter().rev() {
+            let Frame { call, bindings, .. } = self.frames.all[i];
+            let again = self.frame(settled).is_some_and(|below| (below.call, below.bindings) == (call, bindings));
+            if !(again && may_be_left_out(call)) {
+                settled = self.pushed(Frame { call, bindings, below: settled });
+                settled.map(|kept| self.settled.insert(kept, settled));
+            }
+            self.settled.insert(i, settled);
+        }
+        settled
     }
 
     pub fn look_up(&self, mut bindings: Bindings, name: Name) -> Option<ValueId> {
