@@ -34,3 +34,4 @@ pub mod system;
 pub mod tables;
 pub mod text;
 pub mod verify;
+pub mod wrap;

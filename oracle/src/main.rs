@@ -8,10 +8,11 @@ use commands::{
 };
 use std::process::ExitCode;
 
-const USAGE: &str = "oracle verify [--lend N] FILE...      number, place and listing (- for standard input)
-oracle explain [--lend N] FILE          the verdict in words
-oracle run FILE NUMBERS...             a station run step by step beside its counters (N*K repeats)
-oracle assemble FILE [OUT]             text to message, with tables and ceilings
+const USAGE: &str = "oracle verify [--lend N] [--quiet] [FILE...]  number, place and listing (- for standard input)
+oracle explain [--lend N] [--station FILE] FILE  the verdict in words
+oracle run [--station FILE] [--random N] [--seed S] FILE [NUMBERS...]
+                                       a station run step by step beside its counters (N*K repeats)
+oracle assemble [--budget N] FILE [OUT]  text to message, with tables and ceilings
 oracle disassemble FILE                message to text
 oracle fuzz SEED COUNT                 random messages through the proved code and `verify` (feature `proved`)
 oracle fuzz-naive SEED COUNT           the same messages through `verify` and a second, naive reading

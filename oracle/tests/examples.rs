@@ -92,12 +92,3 @@ fn safe_ones_keep_demand_3() {
         }
     }
 }
-
-#[test]
-fn the_overflow_is_told_with_its_run() {
-    let text = std::fs::read_to_string(path("examples/overflow.station")).unwrap();
-    let assembled = assemble(&text).unwrap();
-    assert!(!assembled.safe);
-    assert!(assembled.notes[0].contains("bad `overflow` can be met"), "{:?}", assembled.notes);
-    assert!(assembled.notes[0].contains("puts consumer!item"), "{:?}", assembled.notes);
-}

@@ -11,6 +11,7 @@ pub mod fuzz;
 pub mod hostile;
 pub mod output;
 pub mod run;
+pub mod station;
 pub mod time;
 pub mod verify;
 
