@@ -21,7 +21,7 @@ oracle time FILE...                    how long the verifier takes
 oracle corpus SEED COUNT OUT           OUT.bin and OUT.txt: messages of every verdict, what is expected
 oracle check-corpus BIN TXT            verifies a stored corpus anew
 oracle hostile DIR                     writes worst-case messages
-oracle bench                           times of the proved code and of `verify`, as Markdown (feature `proved`)";
+oracle bench [OUT]                     times of the proved code and of `verify`, a page in Markdown (feature `proved`)";
 
 fn answer(command: &str, args: &[String]) -> Answer {
     match command {

@@ -1,4 +1,4 @@
-//! `oracle bench`: how long the proved code and `verify` take, as Markdown.
+//! `oracle bench [OUT]`: how long the proved code and `verify` take, as Markdown.
 
 use super::{Answer, read_message, told};
 use oracle::stress::growth::{self, Family};
@@ -55,7 +55,7 @@ fn measure(message: &[u8], lent: &mut [u32]) -> Result<Times, String> {
 }
 
 /// A time for a person.
-fn told(micros: f64) -> String {
+fn duration(micros: f64) -> String {
     match micros {
         m if m < 1e3 => format!("{m:.1} µs"),
         m if m < 1e6 => format!("{:.1} ms", m / 1e3),
@@ -65,7 +65,7 @@ fn told(micros: f64) -> String {
 
 /// The columns with both times and their ratio.
 fn columns(times: &Times) -> String {
-    format!("{} | {} | {:.1}", told(times.proved), told(times.own), times.proved / times.own)
+    format!("{} | {} | {:.1}", duration(times.proved), duration(times.own), times.proved / times.own)
 }
 
 fn sizes(message: &[u8]) -> String {
@@ -132,11 +132,16 @@ fn machine() -> String {
     name.unwrap_or("an unknown processor").to_string()
 }
 
+/// The first line of the page. What does not begin so was written by somebody else and is not overwritten.
+const MARK: &str =
+    "<!-- Made by `oracle bench`, which writes it anew: words of your own belong into PERFORMANCE.md. -->";
+
 fn report() -> Text {
     let mut lent = vec![0; PLENTY];
+    let (processor, cores) = (machine(), std::thread::available_parallelism().map_or(1, usize::from));
     let mut text = format!(
-        "# Performance\n\nThe middle time of one call, the proved code and `oracle verify` in turn in one process, on {}.\n\n",
-        machine()
+        "{MARK}\n# Benchmark\n\nThe middle time of one call, the proved code and `oracle verify` in turn in one process, on {processor} \
+         ({cores} cores).\n\n"
     );
     text.push_str(&table("Examples", &examples()?, &mut lent)?);
     text.push_str(&table("Honest messages near the limits", &honest::honest()?, &mut lent)?);
@@ -148,9 +153,25 @@ fn report() -> Text {
     Ok(text.trim_end().to_string() + "\n")
 }
 
+/// A word if the page would overwrite something else.
+fn free_to_write(path: &str) -> Result<(), String> {
+    match std::fs::read_to_string(path) {
+        Ok(text) if !text.starts_with(MARK) => Err(format!("{path} was not made by `oracle bench`: it stays as it is")),
+        Err(e) if e.kind() != std::io::ErrorKind::NotFound => Err(format!("{path}: {e}")),
+        _ => Ok(()),
+    }
+}
+
+/// The page on standard output, or in a file of its own.
 pub fn command(args: &[String]) -> Answer {
     match args {
         [] => told(&stack::with_stack(proved::STACK, report)??),
-        _ => Err("bench: no words are wanted".to_string()),
+        [path] => {
+            free_to_write(path)?;
+            let page = stack::with_stack(proved::STACK, report)??;
+            std::fs::write(path, page).map_err(|e| format!("{path}: {e}"))?;
+            Ok(super::DONE)
+        }
+        _ => Err("oracle bench [OUT]".to_string()),
     }
 }
