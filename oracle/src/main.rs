@@ -8,11 +8,14 @@ use commands::{
 };
 use std::process::ExitCode;
 
-const USAGE: &str = "oracle verify [--lend N] [--quiet] [FILE...]  number, place and listing (- for standard input)
-oracle explain [--lend N] [--station FILE] FILE  the verdict in words
+const USAGE: &str = "oracle verify [--lend N] [--quiet] [FILE...]
+    number and place; if safe the listing (- or no file: standard input). Status 0 safe, 1 refused, 2 no verdict
+oracle explain [--lend N] [--station FILE] FILE
+    the verdict in words, with the names of NAME.station beside NAME.msg. Status as verify
 oracle run [--station FILE] [--random N] [--seed S] FILE [NUMBERS...]
-                                       a station run step by step beside its counters (N*K repeats)
-oracle assemble [--budget N] FILE [OUT]  text to message, with tables and ceilings
+    a station run step by step beside its counters (N*K is K times process N). Status 1 where a bad is met
+oracle assemble [--budget N] FILE [OUT]
+    text to message, with tables and ceilings; what was found goes to standard error. Status as verify
 oracle disassemble FILE                message to text
 oracle fuzz SEED COUNT                 random messages through the proved code and `verify` (feature `proved`)
 oracle fuzz-naive SEED COUNT           the same messages through `verify` and a second, naive reading
@@ -21,7 +24,7 @@ oracle time FILE...                    how long the verifier takes
 oracle corpus SEED COUNT OUT           OUT.bin and OUT.txt: messages of every verdict, what is expected
 oracle check-corpus BIN TXT            verifies a stored corpus anew
 oracle hostile DIR                     writes worst-case messages
-oracle bench [OUT]                     times of the proved code and of `verify`, a page in Markdown (feature `proved`)";
+oracle bench [OUT]                     times of the proved code and of `verify`, a page of its own (feature `proved`)";
 
 fn answer(command: &str, args: &[String]) -> Answer {
     match command {

@@ -122,7 +122,7 @@ pub enum Search {
 }
 
 /// Numbers kept for one state of the search, at most, on the average.
-const MOST_KEPT: usize = 64;
+const MOST_KEPT: usize = 16;
 /// What stands for a distance where there is no way.
 const FAR: usize = 1 << 10;
 

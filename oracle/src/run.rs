@@ -47,7 +47,7 @@ pub fn show(message: &[u8], words: Option<&Words>, wanted: &Wanted) -> Result<Sh
             let beside = Beside::new(program, tables, system, bounds, bads);
             Station::Beside(Box::new(beside.ok_or("no starting state")?))
         }
-        _ => Station::Alone(Machine::new(program)),
+        _ => Station::Alone(Box::new(Machine::new(program))),
     };
     let mut show = Show {
         symbols: &symbols,
@@ -68,7 +68,7 @@ pub fn show(message: &[u8], words: Option<&Words>, wanted: &Wanted) -> Result<Sh
 /// The station beside its counters, or alone where its tables are not closed.
 enum Station<'a> {
     Beside(Box<Beside<'a>>),
-    Alone(Machine<'a>),
+    Alone(Box<Machine<'a>>),
 }
 
 struct Show<'a> {

@@ -1,4 +1,4 @@
-//! `oracle verify` as a script uses it: 0 safe, 1 refused, 2 no verdict.
+//! The program as a script uses it: 0 safe, 1 refused, 2 no verdict.
 
 mod common;
 
@@ -6,10 +6,15 @@ use common::path;
 use std::fs::File;
 use std::process::{Command, Output, Stdio};
 
-fn verify(args: &[&str]) -> Command {
+/// The program in the folder of the examples.
+fn oracle(args: &[&str]) -> Command {
     let mut command = Command::new(env!("CARGO_BIN_EXE_oracle"));
-    command.arg("verify").args(args).current_dir(path("examples")).stdin(Stdio::null());
+    command.args(args).current_dir(path("examples")).stdin(Stdio::null());
     command
+}
+
+fn verify(args: &[&str]) -> Command {
+    oracle(&[&["verify"], args].concat())
 }
 
 fn output(args: &[&str]) -> Output {
@@ -78,6 +83,50 @@ fn the_verdict_is_told_in_words() {
     assert_eq!(words(&["station-a.msg"]), "safe\n");
     assert_eq!(words(&["overflow.msg"]), "refused: 12 met, word 64\n");
     assert_eq!(words(&["--lend", "23", "station-a.msg"]), "refused: 14 space, 24 words needed\n");
-    assert!(words(&["nowhere.msg"]).starts_with("no verdict: nowhere.msg: "));
+    assert!(words(&["nowhere.msg"]).starts_with("no verdict: No such file"));
     assert_eq!(words(&["--quiet", "overflow.msg"]), "");
+}
+
+/// Status and standard output of any command.
+fn told(args: &[&str]) -> (Option<i32>, String) {
+    let output = oracle(args).output().expect("the program runs");
+    (output.status.code(), String::from_utf8_lossy(&output.stdout).into_owned())
+}
+
+#[test]
+fn explain_has_the_same_statuses_and_takes_the_names_beside_the_message() {
+    let (status, words) = told(&["explain", "overflow.msg"]);
+    assert_eq!(status, Some(1));
+    assert!(words.contains("bad `overflow`, consumer holds item >= 10"), "{words}");
+    let (status, words) = told(&["explain", "--station", "pool.station", "overflow.msg"]);
+    assert_eq!(status, Some(1));
+    assert!(words.contains("bad 0, r22 holds c0 >= 10"), "{words}");
+    assert!(words.contains("names:  numbers only: pool.station is the text of another program"), "{words}");
+    assert_eq!(told(&["explain", "pool.msg"]).0, Some(0));
+    assert_eq!(told(&["explain", "nowhere.msg"]).0, Some(2));
+    assert_eq!(told(&["explain", "--station", "nowhere.station", "pool.msg"]).0, Some(2));
+}
+
+#[test]
+fn run_is_1_where_a_bad_is_met() {
+    assert_eq!(told(&["run", "overflow.msg", "0*30"]).0, Some(0));
+    let (status, words) = told(&["run", "overflow.msg", "0*31"]);
+    assert_eq!(status, Some(1));
+    assert!(words.contains("!! bad `overflow` is met"), "{words}");
+    assert_eq!(told(&["run", "pool.msg", "--random", "40", "--seed", "3"]).0, Some(0));
+    assert_eq!(told(&["run", "/dev/null", "0"]).0, Some(2));
+    assert_eq!(told(&["run", "pool.msg", "first"]).0, Some(2));
+}
+
+#[test]
+fn assemble_has_the_status_of_the_message_that_it_writes() {
+    let message = |args: &[&str]| oracle(args).output().expect("the program runs");
+    let safe = message(&["assemble", "pool.station"]);
+    assert_eq!(safe.status.code(), Some(0));
+    assert_eq!(safe.stdout, std::fs::read(path("examples/pool.msg")).unwrap());
+    assert_eq!(message(&["assemble", "overflow.station"]).status.code(), Some(1));
+    assert_eq!(message(&["assemble", "--budget", "10", "pool.station"]).status.code(), Some(1));
+    assert_eq!(message(&["assemble", "README.md"]).status.code(), Some(2));
+    assert_eq!(message(&["assemble", "pool.station", "nowhere/pool.msg"]).status.code(), Some(2));
+    assert_eq!(shell(r#""$oracle" assemble pool.station >/dev/full"#), Some(2));
 }

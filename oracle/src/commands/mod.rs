@@ -41,15 +41,19 @@ pub fn told(text: &str) -> Answer {
 }
 
 /// Bytes of a file, or of standard input for `-`; no more than settle a verdict.
-pub fn read_message(path: &str) -> Result<Vec<u8>, String> {
+pub fn read_bytes(path: &str) -> Result<Vec<u8>, String> {
     let most = oracle::limits::LONGEST as u64 + 1;
     let mut bytes = Vec::new();
     let read = match path {
         "-" => output::input()?.take(most).read_to_end(&mut bytes),
         _ => std::fs::File::open(path).and_then(|file| file.take(most).read_to_end(&mut bytes)),
     };
-    read.map_err(|e| format!("{}: {e}", printable(path)))?;
-    Ok(bytes)
+    read.map(|_| bytes).map_err(|e| e.to_string())
+}
+
+/// The same, with the file's name in what went wrong.
+pub fn read_message(path: &str) -> Result<Vec<u8>, String> {
+    read_bytes(path).map_err(|e| format!("{}: {e}", printable(path)))
 }
 
 pub fn read_text(path: &str) -> Result<String, String> {

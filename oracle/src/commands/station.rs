@@ -20,14 +20,12 @@ pub fn names(named: Option<&String>, file: &str, message: &[u8]) -> Result<Names
         None if file != "-" && beside != file && Path::new(&beside).is_file() => &beside,
         None => return Ok(Names { words: None, note: String::new() }),
     };
-    let unusable = |why: &str| Names { words: None, note: wrapped("names:  ", &format!("not those of {path}: {why}")) };
-    let words = match read_text(path).and_then(|text| Words::read(&text)) {
-        Ok(words) => words,
-        Err(why) if named.is_some() => return Err(format!("{path}: {why}")),
-        Err(why) => return Ok(unusable(&why)),
-    };
-    Ok(match message::read(message) {
-        Ok(m) if !words.fit(&m) => unusable("it is the text of another program"),
-        _ => Names { words: Some(words), note: String::new() },
-    })
+    let unusable = |why: &str| Names { words: None, note: wrapped("names:  ", &format!("numbers only: {why}")) };
+    let words = read_text(path).and_then(|text| Words::read(&text).map_err(|e| format!("{path}: {e}")));
+    match (words, message::read(message)) {
+        (Err(why), _) if named.is_some() => Err(why),
+        (Err(why), _) => Ok(unusable(&why)),
+        (Ok(words), Ok(m)) if !words.fit(&m) => Ok(unusable(&format!("{path} is the text of another program"))),
+        (Ok(words), _) => Ok(Names { words: Some(words), note: String::new() }),
+    }
 }

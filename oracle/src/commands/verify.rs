@@ -1,7 +1,7 @@
 //! `oracle verify [--lend N] [--quiet] [--] [FILE...]`
 
 use super::output::{print, say};
-use super::{Answer, NO_VERDICT, number, printable, read_message, status};
+use super::{Answer, NO_VERDICT, number, printable, read_bytes, status};
 use oracle::explain::trade_word;
 use oracle::refusal::SPACE;
 use oracle::verify::{Outcome, verify};
@@ -45,7 +45,7 @@ impl Options {
     /// The verdict on one file, printed; or a word on why there is none.
     fn printed(&self, file: &str) -> Result<Outcome, String> {
         let mut system = vec![0; self.lent];
-        let outcome = verify(&read_message(file)?, &mut system);
+        let outcome = verify(&read_bytes(file)?, &mut system);
         let text = match self.files.len() {
             1 => listing::listing(&outcome, &system),
             _ => format!("{} {} {}\n", outcome.number, outcome.place, printable(file)),
