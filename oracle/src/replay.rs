@@ -27,6 +27,10 @@ pub struct Parting {
     pub instead: Vec<(usize, Result<Step, Idle>)>,
 }
 
+/// Processes and letters that are kept at most, and processes that are looked at, for each state that may be tried.
+const MOST_KEPT: usize = 16;
+const MOST_LOOKED_AT: usize = 1000;
+
 /// A place to come back to: other processes could have taken the step.
 struct Choice {
     length: usize,
@@ -35,35 +39,76 @@ struct Choice {
 }
 
 /// Process numbers whose steps use these rules in this order; else the farthest place where the station parts from
-/// them. `budget` bounds the steps that are tried.
-pub fn follow(derived: Derived, rules: &[usize], budget: usize) -> Result<Vec<usize>, Parting> {
-    let mut machine = Machine::new(derived.program);
-    let mut numbers = Vec::new();
-    let mut choices: Vec<Choice> = Vec::new();
+/// them, if it was found. `budget` bounds what is tried and kept.
+pub fn follow(derived: Derived, rules: &[usize], budget: usize) -> Result<Vec<usize>, Option<Parting>> {
+    let mut following =
+        Following { machine: Machine::new(derived.program), numbers: Vec::new(), choices: VecDeque::new(), kept: 0 };
     let mut farthest: Option<Parting> = None;
-    let mut left = budget.max(rules.len());
-    while let Some(&rule) = rules.get(numbers.len()) {
-        let (mut usable, instead) = derived.taking(&machine, rule);
-        if usable.is_empty() {
-            let parting = Parting { followed: numbers.len(), instead };
-            let farther = farthest.take().filter(|other| other.followed >= parting.followed).unwrap_or(parting);
-            let Some(mut choice) = choices.pop().filter(|_| left > 0) else { return Err(farther) };
-            farthest = Some(farther);
-            numbers.truncate(choice.length);
-            machine.processes.clone_from(&choice.processes);
-            usable.extend(choice.others.pop());
-            choices.extend(Some(choice).filter(|choice| !choice.others.is_empty()));
-        } else if usable.len() > 1 {
-            let others = usable.drain(1..).rev().collect();
-            choices.push(Choice { length: numbers.len(), processes: machine.processes.clone(), others });
+    let mut left = MOST_LOOKED_AT * budget;
+    while let Some(&rule) = rules.get(following.numbers.len()) {
+        left = left.saturating_sub(1 + following.machine.processes.len());
+        if left == 0 {
+            return Err(farthest);
         }
-        for number in usable {
-            let _ = machine.step(number);
-            numbers.push(number);
+        let (usable, instead) = derived.taking(&following.machine, rule);
+        if !usable.is_empty() {
+            following.choose(usable, MOST_KEPT * budget);
+            continue;
         }
-        left = left.saturating_sub(1);
+        let followed = following.numbers.len();
+        if farthest.as_ref().is_none_or(|other| other.followed < followed) {
+            farthest = Some(Parting { followed, instead });
+        }
+        if !following.go_back() {
+            return Err(farthest);
+        }
     }
-    Ok(numbers)
+    Ok(following.numbers)
+}
+
+struct Following<'a> {
+    machine: Machine<'a>,
+    numbers: Vec<usize>,
+    choices: VecDeque<Choice>,
+    /// Processes in the choices.
+    kept: usize,
+}
+
+impl Following<'_> {
+    /// The first of these processes steps; the others are kept for later, the oldest choices not for ever.
+    fn choose(&mut self, mut usable: Vec<usize>, most_kept: usize) {
+        let number = usable.remove(0);
+        if !usable.is_empty() {
+            usable.reverse();
+            let processes = self.machine.processes.clone();
+            self.kept += processes.len();
+            self.choices.push_back(Choice { length: self.numbers.len(), processes, others: usable });
+        }
+        while self.kept > most_kept {
+            let Some(oldest) = self.choices.pop_front() else { break };
+            self.kept -= oldest.processes.len();
+        }
+        self.step(number);
+    }
+
+    /// Goes back to the last choice and takes another process; false if there is none.
+    fn go_back(&mut self) -> bool {
+        let Some(mut choice) = self.choices.pop_back() else { return false };
+        self.numbers.truncate(choice.length);
+        self.machine.processes.clone_from(&choice.processes);
+        let next = choice.others.pop();
+        match choice.others.is_empty() {
+            true => self.kept -= choice.processes.len(),
+            false => self.choices.push_back(choice),
+        }
+        next.into_iter().for_each(|number| self.step(number));
+        true
+    }
+
+    fn step(&mut self, number: usize) {
+        let _ = self.machine.step(number);
+        self.numbers.push(number);
+    }
 }
 
 /// What a process does, or why it does nothing.
@@ -104,7 +149,7 @@ pub fn judge(derived: Derived, items: &[(usize, u16)], rules: &[usize], whole: b
     let parting = match follow(derived, rules, budget) {
         Ok(numbers) if whole => return Judged::Run(numbers),
         Ok(_) => None,
-        Err(parting) => Some(parting),
+        Err(parting) => parting,
     };
     match search(derived, items, budget) {
         Search::Run(numbers) => Judged::Run(numbers),
@@ -121,8 +166,6 @@ pub enum Search {
     Nothing { tried: usize, all: bool },
 }
 
-/// Numbers kept for one state of the search, at most, on the average.
-const MOST_KEPT: usize = 16;
 /// What stands for a distance where there is no way.
 const FAR: usize = 1 << 10;
 

@@ -6,7 +6,10 @@ pub const WIDTH: usize = 99;
 /// Words behind a label, wrapped; lines after the first are as far in as the label is wide.
 pub fn wrapped(label: &str, words: &str) -> String {
     let indent = " ".repeat(label.chars().count());
-    let room = WIDTH - indent.len().min(WIDTH / 2);
+    if indent.len() > WIDTH / 2 {
+        return wrapped("", &format!("{label}{words}"));
+    }
+    let room = WIDTH - indent.len();
     let mut lines = vec![String::new()];
     for word in words.split(' ').flat_map(|word| pieces(word, room)) {
         match lines.last_mut() {
@@ -40,5 +43,7 @@ mod tests {
         assert!(text.lines().skip(1).all(|line| line.starts_with("        ")), "{text}");
         let without = |text: &str| text.replace([' ', '\n'], "");
         assert_eq!(without(&text), without(&format!("label:{words}")));
+        let long = wrapped(&"l".repeat(70), &words);
+        assert!(long.lines().all(|line| line.chars().count() <= WIDTH), "{long}");
     }
 }

@@ -27,7 +27,7 @@ fn each_stands_in_the_list_of_examples() {
     there.sort();
     listed.sort();
     assert_eq!(there, listed);
-    assert_eq!(examples().len(), 13);
+    assert_eq!(examples().len(), 14);
 }
 
 #[test]

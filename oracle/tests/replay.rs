@@ -53,18 +53,7 @@ const COARSE: &str = "constructors on/0, off/0.
         end.
     bad never: start at wrong.";
 
-/// Messages of one sender come in their order; the counters know no order.
-const ORDER: &str = "constructors a/0, b/0.
-    start ->
-        Me = self(),
-        spawn(fun() -> Me ! a, Me ! b end),
-        receive
-            a -> a;
-            b -> @early b
-        end.
-    bad early: start at early.";
-
-/// As ORDER, but two senders: either may be first.
+/// As the example `false-alarm`, but two senders: either may be first.
 const RACE: &str = "constructors a/0, b/0.
     start ->
         Me = self(),
@@ -111,8 +100,9 @@ fn a_false_alarm_is_told_with_the_place_where_they_part() {
 
 #[test]
 fn the_order_of_a_mailbox_tells_a_false_alarm_from_a_true_one() {
-    assert!(notes(ORDER).contains("only the counters meet it"), "{}", notes(ORDER));
-    assert!(notes(ORDER).contains("takes a from its mailbox"), "{}", notes(ORDER));
+    let order = notes(&std::fs::read_to_string(path("examples/false-alarm.station")).unwrap());
+    assert!(order.contains("bad `early`: only the counters meet it: the evidence is too coarse here"), "{order}");
+    assert!(order.contains("they part: process 0") && order.contains("takes first from its mailbox"), "{order}");
     assert!(is_a_run(&read(RACE), &told_numbers(&notes(RACE))), "{}", notes(RACE));
 }
 
@@ -129,7 +119,7 @@ fn where_a_run_of_the_counters_cannot_be_followed_another_is_looked_for() {
     let mut rules: Vec<usize> = [0, 0, 0, 0, 0, 1, 1, 2, 2].iter().map(|&n| step(&mut machine, n)).collect();
     let early = derived.tables.states.binary_search(&(derived.program.rows, items_head(&read))).expect("a state");
     rules.push(derived.system.rules.iter().position(|rule| rule.to == early).expect("a rule"));
-    let parting = follow(derived, &rules, 1000).expect_err("they part");
+    let parting = follow(derived, &rules, 1000).expect_err("they part").expect("a place");
     assert_eq!((parting.followed, parting.instead.len()), (9, 1));
     match judge(derived, &items, &rules, true, 1000) {
         Judged::Run(numbers) => assert!(is_a_run(&read, &numbers), "{numbers:?}"),

@@ -52,8 +52,8 @@ fn assemble_here(text: &str, budget: usize) -> Result<Assembled, String> {
     let system = evidence::derive(&m, &program, &tables)?;
     let symbols = Words::new(&station, &lowered).symbols(&program, &m);
     let derived = Derived { program: &program, tables: &tables, system: &system };
-    let mut notes = lowered.warnings.clone();
-    notes.extend(warnings(derived, &bads, &symbols).iter().map(|warning| format!("warning: {warning}")));
+    let warnings = [lowered.warnings.clone(), warnings(derived, &bads, &symbols)].concat();
+    let mut notes: Vec<String> = warnings.iter().map(|warning| format!("warning: {warning}")).collect();
     let finding = Finding { derived, bads: &bads, budget };
     let telling = Telling { derived, symbols: &symbols };
     let (fates, limits) = finding.fates_and_bounds(&mut notes);
