@@ -275,8 +275,8 @@ impl Explainer<'_> {
         let Detail::Met { bad, bound } = self.refusal.detail else { return Default::default() };
         let what = self.counted().map_or(String::new(), |counted| counted.met(bad, bound));
         let wanted = "no ceiling that lets every item of a bad reach its minimum".to_string();
-        let to_do = "if a run can meet the bad, change the station; if not, split this ceiling into narrower ones \
-                     (`oracle assemble` says which it is)";
+        let to_do = "`oracle assemble` says which it is: if a run of the station meets the bad, change the station; if \
+                     only the counters do, tell apart what they mix; if neither, split this ceiling into narrower ones";
         (what, wanted, to_do.to_string())
     }
 
