@@ -347,7 +347,8 @@ impl Counted<'_> {
         (
             what,
             format!(
-                "one ceiling over all that it becomes by {rule_words}; nearest is ceiling {nearest}, too low at {limits}{more}"
+                "one ceiling over all that it becomes by {rule_words}; nearest is ceiling {nearest}, too low at \
+                 {limits}{more}"
             ),
         )
     }

@@ -70,8 +70,8 @@ pub fn fewest(net: &Net, budget: usize) -> Result<Vec<Limits>, Failure> {
 }
 
 /// Bounds that allow only the bads that both allow: counts that stay under some bound of each stay under the least of
-/// the two.
-pub fn meet(some: &[Limits], others: &[Limits]) -> Vec<Limits> {
+/// the two. None if they become too many.
+pub fn meet(some: &[Limits], others: &[Limits]) -> Option<Vec<Limits>> {
     let mut kept: Vec<Limits> = Vec::new();
     for (a, b) in some.iter().flat_map(|a| others.iter().map(move |b| (a, b))) {
         let least: Limits = a.iter().zip(b).map(|(a, b)| *a.min(b)).collect();
@@ -79,8 +79,11 @@ pub fn meet(some: &[Limits], others: &[Limits]) -> Vec<Limits> {
             kept.retain(|other| !covers(&least, other));
             kept.push(least);
         }
+        if kept.len() > MOST_MAXIMAL {
+            return None;
+        }
     }
-    kept
+    Some(kept)
 }
 
 /// Starts with every counter exact, or every counter coarse.
@@ -273,8 +276,8 @@ fn refine(net: &Net, bad: usize, path: &[(usize, Option<usize>)], exact: &[bool]
     short.map_or(Refined::Pattern, Refined::Exact)
 }
 
-/// The run to a bad that a path leads to when its pumped parts are repeated often enough; the path itself if that is too
-/// often.
+/// The run to a bad that a path leads to when its pumped parts are repeated often enough; the path itself if that is
+/// too often.
 fn growing(net: &Net, bad: usize, path: &[(usize, Option<usize>)]) -> Failure {
     let runs = MORE_REPEATS.iter().map_while(|&times| repeated(path, times, LONGEST_GROWING));
     let met = |mut run: Vec<usize>| {

@@ -138,8 +138,8 @@ impl Derived<'_> {
 pub enum Judged {
     /// These process numbers are a run of the station that meets it.
     Run(Vec<usize>),
-    /// No run of the station is known that does: where it parts from the counters, how many of its states were tried, and
-    /// whether these are all.
+    /// No run of the station is known that does: where it parts from the counters, how many of its states were tried,
+    /// and whether these are all.
     CountersOnly { parting: Option<Parting>, tried: usize, all: bool },
 }
 

@@ -24,8 +24,8 @@ pub struct Shown {
     pub met: bool,
 }
 
-/// Shows a run. A program that passed the checks up to 5 can run; the counters run beside it where the tables are closed,
-/// and demand 3 is checked where the message is safe.
+/// Shows a run. A program that passed the checks up to 5 can run; the counters run beside it where the tables are
+/// closed, and demand 3 is checked where the message is safe.
 pub fn show(message: &[u8], words: Option<&Words>, wanted: &Wanted) -> Result<Shown, String> {
     let mut read = Read::default();
     let refusal = inspect(message, &mut read).err();

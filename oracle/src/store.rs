@@ -1,5 +1,5 @@
-//! What the processes of a machine refer to: values, bindings and pushed calls. Each is kept once, so that two are equal
-//! exactly if their numbers are.
+//! What the processes of a machine refer to: values, bindings and pushed calls. Each is kept once, so that two are
+//! equal exactly if their numbers are.
 
 use crate::program::{Branch, Name, Pattern, Program, Row};
 use std::collections::HashMap;

@@ -4,10 +4,12 @@ mod common;
 
 use common::path;
 use oracle::counters::meets;
+use oracle::explore::{Limits, Net, fewest, meet};
 use oracle::machine::Machine;
 use oracle::replay::{Derived, Judged, Search, follow, judge, search};
 use oracle::text::assemble::{assemble, assemble_within};
 use oracle::verify::{Read, inspect};
+use oracle::{evidence, message};
 
 /// The notes of a station, one text.
 fn notes(text: &str) -> String {
@@ -226,4 +228,28 @@ fn a_give_back_or_a_receive_where_nothing_comes_is_no_warning() {
     let notes = notes("constructors a/0. start -> receive a -> a end. bad never: start holds address >= 2.");
     assert!(!notes.contains("can't step"), "{notes}");
     assert!(notes.contains("branch `a` is never taken"), "{notes}");
+}
+
+/// The verdicts with the ceilings that each bad of an example has alone, and with what these make together.
+fn verdicts_alone_and_together(name: &str) -> (Vec<u32>, u32) {
+    let read = read(&std::fs::read_to_string(path(&format!("examples/{name}.station"))).unwrap());
+    let (Derived { program, tables, system }, _) = derived(&read);
+    let start = tables.state(program.rows, program.start).unwrap();
+    let bads = read.bads.as_ref().unwrap().iter();
+    let items = bads.filter_map(|bad| oracle::bounds::bad_counters(program, tables, system, bad));
+    let alone = items.map(|items| fewest(&Net { system, start, bads: &[Some(items)] }, 5000).expect("ceilings"));
+    let alone: Vec<Vec<Limits>> = alone.collect();
+    let verdict = |limits: &[Limits]| {
+        let mut m = read.message.clone().unwrap();
+        evidence::put_bounds(&mut m, limits);
+        common::verdict(&message::to_bytes(&message::write(&m))).0
+    };
+    let together = alone.iter().cloned().reduce(|all, more| meet(&all, &more).expect("not too many")).unwrap();
+    (alone.iter().map(|limits| verdict(limits)).collect(), verdict(&together))
+}
+
+#[test]
+fn ceilings_that_each_bad_has_alone_make_ceilings_for_all() {
+    assert_eq!(verdicts_alone_and_together("resource-manager"), (vec![12; 4], 0));
+    assert_eq!(verdicts_alone_and_together("pool"), (vec![12, 0, 12], 0));
 }

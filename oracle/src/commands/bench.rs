@@ -140,8 +140,8 @@ fn report() -> Text {
     let mut lent = vec![0; PLENTY];
     let (processor, cores) = (machine(), std::thread::available_parallelism().map_or(1, usize::from));
     let mut text = format!(
-        "{MARK}\n# Benchmark\n\nThe middle time of one call, the proved code and `oracle verify` in turn in one process, on {processor} \
-         ({cores} cores).\n\n"
+        "{MARK}\n# Benchmark\n\nThe middle time of one call, the proved code and `oracle verify` in turn in one \
+         process, on {processor} ({cores} cores).\n\n"
     );
     text.push_str(&table("Examples", &examples()?, &mut lent)?);
     text.push_str(&table("Honest messages near the limits", &honest::honest()?, &mut lent)?);

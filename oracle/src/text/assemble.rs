@@ -26,7 +26,7 @@ pub struct Assembled {
     pub message: Vec<u8>,
     /// Words for the author: warnings, what was found for each bad, the verdict.
     pub notes: Vec<String>,
-    /// False if the message is known to be refused.
+    /// False if the message is refused, with as many words lent as the programs lend.
     pub safe: bool,
 }
 
@@ -71,7 +71,7 @@ fn finished(m: &Message, symbols: &Symbols, mut notes: Vec<String>) -> Assembled
     let (verdict, safe) = match &result {
         Ok(_) => (format!("safe: {} with {entries} entries found", ceilings(m.bounds)), true),
         Err(r) if r.number == SPACE => {
-            (format!("safe where {} words are lent; the programs lend {} (14 space)", r.position, limits::LENT), true)
+            (format!("refused: 14 space, {} words needed: safe where so many are lent", r.position), false)
         }
         Err(Refusal { number, position, detail }) => {
             let bad = match detail {
@@ -167,10 +167,15 @@ impl Finding<'_> {
     /// Ceilings made of those that each bad has alone; a word where they are too many.
     fn together(&self, fates: &[Fate]) -> Result<Vec<Limits>, String> {
         let alone = fates.iter().filter_map(|fate| if let Fate::Alone(limits) = fate { Some(limits) } else { None });
-        let meet = alone.cloned().reduce(|all, more| explore::meet(&all, &more)).unwrap_or_default();
-        match explore::fitting(&meet) {
+        let mut all: Option<Vec<Limits>> = None;
+        for limits in alone {
+            let met = all.map_or(Some(limits.clone()), |all| explore::meet(&all, limits));
+            all = Some(met.ok_or("those that each bad has alone make too many")?);
+        }
+        let all = all.unwrap_or_default();
+        match explore::fitting(&all) {
             Err(Failure::TooLarge(why)) => Err(why),
-            _ => Ok(meet),
+            _ => Ok(all),
         }
     }
 }
