@@ -34,7 +34,9 @@ pub fn verify<'a>(message: &'a [u8], lent: &mut [u32], answer: &mut [usize; 2]) 
 {
     let words = lent.len();
     let v = verdict_of(message, lent);
-    *answer = [number_of(v), place_of(v)];
+    let number = number_of(v);
+    let place = place_of(v);
+    *answer = [number, place];
     part_of(message, words, v)
 }
 
