@@ -1,4 +1,5 @@
--- The three demands on a verifier, as types over the definitions: what is to be proved of `verdict`, `lent-after` and `part-handed`.
+-- The three demands on a verifier, as types over the definitions: what is to be proved of `verdict`, `lent-after` and
+-- `part-handed`.
 use Prim.Native.Nat.{ℕ, _+_, _*_, _≤_, _<_}
 use mathlib.Core.Logic.{_↔_, _⊎_}
 use mathlib.Core.Path.{_≡_}
@@ -8,7 +9,9 @@ use mathlib.Core.Option.{Option, some, none}
 use lib.ListN.{length, take, getD, replicate}
 use Rattle.model.specs.declared.Sizes.{Sizes}
 use Rattle.model.specs.declared.Verdict.the-variants.{Safe}
-use Rattle.model.specs.Limits.{maxRows, maxNames, maxConstructors, maxFunctions, maxBads, minBadRows, maxBadRows, maxFlows, maxMails, maxStates, maxBounds, maxBoundEntries, maxCounters, omega-limit}
+use Rattle.model.specs.Limits.{maxRows, maxNames, maxConstructors, maxFunctions, maxBads, minBadRows, maxBadRows}
+use Rattle.model.specs.Limits.{maxFlows, maxMails, maxStates, maxBounds, maxBoundEntries, maxCounters}
+use Rattle.model.specs.Limits.{omega-limit}
 use Rattle.model.specs.Words.{Columns, left, right}
 use Rattle.model.specs.Message.{end-at}
 use Rattle.model.specs.Reader.{first-wrong}
@@ -33,7 +36,8 @@ use Rattle.model.specs.Verify.{Message, message, verdict, lent-after, pa
 abbrev pub Bytes : List ℕ → Type 0
 Bytes bytes = (i : ℕ) → getD bytes i 0 < 256
 
--- Demand 1: every message gets a verdict (`verdict` is a function of any bytes), and a refusal leaves the lent words unchanged and hands on nothing.
+-- Demand 1: every message gets a verdict (`verdict` is a function of any bytes), and a refusal leaves the lent words
+-- unchanged and hands on nothing.
 pub record Refusal-changes-nothing : Type 0 where
   pub lent-unchanged : (bytes lent : List ℕ) → (verdict bytes (length lent) ≡ Safe → ⊥) → lent-after bytes lent ≡ lent
   pub nothing-handed : (bytes : List ℕ) (lent : ℕ) → (verdict bytes lent ≡ Safe → ⊥) → part-handed bytes lent ≡ []
@@ -60,9 +64,12 @@ pub record Within-limits (s : Sizes) : Type 0 where
 -- "the program is well formed": its rows fit, each name below V is bound in one place, each name read is in scope
 pub record Well-formed (p : Program) : Type 0 where
   pub rows-fit : first-wrong (step p) (p .rows) (whole p) ≡ none
-  pub bound-once : (q r : ℕ) → q < size p → r < size p → binds (tag p q) ≡ true → binds (tag p r) ≡ true → num p q ≡ num p r → q ≡ r
+  pub bound-once :
+      (q r : ℕ) → q < size p → r < size p → binds (tag p q) ≡ true → binds (tag p r) ≡ true → num p q ≡ num p r → q ≡ r
   pub bound : (n : ℕ) → n < p .names → (b : ℕ) × (b < size p) × (binds-name p n b ≡ true)
-  pub scoped : (r : ℕ) → r < size p → uses (tag p r) ≡ true → (b : ℕ) × (b < size p) × (binds-name p (num p r) b ≡ true) × (in-scope p b r ≡ true)
+  pub scoped :
+      (r : ℕ) → r < size p → uses (tag p r) ≡ true →
+      (b : ℕ) × (b < size p) × (binds-name p (num p r) b ≡ true) × (in-scope p b r ≡ true)
 
 -- one pair is below another
 abbrev pub Pair-below : ℕ → ℕ → ℕ → ℕ → Type 0
@@ -80,7 +87,9 @@ pub record In-form (m : Message) : Type 0 where
   pub flow : Listed (is-name (m .program)) (is-value (m .program)) (m .tables .flow)
   pub mail : Listed (is-class (m .program)) (is-value (m .program)) (m .tables .mail)
   pub states : Listed (is-class (m .program)) (λ r. is-head (tag (m .program) r)) (m .tables .states)
-  pub bounds : first-wrong (bound-step (m .bounds .counters)) (bound-entries (m .words) (m .sizes)) (bounds-of (m .sizes .bounds)) ≡ none
+  pub bounds :
+      first-wrong (bound-step (m .bounds .counters)) (bound-entries (m .words) (m .sizes))
+      (bounds-of (m .sizes .bounds)) ≡ none
 
 -- "Counts lie under a ceiling when each is at most its limit there, or that is unbounded"
 abbrev pub Under : Bounds → ℕ → Marking → Type 0
@@ -97,7 +106,9 @@ Met m counts j = All-met (count-in (m .program) (m .tables) counts) (m .bads) j
 -- "the counts under the ceilings contain the start, are kept by each derived rule and meet no named bad count"
 pub record Inductive (m : Message) : Type 0 where
   pub contain-start : Under-one (m .bounds) (initial (m .program) (m .tables))
-  pub kept : (counts : Marking) (ρ : Rule) → Under-one (m .bounds) counts → List·Memᴰ ρ (rules (m .program) (m .tables)) → usable ρ counts ≡ true → Under-one (m .bounds) (fire ρ counts)
+  pub kept :
+      (counts : Marking) (ρ : Rule) → Under-one (m .bounds) counts → List·Memᴰ ρ (rules (m .program) (m .tables)) →
+      usable ρ counts ≡ true → Under-one (m .bounds) (fire ρ counts)
   pub meet-no-bad : (counts : Marking) (j : ℕ) → Under-one (m .bounds) counts → j < m .sizes .bads → Met m counts j → ⊥
 
 -- everything that a safe message has
@@ -117,7 +128,8 @@ Safe-exactly = (bytes : List ℕ) (lent : ℕ) → Bytes bytes → (verdict byte
 -- "The system written is then the one that the analysis defines": its words, and behind them those that were there
 abbrev pub System-written : Type 0
 System-written =
-    (bytes lent : List ℕ) → verdict bytes (length lent) ≡ Safe → lent-after bytes lent ≡ written (system-words (message bytes .program) (message bytes .tables)) lent
+    (bytes lent : List ℕ) → verdict bytes (length lent) ≡ Safe →
+    lent-after bytes lent ≡ written (system-words (message bytes .program) (message bytes .tables)) lent
 
 -- Demand 3: "the station's run and the counters' run"
 
@@ -132,12 +144,14 @@ used [] = []
 used (none ∷ os) = used os
 used (some ρ ∷ os) = ρ ∷ used os
 
--- "the two have equal counts: of processes in each class and place, and of messages of each letter in each class's mailboxes"
+-- "the two have equal counts: of processes in each class and place, and of messages of each letter in each class's
+-- mailboxes"
 pub record Equal-counts (m : Message) (qs : Processes) (counts : Marking) : Type 0 where
   pub processes : (c r : ℕ) → processes-at qs c r ≡ count-in (m .program) (m .tables) counts (state-of c r)
   pub messages : (c l : ℕ) → messages-of (m .program) qs c l ≡ count-in (m .program) (m .tables) counts (letter-of c l)
 
--- after some numbers of a list: the rules used so far are a run, and its counts are those of the station, under one ceiling, meeting no bad
+-- after some numbers of a list: the rules used so far are a run, and its counts are those of the station, under one
+-- ceiling, meeting no bad
 pub record Together (m : Message) (numbers : List ℕ) (options : List (Option Rule)) : Type 0 where
   pub counts : Marking
   pub is-run : fire-all (used options) (initial (m .program) (m .tables)) ≡ some counts
@@ -148,7 +162,10 @@ pub record Together (m : Message) (numbers : List ℕ) (options : List (Option R
 -- the whole list, with its rules: at the start and after each number
 pub record Followed (m : Message) (system : List Rule) (numbers : List ℕ) (options : List (Option Rule)) : Type 0 where
   pub as-long : length options ≡ length numbers
-  pub each-step : (k : ℕ) → k < length numbers → Matches system (step-of (m .program) (run (m .program) (take k numbers)) (getD numbers k 0)) (getD options k none)
+  pub each-step :
+      (k : ℕ) → k < length numbers →
+      Matches system (step-of (m .program) (run (m .program) (take k numbers)) (getD numbers k 0))
+      (getD options k none)
   pub throughout : (k : ℕ) → k ≤ length numbers → Together m (take k numbers) (take k options)
 
 -- Every list of process numbers has its rules of the written words; a longer list's rules go on from a shorter one's.
@@ -159,4 +176,5 @@ pub record All-runs-followed (m : Message) (system : List Rule) : Type 0 where
 
 abbrev pub Runs-stay-counted : Type 0
 Runs-stay-counted =
-    (bytes lent : List ℕ) → Bytes bytes → verdict bytes (length lent) ≡ Safe → All-runs-followed (message bytes) (listed-rules (lent-after bytes lent))
+    (bytes lent : List ℕ) → Bytes bytes → verdict bytes (length lent) ≡ Safe →
+    All-runs-followed (message bytes) (listed-rules (lent-after bytes lent))

@@ -1,5 +1,5 @@
--- Document 01, "Ceilings and bads", said outright: which items a bad has, what each counts and its minimum, and when the bad is met. (Bads.antt
--- says the same as a test over the rows.)
+-- Document 01, "Ceilings and bads", said outright: which items a bad has, what each counts and its minimum, and when
+-- the bad is met. (Bads.antt says the same as a test over the rows.)
 use Prim.Native.Nat.{ℕ, _+_, _≤_, _<_}
 use mathlib.Core.Path.{_≡_}
 use mathlib.Core.Bool.{true}
@@ -13,7 +13,8 @@ use Rattle.model.specs.Reader.{first-wrong}
 use Rattle.model.specs.Rows.{Program}
 use Rattle.model.specs.Bads.{Counted, state-of, letter-of, bad, bad-step, bad-row, met}
 
--- "(40, class), (41, head) or (42, letter), (43, minimum from 1)": the item whose first row is r, what it counts, and its minimum
+-- "(40, class), (41, head) or (42, letter), (43, minimum from 1)": the item whose first row is r, what it counts, and
+-- its minimum
 pub data Item (rows : Columns) (r : ℕ) : Counted → ℕ → Type 0 where
   of-states :
       left rows r ≡ 40 → left rows (r + 1) ≡ 41 → left rows (r + 2) ≡ 43 →

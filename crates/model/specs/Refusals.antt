@@ -1,4 +1,5 @@
--- Document 01, "The gate's refusals", said outright: each line of the table is a way to be refused at a place. (Verify.antt says the same as checks.)
+-- Document 01, "The gate's refusals", said outright: each line of the table is a way to be refused at a place.
+-- (Verify.antt says the same as checks.)
 use Prim.Native.Nat.{ℕ, _+_, _-_, _*_, _≤_, _<_}
 use mathlib.Core.Path.{_≡_}
 use mathlib.Core.Bool.{Bool, true}
@@ -8,10 +9,12 @@ use mathlib.Core.Option.{some, none}
 use lib.ListN.{length, replicate}
 use Rattle.model.specs.declared.Sizes.{Sizes}
 use Rattle.model.specs.declared.Verdict.{Verdict}
-use Rattle.model.specs.declared.Verdict.the-variants.{Safe, Length, Size, Row, Name, Scope, Bad, Entry, Open, Counters, Ceiling, Start, Met, Leak, Space}
+use Rattle.model.specs.declared.Verdict.the-variants.{Safe, Length, Size, Row, Name, Scope, Bad, Entry, Open}
+use Rattle.model.specs.declared.Verdict.the-variants.{Counters, Ceiling, Start, Met, Leak, Space}
 use Rattle.model.specs.Limits.{maxCounters}
 use Rattle.model.specs.Words.{Columns, left, right}
-use Rattle.model.specs.Message.{bads-at, tables-at, bounds-at, end-at, Limited, program-sizes, bads-sizes, tables-sizes, bounds-sizes}
+use Rattle.model.specs.Message.{bads-at, tables-at, bounds-at, end-at, Limited, program-sizes, bads-sizes}
+use Rattle.model.specs.Message.{tables-sizes, bounds-sizes}
 use Rattle.model.specs.Reader.{Grammar, first-wrong}
 use Rattle.model.specs.Rows.{Program, size, tag, num, is-head, is-name, step, whole}
 use Rattle.model.specs.Scopes.{binds, uses, binds-name, in-scope}
@@ -71,15 +74,22 @@ abbrev pub Whole : List ℕ → Message-part → Type 0
 Whole ws part = Each-within (part .sizes) × Arrays-whole ws part
 
 -- For 3, 6 and 10: the items still to come before row r, where each row was taken by the item on top
-pub data Ahead {Item : Type 0} (step : Grammar Item) (rows : Columns) (whole : List Item) : ℕ → List Item → Type 0 where
+pub data Ahead {Item : Type 0} (step : Grammar Item) (rows : Columns) (whole : List Item) :
+    ℕ → List Item → Type 0 where
   at-first : Ahead step rows whole 0 whole
-  after-row : (r : ℕ) (item : Item) (items more : List Item) → Ahead step rows whole r (item ∷ items) → step item (left rows r) (right rows r) ≡ some more → Ahead step rows whole (r + 1) (more ++ items)
+  after-row :
+      (r : ℕ) (item : Item) (items more : List Item) → Ahead step rows whole r (item ∷ items) →
+      step item (left rows r) (right rows r) ≡ some more → Ahead step rows whole (r + 1) (more ++ items)
 
 -- the first wrong row: one that the item on top refuses, one behind the last item, or the end of rows that end early
 pub data Wrong {Item : Type 0} (step : Grammar Item) (rows : Columns) (whole : List Item) : ℕ → Type 0 where
-  unfit : (r : ℕ) (item : Item) (items : List Item) → Ahead step rows whole r (item ∷ items) → r < rows .size → step item (left rows r) (right rows r) ≡ none → Wrong step rows whole r
+  unfit :
+      (r : ℕ) (item : Item) (items : List Item) → Ahead step rows whole r (item ∷ items) → r < rows .size →
+      step item (left rows r) (right rows r) ≡ none → Wrong step rows whole r
   behind : (r : ℕ) → Ahead step rows whole r [] → r < rows .size → Wrong step rows whole r
-  early : (item : Item) (items : List Item) → Ahead step rows whole (rows .size) (item ∷ items) → Wrong step rows whole (rows .size)
+  early :
+      (item : Item) (items : List Item) → Ahead step rows whole (rows .size) (item ∷ items) →
+      Wrong step rows whole (rows .size)
 
 -- For 4: row r binds a name that an earlier row binds; some row binds the name n
 pub record Bound-again (p : Program) (r : ℕ) : Type 0 where
@@ -154,21 +164,30 @@ module _ (bytes : List ℕ) where
     names-passed : Passed 4 → No-name-again → ((n : ℕ) → n < p .names → Bound p n) → Passed 5
     scopes-passed : Passed 5 → ((r : ℕ) → r < size p → Reads-outside p r → ⊥) → Passed 6
     bads-passed : Passed 6 → first-wrong (bad-step p) (m .bads) (replicate (s .bads) bad) ≡ none → Passed 7
-    entries-passed : Passed 7 → Flow-listed → Mail-listed → Listed (is-class p) (λ r. is-head (tag p r)) (t .states) → Passed 8
+    entries-passed :
+        Passed 7 → Flow-listed → Mail-listed → Listed (is-class p) (λ r. is-head (tag p r)) (t .states) → Passed 8
     closed-passed : Passed 8 → Closed p t → Passed 9
     counters-passed : Passed 9 → counter-count p t ≤ maxCounters → Passed 10
-    bounds-passed : Passed 10 → first-wrong (bound-step (bs .counters)) (bound-entries ws s) (bounds-of (s .bounds)) ≡ none → Passed 11
+    bounds-passed :
+        Passed 10 → first-wrong (bound-step (bs .counters)) (bound-entries ws s) (bounds-of (s .bounds)) ≡ none →
+        Passed 11
     start-passed : Passed 11 → Under-one bs (initial p t) → Passed 12
     bad-passed : Passed 12 → ((j : ℕ) → j < s .bads → Allowed m j → ⊥) → Passed 13
     kept-passed : Passed 13 → ((k : ℕ) → k < bs .size → Leaks bs (rules p t) k → ⊥) → Passed 14
 
   pub data Refused (lent : ℕ) : Verdict → Type 0 where
     -- 1 length: "a part is not whole: its first word; bytes remain: the word past the ceilings"
-    sizes-short : (k : ℕ) (part : Message-part) → Behind (Whole ws) (parts s) k part → (Sizes-whole ws part → ⊥) → Refused lent (Length (part .first))
-    arrays-short : (k : ℕ) (part : Message-part) → Behind (Whole ws) (parts s) k part → Each-within (part .sizes) → (Arrays-whole ws part → ⊥) → Refused lent (Length (part .first))
+    sizes-short :
+        (k : ℕ) (part : Message-part) → Behind (Whole ws) (parts s) k part → (Sizes-whole ws part → ⊥) →
+        Refused lent (Length (part .first))
+    arrays-short :
+        (k : ℕ) (part : Message-part) → Behind (Whole ws) (parts s) k part → Each-within (part .sizes) →
+        (Arrays-whole ws part → ⊥) → Refused lent (Length (part .first))
     bytes-remain : Within-limits s → 2 * end-at s < length bytes → Refused lent (Length (end-at s))
     -- 2 size: "a size outside its limits: the first such size"
-    size-outside : (k i : ℕ) (part : Message-part) (l : Limited) → Behind (Whole ws) (parts s) k part → Sizes-whole ws part → Behind Within (part .sizes) i l → (Within l → ⊥) → Refused lent (Size (part .first + i))
+    size-outside :
+        (k i : ℕ) (part : Message-part) (l : Limited) → Behind (Whole ws) (parts s) k part → Sizes-whole ws part →
+        Behind Within (part .sizes) i l → (Within l → ⊥) → Refused lent (Size (part .first + i))
     -- 3 row: "tag, number, depth or row count wrong: 4 + first such row, or 4 + R if rows end early"
     row-wrong : (r : ℕ) → Passed 3 → Wrong (step p) (p .rows) (whole p) r → Refused lent (Row (4 + r))
     -- 4 name: "bound again: 4 + that row; else never bound: 1"
@@ -176,32 +195,55 @@ module _ (bytes : List ℕ) where
     name-unbound : (n : ℕ) → Passed 4 → No-name-again → n < p .names → (Bound p n → ⊥) → Refused lent (Name 1)
     -- 5 scope: "read outside its scope: 4 + first such row"
     scope-left : (r : ℕ) → Passed 5 → First-such (size p) (Reads-outside p) r → Refused lent (Scope (4 + r))
-    -- 6 bad: "form, class, head, letter, no item, or not B bads: first such tag, a row after B bads included; rows ending early: the word past the tags"
-    bad-wrong : (r : ℕ) → Passed 6 → Wrong (bad-step p) (m .bads) (replicate (s .bads) bad) r → Refused lent (Bad (bads-at s + 2 + r))
+    -- 6 bad: "form, class, head, letter, no item, or not B bads: first such tag, a row after B bads included; rows
+    -- ending early: the word past the tags"
+    bad-wrong :
+        (r : ℕ) → Passed 6 → Wrong (bad-step p) (m .bads) (replicate (s .bads) bad) r →
+        Refused lent (Bad (bads-at s + 2 + r))
     -- 7 entry: "out of range, or not above the one before in its list: first column's word"
-    flow-misplaced : (i : ℕ) → Passed 7 → First-such (t .flow .size) (λ j. Placed (is-name p) (is-value p) (t .flow) j → ⊥) i → Refused lent (Entry (tables-at s + 3 + i))
-    mail-misplaced : (i : ℕ) → Passed 7 → Flow-listed → First-such (t .mail .size) (λ j. Placed (is-class p) (is-value p) (t .mail) j → ⊥) i → Refused lent (Entry (tables-at s + 3 + s .flows + i))
-    state-misplaced : (i : ℕ) → Passed 7 → Flow-listed → Mail-listed → First-such (t .states .size) (λ j. Placed (is-class p) (λ r. is-head (tag p r)) (t .states) j → ⊥) i → Refused lent (Entry (tables-at s + 3 + s .flows + s .mails + i))
+    flow-misplaced :
+        (i : ℕ) → Passed 7 → First-such (t .flow .size) (λ j. Placed (is-name p) (is-value p) (t .flow) j → ⊥) i →
+        Refused lent (Entry (tables-at s + 3 + i))
+    mail-misplaced :
+        (i : ℕ) → Passed 7 → Flow-listed →
+        First-such (t .mail .size) (λ j. Placed (is-class p) (is-value p) (t .mail) j → ⊥) i →
+        Refused lent (Entry (tables-at s + 3 + s .flows + i))
+    state-misplaced :
+        (i : ℕ) → Passed 7 → Flow-listed → Mail-listed →
+        First-such (t .states .size) (λ j. Placed (is-class p) (λ r. is-head (tag p r)) (t .states) j → ⊥) i →
+        Refused lent (Entry (tables-at s + 3 + s .flows + s .mails + i))
     -- 8 open: "an opening entry missing: size F; else the first state that lacks something, its first column's word"
-    opening-missing : (e : Table-entry) → Passed 8 → Wanted-first p e → (Present t e → ⊥) → Refused lent (Open (tables-at s))
-    state-open : (i : ℕ) → Passed 8 → ((e : Table-entry) → Wanted-first p e → Present t e) → First-such (t .states .size) (λ j. Lacks p t (left (t .states) j) (right (t .states) j)) i → Refused lent (Open (tables-at s + 3 + s .flows + s .mails + i))
+    opening-missing :
+        (e : Table-entry) → Passed 8 → Wanted-first p e → (Present t e → ⊥) → Refused lent (Open (tables-at s))
+    state-open :
+        (i : ℕ) → Passed 8 → ((e : Table-entry) → Wanted-first p e → Present t e) →
+        First-such (t .states .size) (λ j. Lacks p t (left (t .states) j) (right (t .states) j)) i →
+        Refused lent (Open (tables-at s + 3 + s .flows + s .mails + i))
     -- 9 counters: "over 512: size S"
     counters-over : Passed 9 → maxCounters < counter-count p t → Refused lent (Counters (tables-at s + 2))
-    -- 10 ceiling: "form, or not K ceilings: first such entry's counter number, an entry after K ceilings included; entries ending early: the word past the counter numbers"
-    ceiling-wrong : (e : ℕ) → Passed 10 → Wrong (bound-step (bs .counters)) (bound-entries ws s) (bounds-of (s .bounds)) e → Refused lent (Ceiling (bounds-at s + 2 + e))
+    -- 10 ceiling: "form, or not K ceilings: first such entry's counter number, an entry after K ceilings included;
+    -- entries ending early: the word past the counter numbers"
+    ceiling-wrong :
+        (e : ℕ) → Passed 10 → Wrong (bound-step (bs .counters)) (bound-entries ws s) (bounds-of (s .bounds)) e →
+        Refused lent (Ceiling (bounds-at s + 2 + e))
     -- 11 start: "under no ceiling: size K"
     start-outside : Passed 11 → (Under-one bs (initial p t) → ⊥) → Refused lent (Start (bounds-at s))
     -- 12 met: "a ceiling allows a bad: that first bad's first tag"
-    bad-met : (j : ℕ) → Passed 12 → First-such (s .bads) (Allowed m) j → Refused lent (Met (bads-at s + 2 + bad-row p (m .bads) j))
+    bad-met :
+        (j : ℕ) → Passed 12 → First-such (s .bads) (Allowed m) j →
+        Refused lent (Met (bads-at s + 2 + bad-row p (m .bads) j))
     -- 13 leak: "from counts under a ceiling, a rule leads out of all ceilings: the first such ceiling's first entry"
-    ceiling-left : (k : ℕ) → Passed 13 → First-such (bs .size) (Leaks bs (rules p t)) k → Refused lent (Leak (bounds-at s + 2 + bound-entry (bs .counters) (bound-entries ws s) k))
+    ceiling-left :
+        (k : ℕ) → Passed 13 → First-such (bs .size) (Leaks bs (rules p t)) k →
+        Refused lent (Leak (bounds-at s + 2 + bound-entry (bs .counters) (bound-entries ws s) k))
     -- 14 space: "system words exceed the lent slice: the words needed"
     no-space : Passed 14 → lent < length (system-words p t) → Refused lent (Space (length (system-words p t)))
 
 -- The table is exact: a refusal is the verdict exactly where its line holds.
 abbrev pub Refused-exactly : Type 0
 Refused-exactly =
-    (bytes : List ℕ) (lent : ℕ) → Bytes bytes → (v : Verdict) → ((verdict bytes lent ≡ v) × (v ≡ Safe → ⊥)) ↔ Refused bytes lent v
+    (bytes : List ℕ) (lent : ℕ) → Bytes bytes → (v : Verdict) →
+    ((verdict bytes lent ≡ v) × (v ≡ Safe → ⊥)) ↔ Refused bytes lent v
 
 -- What document 01 says of a verdict: safe of a sound message, a refusal in the words of its line.
 pub data Said (bytes : List ℕ) (lent : ℕ) : Verdict → Type 0 where
@@ -210,4 +252,5 @@ pub data Said (bytes : List ℕ) (lent : ℕ) : Verdict → Type 0 where
 
 -- Every message has exactly one verdict of which that holds: the one that is given.
 abbrev pub Verdict-exactly : Type 0
-Verdict-exactly = (bytes : List ℕ) (lent : ℕ) → Bytes bytes → (v : Verdict) → (verdict bytes lent ≡ v) ↔ Said bytes lent v
+Verdict-exactly =
+    (bytes : List ℕ) (lent : ℕ) → Bytes bytes → (v : Verdict) → (verdict bytes lent ≡ v) ↔ Said bytes lent v

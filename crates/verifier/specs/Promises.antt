@@ -1,4 +1,5 @@
--- What a caller has of the entry, said of what it gives back: the verdict's number and place, the three demands, and the table of refusals.
+-- What a caller has of the entry, said of what it gives back: the verdict's number and place, the three demands, and
+-- the table of refusals.
 use Prim.Native.Nat.{ℕ}
 use mathlib.Core.Logic.{_↔_}
 use mathlib.Core.Path.{_≡_}
@@ -37,7 +38,8 @@ System-is-written told bytes before after =
 abbrev pub Runs-are-followed : ℕ → List ℕ → List ℕ → Type 0
 Runs-are-followed told bytes after = told ≡ 0 → All-runs-followed (message bytes) (listed-rules after)
 
--- The table of refusals: a number other than 0 and its place are those of a line that holds, and each line that holds has them.
+-- The table of refusals: a number other than 0 and its place are those of a line that holds, and each line that holds
+-- has them.
 pub record Refused-exactly-by-the-table (told at : ℕ) (bytes : List ℕ) (lent : ℕ) : Type 0 where
   pub by-a-line : (told ≡ 0 → ⊥) → (v : Verdict) × Refused bytes lent v × (number v ≡ told) × (place v ≡ at)
   pub as-each-line : (v : Verdict) → Refused bytes lent v → (number v ≡ told) × (place v ≡ at)

@@ -10,7 +10,8 @@ ghost use Rattle.verifier.specs.Promises.{answer-to, number-in, place-in
 ghost use Rattle.verifier.specs.Promises.{Refusal-changes-nothing, Safe-exactly-when-sound, System-is-written};
 ghost use Rattle.verifier.specs.Promises.{Runs-are-followed, Refused-exactly-by-the-table};
 
-// The entry. Gives the part handed on; number and place of the verdict to `answer`; after safe the system to the lent words.
+// The entry. Gives the part handed on; number and place of the verdict to `answer`; after safe the system to the lent
+// words.
 pub fn verify<'a>(message: &'a [u8], lent: &mut [u32], answer: &mut [usize; 2]) -> &'a [u8]
     ensures { λ _. ⌜ now (answer .exit) ≡ answer-to (now (message .entry)) (length (now (lent .entry))) ⌝ }
     ensures { λ part. ⌜ now part ≡ part-handed (now (message .entry)) (length (now (lent .entry))) ⌝ }
@@ -34,7 +35,9 @@ pub fn verify<'a>(message: &'a [u8], lent: &mut [u32], answer: &mut [usize; 2]) 
     let words = lent.len();
     let v = verdict_of(message, lent);
     let told = told_of(v);
-    *answer = [told.number, told.place];
+    let number = told.number;
+    let place = told.place;
+    *answer = [number, place];
     part_of(message, words, v)
 }
 
