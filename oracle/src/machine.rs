@@ -1,5 +1,7 @@
 //! A station as it runs: one process at a time takes a step (01, "How a station runs").
 
+mod shown;
+
 use crate::program::{Branch, Head, Name, Pattern, Program, Row};
 
 /// A value in the machine's store.

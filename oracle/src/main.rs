@@ -2,7 +2,7 @@
 
 mod commands;
 
-use commands::{against, assemble, corpus, disassemble, explain, fuzz, hostile, run, time, verify, Answer};
+use commands::{against, assemble, cases, corpus, disassemble, explain, fuzz, hostile, run, time, verify, Answer};
 use std::io::Write;
 use std::process::ExitCode;
 
@@ -18,6 +18,8 @@ oracle time FILE...                    how long the verifier takes
 oracle corpus SEED COUNT OUT           OUT.bin and OUT.txt: messages of every verdict, what is expected
 oracle check-corpus BIN TXT            verifies a stored corpus anew
 oracle hostile DIR                     writes worst-case messages
+oracle run-cases SOURCE                the model's table of runs, with what this machine comes to
+oracle verdict-cases SOURCE            the model's table of verdicts, with what this verifier answers
 oracle bench                           times of the proved code and of `verify`, as Markdown (feature `proved`)";
 
 fn answer(command: &str, args: &[String]) -> Answer {
@@ -33,6 +35,8 @@ fn answer(command: &str, args: &[String]) -> Answer {
         "fuzz-naive" => fuzz::naive(args),
         "against" => against::command(args),
         "time" => time::command(args),
+        "run-cases" => cases::runs(args),
+        "verdict-cases" => cases::verdicts(args),
         "corpus" => corpus::command(args),
         "check-corpus" => corpus::check(args),
         "hostile" => hostile::command(args),
