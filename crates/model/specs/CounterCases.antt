@@ -1,13 +1,13 @@
--- Refusal 9, over 512 counters, at the limit and one past it, on whole messages. They are long, so their parts are made by functions, and number
--- and place alone are compared. oracle/tests/cases.rs makes the same messages and holds the other implementation to the same answers.
+-- Refusal 9, over 512 counters, at the limit and one past it, on whole messages. They are long, so their parts are
+-- made by functions. oracle/tests/cases.rs makes the same messages and holds the other implementation to the same
+-- answers.
 use Prim.Native.Nat.{ℕ, _+_, _*_}
 use mathlib.Core.List.{List, [], _∷_, _++_, map}
 use lib.ListN.{drop}
 use Rattle.model.specs.Index.{gather}
 use Rattle.model.specs.Rules.{from-all}
-use Rattle.model.specs.Verdict.{number, place}
-use Rattle.model.specs.Verify.{verdict}
 use Rattle.model.specs.Cases.{Pairs, program-words, bad-words, table-words, bound-words, to-bytes}
+use Rattle.model.specs.VerdictCases.{Verdict-case, at}
 
 -- receive { x -> 15 times p = spawn x; case x of { 15 times c0 -> x } }: 65 rows
 unfoldable pub crowd : Pairs
@@ -29,29 +29,21 @@ crowd-heads = (1 ∷ []) ++ gather 0 16 (λ i. (3 + 2 * i) ∷ []) ++ gather 0 1
 unfoldable pub crowd-states : Pairs
 crowd-states = from-all crowd-classes (λ c. map (λ r. (c, r)) crowd-heads)
 
--- With these states. The starting class may be sent its own address, and x may be that: one letter counter. An address is no function and no c0, so the
--- spawns and the case want nothing. There are no ceilings: what passes 9 is refused by 11.
+-- With these states. The starting class may be sent its own address, and x may be that: one letter counter. An
+-- address is no function and no c0, so the spawns and the case want nothing. There are no ceilings: what passes 9 is
+-- refused by 11.
 unfoldable pub crowd-with : Pairs → List ℕ
 crowd-with states =
     to-bytes
     (program-words 16 1 0 crowd ++ bad-words 1 ((40, 65) ∷ (41, 1) ∷ (43, 2) ∷ (44, 0) ∷ []) ++
     table-words ((0, 65) ∷ []) ((65, 65) ∷ []) states ++ bound-words 0 [])
 
--- number and place
-unfoldable pub told : List ℕ → List ℕ
-told bytes = let v = verdict bytes 0 in number v ∷ place v ∷ []
-
-unfoldable pub counted-messages : List (List ℕ)
-counted-messages =
-    -- 512 states and a letter: 513 counters
-    crowd-with crowd-states ∷
-    -- 511 states, without the first, and a letter: 512 counters
-    crowd-with (drop 1 crowd-states) ∷
-    []
-
--- the tables begin at word 144, behind 134 of the program and 10 of the bads; size S is word 146. Size K is behind 3 and two columns of 513 words.
-unfoldable pub counted-answers : List (List ℕ)
-counted-answers =
-    (9 ∷ 146 ∷ []) ∷
-    (11 ∷ 1173 ∷ []) ∷
+unfoldable pub counter-cases : List Verdict-case
+counter-cases =
+    -- 512 states and a letter: 513 counters. The tables begin at word 144, behind 134 of the program and 10 of the
+    -- bads, and size S is their third.
+    at 9 146 (crowd-with crowd-states) ∷
+    -- 511 states, without the first, and a letter: 512 counters. Size K is behind 3 sizes and two columns of 513
+    -- words.
+    at 11 1173 (crowd-with (drop 1 crowd-states)) ∷
     []

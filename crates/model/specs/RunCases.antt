@@ -1,9 +1,11 @@
--- Document 01, "How a station runs", as cases: small stations, and what each run has come to after a list of process numbers. What is expected
--- is what the other implementation's machine gives, which was written from the papers alone: `oracle run-cases oracle/tests/cases/runs.txt` writes
--- this file. proofs/RunCases.antt proves by computation that the model's runs come to the same.
+-- Document 01, "How a station runs", as cases: small stations, and what each run has come to after a list of process
+-- numbers. What is expected is what the other implementation's machine gives, which was written from the papers
+-- alone: `oracle run-cases oracle/tests/cases/runs.txt` writes this file. proofs/RunCases.antt proves by computation
+-- that the model's runs come to the same.
 --
--- Above each station stands its text (docs/STATIONS.md has the form; a run knows nothing of bads). `(0, 5) ∷ (1, 2) ∷ []` feeds the number 0 five
--- times and then 1 twice. Then there is a text for each process, as Shown.antt says: class@place, the calls pushed, the mailbox.
+-- Above each station stands its text (docs/STATIONS.md has the form; a run knows nothing of bads). `(0, 5) ∷ (1, 2) ∷
+-- []` feeds the number 0 five times and then 1 twice. Then there is a text for each process, as Shown.antt says:
+-- class@place, the calls pushed, the mailbox.
 use mathlib.Core.List.{List, [], _∷_}
 use Rattle.model.specs.Rows.{Program}
 use Rattle.model.specs.Shown.{station, Run-case, after}
@@ -865,7 +867,7 @@ run-cases =
     ("28@27 : f@21{0=#0 1=c0@3 2=c1@5(c0@3) 3=c1@5(c0@3) 4=c0@3 5=c1@14(c0@3) 6=c0@3}" ∷ []) ∷
     []
 
--- the definitions above opened at once, for the theorem that computes the table
+-- the definitions above opened at once, for the theorems that compute the table
 unfoldable pub run-cases-opens : Unit {0}
 unfolding one-message three-letters passed-over any-branch both-branches case-branches half-match deep-pattern fresh-names yields-message kept-bindings global-function closure-over-closure callees-bindings callers-bindings arguments-in-order pushed-calls calls-itself endless receives-inside spawned two-of-one-row numbers-as-spawned own-address function-sent sent-on waits no-target wrong-count no-spawn no-match other-values arguments-kept run-stations run-cases
 run-cases-opens = tt

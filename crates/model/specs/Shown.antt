@@ -1,5 +1,5 @@
--- Runs as text, for the table of runs (RunCases.antt): of each process its class, place, pushed calls and mailbox. The other implementation
--- shows its runs in the same form.
+-- Runs as text, for the table of runs (RunCases.antt): of each process its class, place, pushed calls and mailbox.
+-- The other implementation shows its runs in the same form.
 use Prim.Native.Nat.{ℕ, zero, suc, _/_, _%_}
 use Prim.Native.String.{String, _++_}
 use mathlib.Core.Bool.{true, false}
@@ -44,8 +44,8 @@ unfoldable pub by-name : Held → List Held → List Held
 by-name h [] = h ∷ []
 by-name h (k ∷ ks) = elim (ltb (h .name) (k .name)) [ true ↦ h ∷ k ∷ ks | false ↦ k ∷ by-name h ks ]
 
--- `c1@5(c0@3 #0)`: built at row 5 of constructor 1, with its arguments in order; `f@7{0=#0 2=c0@3}`: the function of row 7 with what it keeps, by
--- name; `#1`: the address of process 1
+-- `c1@5(c0@3 #0)`: built at row 5 of constructor 1, with its arguments in order; `f@7{0=#0 2=c0@3}`: the function of
+-- row 7 with what it keeps, by name; `#1`: the address of process 1
 unfoldable mutual
   pub value-text : Value → String
   value-text (closure f held) =
@@ -61,11 +61,12 @@ unfoldable mutual
   argument-texts empty = []
   argument-texts (bind n v vs) = value-text v ∷ argument-texts vs
 
--- `18@13 ^7 ^12 : c0@3 #1`: class 18 at row 13, the calls of rows 7 and 12 pushed, the latest first, and two messages in the mailbox
+-- `18@13 ^7 ^12 : c0@3 #1`: class 18 at row 13, the calls of rows 7 and 12 pushed, the latest first, and two messages
+-- in the mailbox
 unfoldable pub process-text : Process → String
 process-text q =
-    followed (spaced ((numeral (q .class) ++ "@" ++ numeral (q .location)) ∷ map (λ f. "^" ++ numeral (f .call)) (q .frames)))
-    " : " (map value-text (q .mailbox)) ""
+    let place : String = numeral (q .class) ++ "@" ++ numeral (q .location) in
+    followed (spaced (place ∷ map (λ f. "^" ++ numeral (f .call)) (q .frames))) " : " (map value-text (q .mailbox)) ""
 
 -- a program of so many names, constructors and functions, by its rows
 unfoldable pub station : ℕ → ℕ → ℕ → Pairs → Program

@@ -1,9 +1,10 @@
 //! The parts of a message, as a section of the table's source gives them: a station's text, or the parts row by row.
 
-use super::antt::{self, INDENT};
+use super::antt;
 use super::source::Section;
-use crate::message::{self, Message};
+use crate::message::{self, Message, to_bytes};
 use crate::text::assemble::assemble;
+use crate::verify::verify;
 
 type Pairs = Vec<(usize, usize)>;
 
@@ -37,7 +38,7 @@ impl Parts {
         if section.is_text() {
             let assembled = assemble(&section.station.join("\n")).map_err(told)?;
             let refused = |_| told("the assembled message is not whole".to_string());
-            return Ok(Parts::of_message(&message::read(&assembled.message).map_err(refused)?));
+            return Ok(Parts::of_message(&message::read(&assembled.message).map_err(refused)?).with_one_ceiling());
         }
         let mut parts = Parts::default();
         for line in section.station.iter().filter(|line| !line.starts_with('%') && !line.is_empty()) {
@@ -61,6 +62,20 @@ impl Parts {
         }
     }
 
+    /// With one ceiling that leaves every counter unbounded, where that allows no bad: the model computes a short message sooner.
+    fn with_one_ceiling(mut self) -> Parts {
+        let mut lent = vec![0; 16_384];
+        verify(&to_bytes(&self.words()), &mut lent);
+        let counters = (lent[0] + lent[1]) as usize;
+        let mut entries: Pairs = (0..counters).map(|counter| (counter, 65_535)).collect();
+        entries.push((counters, 0));
+        let found = self.bounds.replace((1, entries));
+        if verify(&to_bytes(&self.words()), &mut lent).number != 0 {
+            self.bounds = found;
+        }
+        self
+    }
+
     fn take(&mut self, line: &str) -> Result<(), String> {
         let (word, rest) = line.split_once(':').ok_or(format!("{line}: a colon is missing"))?;
         let words: Vec<&str> = word.split_whitespace().collect();
@@ -82,11 +97,6 @@ impl Parts {
 
     pub fn is_empty(&self) -> bool {
         self.program.is_none()
-    }
-
-    /// Words of the program part.
-    pub fn program_words(&self) -> usize {
-        self.program.as_ref().map_or(0, |(_, rows)| 4 + 2 * rows.len())
     }
 
     /// The words of the parts that are there.
@@ -115,15 +125,21 @@ impl Parts {
     /// The program part and all words in the model's language, below the section's text.
     pub fn definitions(&self, section: &Section) -> String {
         let Some(([names, constructors, functions], rows)) = &self.program else { return String::new() };
-        let list = |pairs: &Pairs| antt::pairs(pairs, INDENT);
-        let program = format!("program-words {names} {constructors} {functions}\n{INDENT}{}", list(rows));
-        let mut words = vec![format!("{}-program", section.name)];
-        words.extend(self.bads.iter().map(|(bads, rows)| format!("bad-words {bads} {}", list(rows))));
-        let tables = |t: &[Pairs; 3]| format!("table-words {}", t.each_ref().map(list).join(&format!("\n{INDENT}")));
+        let mut words = vec![vec![format!("{}-program", section.name)]];
+        words.extend(self.bads.iter().map(|(bads, rows)| vec![format!("bad-words {bads}"), antt::pairs(rows)]));
+        let tables = |t: &[Pairs; 3]| {
+            [vec!["table-words".to_string()], t.iter().map(|list| antt::pairs(list)).collect()].concat()
+        };
         words.extend(self.tables.iter().map(tables));
-        words.extend(self.bounds.iter().map(|(bounds, entries)| format!("bound-words {bounds} {}", list(entries))));
-        let words = words.join(&format!(" ++\n{INDENT}"));
+        words.extend(
+            self.bounds.iter().map(|(bounds, entries)| vec![format!("bound-words {bounds}"), antt::pairs(entries)]),
+        );
+        let last = words.len() - 1;
+        for part in &mut words[..last] {
+            part.last_mut().expect("no part is empty").push_str(" ++");
+        }
+        let program = [format!("program-words {names} {constructors} {functions}"), antt::pairs(rows)];
         antt::definition(&section.comment(), &format!("{}-program", section.name), "List ℕ", &program)
-            + &antt::definition("", &format!("{}-words", section.name), "List ℕ", &words)
+            + &antt::definition("", &format!("{}-words", section.name), "List ℕ", &words.concat())
     }
 }

@@ -33,7 +33,7 @@ fn station(section: &Section) -> Result<Station, String> {
 fn station_definition(section: &Section, m: &Message) -> String {
     let rows: Vec<(usize, usize)> = (0..m.program.len()).map(|i| m.program.pair(i)).collect();
     let sizes = format!("{} {} {}", m.names, m.constructors, m.functions);
-    let body = format!("station {sizes}\n{INDENT}{}", antt::pairs(&rows, INDENT));
+    let body = [format!("station {sizes}"), antt::pairs(&rows)];
     antt::definition(&section.comment(), &section.name, "Program", &body)
 }
 
@@ -57,8 +57,9 @@ fn run_case(name: &str, program: &Program, case: &Case) -> Result<String, String
     }
     let processes: Vec<String> = machine.shown().iter().map(|text| format!("\"{text}\"")).collect();
     let sentence = antt::comment(&case.sentence, INDENT);
-    let after = format!("{INDENT}after {name} {}", antt::pairs(&turns, INDENT));
-    Ok(format!("{sentence}\n{after}\n{INDENT}{} ∷\n", antt::list(processes, INDENT)))
+    let after = antt::line(&format!("after {name} {}", antt::pairs(&turns)));
+    let expected = antt::line(&format!("{} ∷", antt::list(processes)));
+    Ok(format!("{sentence}\n{after}\n{expected}\n"))
 }
 
 /// The table, from its source.
@@ -73,7 +74,7 @@ pub fn table(source: &str) -> Result<String, String> {
         }
         names.push(section.name);
     }
-    let all = antt::definition("", "run-stations", "List Program", &antt::list(&names, INDENT));
+    let all = antt::definition("", "run-stations", "List Program", &[antt::list(&names)]);
     let table = format!("unfoldable pub run-cases : List Run-case\nrun-cases =\n{cases}{INDENT}[]\n\n");
     names.extend(["run-stations", "run-cases"].map(str::to_string));
     Ok(format!("{FRONT}{stations}{all}{table}{}", antt::opens("run-cases-opens", &names)))

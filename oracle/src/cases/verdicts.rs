@@ -8,8 +8,6 @@ use crate::verify::verify;
 
 /// The front of the table.
 const FRONT: &str = include_str!("verdicts_front.antt");
-/// Words lent where the message is refused.
-const LENT: usize = 30;
 /// Words lent beyond those needed where it is safe.
 const BEYOND: usize = 2;
 
@@ -17,8 +15,6 @@ const BEYOND: usize = 2;
 struct Given {
     words: Vec<u16>,
     text: String,
-    /// The words of its program part in that language.
-    program: String,
 }
 
 fn numbers(text: &str) -> Result<Vec<usize>, String> {
@@ -29,14 +25,14 @@ fn numbers(text: &str) -> Result<Vec<usize>, String> {
 /// `words 1 2 3`: these words behind the section's; `8=12 17=1`: the section's words with others at these places; nothing: as they are.
 fn given(section: &Section, parts: &Parts, case: &Case) -> Result<Given, String> {
     let mut words = parts.words();
-    let (name, program) = (format!("{}-words", section.name), format!("{}-program", section.name));
+    let name = format!("{}-words", section.name);
     if let Some(more) = case.given.strip_prefix("words") {
         let more = numbers(more)?;
         words.extend(more.iter().map(|&w| w as u16));
-        let list = antt::list(&more, INDENT);
+        let list = antt::list(&more);
         let text =
             if parts.is_empty() { format!("(to-bytes {list})") } else { format!("(to-bytes ({name} ++ {list}))") };
-        return Ok(Given { words, text, program });
+        return Ok(Given { words, text });
     }
     let pair = |edit: &str| {
         let (at, word) = edit.split_once('=').ok_or(format!("{edit}: neither `words` nor `PLACE=WORD`"))?;
@@ -46,74 +42,71 @@ fn given(section: &Section, parts: &Parts, case: &Case) -> Result<Given, String>
     for &(at, word) in &edits {
         *words.get_mut(at).ok_or(format!("{}: no word {at}", section.name))? = word as u16;
     }
-    let inside: Vec<(usize, usize)> = edits.iter().copied().filter(|edit| edit.0 < parts.program_words()).collect();
     let text = match edits.len() {
         0 => format!("(to-bytes {name})"),
-        _ => format!("(to-bytes (changed {name} {}))", antt::pairs(&edits, INDENT)),
+        _ => format!("(to-bytes (changed {name} {}))", antt::pairs(&edits)),
     };
-    let program = match inside.len() {
-        0 => program,
-        _ => format!("(changed {program} {})", antt::pairs(&inside, INDENT)),
-    };
-    Ok(Given { words, text, program })
+    Ok(Given { words, text })
 }
 
-/// The case in the model's language, and the listing of a safe one.
-fn verdict_case(section: &Section, parts: &Parts, case: &Case, listings: &mut Vec<Vec<u32>>) -> Result<String, String> {
-    let Given { words, text, program } = given(section, parts, case)?;
-    let message = to_bytes(&words);
-    let mut lent = vec![0; 16_384];
-    let outcome = verify(&message, &mut lent);
-    let sentence = antt::comment(&case.sentence, INDENT);
-    if outcome.number != 0 {
-        return Ok(format!("{sentence}\n{INDENT}refused {LENT} {text} {} {} ∷\n", outcome.number, outcome.place));
-    }
-    lent.truncate(4 + 2 * lent[3] as usize);
-    let i = listings.iter().position(|l| *l == lent).unwrap_or(listings.len());
-    if i == listings.len() {
-        listings.push(lent);
-    }
-    let listing = listing_name(&section.name, i);
-    Ok(format!("{sentence}\n{INDENT}safe {BEYOND} {program} {text} {listing} ∷\n"))
+/// The two tables: verdicts alone, and whole answers of safe messages.
+#[derive(Default)]
+struct Tables {
+    verdicts: String,
+    listed: String,
 }
 
-/// The listings of a section's safe cases; there is seldom more than one.
-fn listing_name(section: &str, i: usize) -> String {
-    match i {
-        0 => format!("{section}-listing"),
-        _ => format!("{section}-listing-{}", i + 1),
+impl Tables {
+    /// A safe message goes with its listing where it is the section's own, and by its verdict alone where it is a changed one.
+    fn take(&mut self, section: &Section, parts: &Parts, case: &Case) -> Result<Option<Vec<u32>>, String> {
+        let Given { words, text } = given(section, parts, case)?;
+        let mut lent = vec![0; 16_384];
+        let outcome = verify(&to_bytes(&words), &mut lent);
+        let (sentence, name) = (antt::comment(&case.sentence, INDENT), &section.name);
+        if outcome.number == 0 && case.given.is_empty() {
+            lent.truncate(4 + 2 * lent[3] as usize);
+            self.listed
+                .push_str(&format!("{sentence}\n{INDENT}safe {BEYOND} {name}-program {text} {name}-listing ∷\n"));
+            return Ok(Some(lent));
+        }
+        let (number, place) = (outcome.number, outcome.place);
+        let line = antt::line(&format!("at {number} {place} {text} ∷"));
+        self.verdicts.push_str(&format!("{sentence}\n{line}\n"));
+        Ok(None)
     }
 }
 
 /// Sizes, tags, numbers, each in lines of its own.
 fn listing_definition(name: &str, words: &[u32]) -> String {
     let rows = words[3] as usize;
-    let line = |words: &[u32]| antt::list(words, INDENT);
-    let body = [&words[..4], &words[4..4 + rows], &words[4 + rows..]].map(line).join(&format!(" ++\n{INDENT}"));
-    antt::definition("", name, "List ℕ", &body)
+    let body = [&words[..4], &words[4..4 + rows], &words[4 + rows..]].map(antt::list).join(" ++\n");
+    let lines: Vec<String> = body.lines().map(str::to_string).collect();
+    antt::definition("", name, "List ℕ", &lines)
 }
 
-/// The table, from its source.
+/// Both tables, from their source.
 pub fn table(source: &str) -> Result<String, String> {
     let mut names = Vec::new();
-    let (mut messages, mut cases) = (String::new(), String::new());
+    let (mut messages, mut tables) = (String::new(), Tables::default());
     for section in sections(source, "case")? {
         let parts = Parts::of(&section)?;
         if !parts.is_empty() {
             messages.push_str(&parts.definitions(&section));
             names.extend(["program", "words"].map(|part| format!("{}-{part}", section.name)));
         }
-        let mut listings = Vec::new();
         for case in &section.cases {
-            cases.push_str(&verdict_case(&section, &parts, case, &mut listings)?);
-        }
-        for (i, listing) in listings.iter().enumerate() {
-            let name = listing_name(&section.name, i);
-            messages.push_str(&listing_definition(&name, listing));
-            names.push(name);
+            if let Some(listing) = tables.take(&section, &parts, case)? {
+                let name = format!("{}-listing", section.name);
+                messages.push_str(&listing_definition(&name, &listing));
+                names.push(name);
+            }
         }
     }
-    let table = format!("unfoldable pub verdict-cases : List Case\nverdict-cases =\n{cases}{INDENT}[]\n\n");
-    names.push("verdict-cases".to_string());
-    Ok(format!("{FRONT}{messages}{table}{}", antt::opens("verdict-cases-opens", &names)))
+    let whole = |name: &str, kind: &str, cases: &str| {
+        format!("unfoldable pub {name} : List {kind}\n{name} =\n{cases}{INDENT}[]\n\n")
+    };
+    let verdicts = whole("verdict-cases", "Verdict-case", &tables.verdicts);
+    let listed = whole("listing-cases", "Case", &tables.listed);
+    names.extend(["verdict-cases", "listing-cases"].map(str::to_string));
+    Ok(format!("{FRONT}{messages}{verdicts}{listed}{}", antt::opens("verdict-cases-opens", &names)))
 }
