@@ -112,6 +112,42 @@ two-bads-listing =
     (50 ∷ 51 ∷ 50 ∷ 51 ∷ 50 ∷ 51 ∷ 53 ∷ 50 ∷ 51 ∷ 52 ∷ []) ++
     (0 ∷ 1 ∷ 1 ∷ 2 ∷ 2 ∷ 3 ∷ 5 ∷ 3 ∷ 4 ∷ 5 ∷ [])
 
+-- Station A with one ceiling that leaves every counter unbounded, and a bad that no function waits: limits are words 64 to 70.
+unfoldable pub unbounded-program : List ℕ
+unbounded-program =
+    program-words 3 1 0
+    ((10, 0) ∷ (7, 0) ∷ (2, 1) ∷ (20, 0) ∷ (5, 2) ∷ (21, 0) ∷ (21, 1) ∷ (9, 1) ∷ (31, 0) ∷ (1, 0) ∷ [])
+
+unfoldable pub unbounded-words : List ℕ
+unbounded-words =
+    unbounded-program ++
+    bad-words 1
+    ((40, 10) ∷ (42, 1) ∷ (43, 1) ∷ (44, 0) ∷ []) ++
+    table-words
+    ((0, 10) ∷ (1, 2) ∷ (2, 2) ∷ [])
+    ((10, 2) ∷ [])
+    ((10, 1) ∷ (10, 2) ∷ (10, 4) ∷ (10, 7) ∷ (10, 9) ∷ []) ++
+    bound-words 1
+    ((0, 65535) ∷ (1, 65535) ∷ (2, 65535) ∷ (3, 65535) ∷ (4, 65535) ∷ (5, 65535) ∷ (6, 0) ∷ [])
+
+-- Station A with a ceiling of any number of processes at the start, and one of 65,534 there and anything elsewhere.
+unfoldable pub one-taken-program : List ℕ
+one-taken-program =
+    program-words 3 1 0
+    ((10, 0) ∷ (7, 0) ∷ (2, 1) ∷ (20, 0) ∷ (5, 2) ∷ (21, 0) ∷ (21, 1) ∷ (9, 1) ∷ (31, 0) ∷ (1, 0) ∷ [])
+
+unfoldable pub one-taken-words : List ℕ
+one-taken-words =
+    one-taken-program ++
+    bad-words 1
+    ((40, 10) ∷ (42, 1) ∷ (43, 1) ∷ (44, 0) ∷ []) ++
+    table-words
+    ((0, 10) ∷ (1, 2) ∷ (2, 2) ∷ [])
+    ((10, 2) ∷ [])
+    ((10, 1) ∷ (10, 2) ∷ (10, 4) ∷ (10, 7) ∷ (10, 9) ∷ []) ++
+    bound-words 2
+    ((0, 65535) ∷ (6, 0) ∷ (0, 65534) ∷ (1, 65535) ∷ (2, 65535) ∷ (3, 65535) ∷ (4, 65535) ∷ (5, 65535) ∷ (6, 0) ∷ [])
+
 -- A constructor of arity 8, built once.
 unfoldable pub arity-of-eight-program : List ℕ
 arity-of-eight-program =
@@ -933,6 +969,22 @@ verdict-cases =
     at 6 34 (to-bytes (changed two-bads-words ((45, 3) ∷ []))) ∷
     -- 6: a second item's minimum is from 1.
     at 6 35 (to-bytes (changed two-bads-words ((46, 0) ∷ []))) ∷
+    -- 65,535 means unbounded: nothing leads out.
+    at 0 0 (to-bytes (changed unbounded-words ((32, 65535) ∷ []))) ∷
+    -- 65,534 is a limit: one more message leads out of it.
+    at 13 57 (to-bytes (changed unbounded-words ((69, 65534) ∷ []))) ∷
+    -- A limit on a state that nothing leads to.
+    at 0 0 (to-bytes (changed unbounded-words ((64, 65534) ∷ []))) ∷
+    -- An unbounded letter meets the highest minimum.
+    at 12 26 (to-bytes (changed unbounded-words ((31, 0) ∷ (32, 65535) ∷ []))) ∷
+    -- Its limit is one below the minimum: the bad is not met, and 13 tells the leak.
+    at 13 57 (to-bytes (changed unbounded-words ((31, 0) ∷ (32, 65535) ∷ (69, 65534) ∷ []))) ∷
+    -- Its limit is the minimum.
+    at 12 26 (to-bytes (changed unbounded-words ((31, 0) ∷ (32, 65534) ∷ (69, 65534) ∷ []))) ∷
+    -- When one has gone on, any number is still at the start, and so more than 65,534: 13 at the first ceiling.
+    at 13 57 (to-bytes one-taken-words) ∷
+    -- With a second ceiling that is unbounded there too nothing leads out.
+    at 0 0 (to-bytes (changed one-taken-words ((68, 65535) ∷ []))) ∷
     -- Arity 8, the most: the rows are a program, and the first state is missing: 8 at size F.
     at 8 40 (to-bytes arity-of-eight-words) ∷
     -- Arity 9: 3 at the constructor's row.
@@ -1031,5 +1083,5 @@ listing-cases =
 
 -- the definitions above opened at once, for the theorems that compute the table
 unfoldable pub verdict-cases-opens : Unit {0}
-unfolding bads-sizes-program bads-sizes-words tables-sizes-program tables-sizes-words ceilings-sizes-program ceilings-sizes-words station-a-program station-a-words two-bads-program two-bads-words two-bads-listing arity-of-eight-program arity-of-eight-words eight-parameters-program eight-parameters-words eight-arguments-program eight-arguments-words eight-arguments-listing sixteen-branches-program sixteen-branches-words depth-four-program depth-four-words depth-five-program depth-five-words scopes-program scopes-words scopes-listing values-program values-words values-listing letters-program letters-words letters-listing function-letter-program function-letter-words function-letter-listing address-letter-program address-letter-words address-letter-listing wrong-counts-program wrong-counts-words wrong-counts-listing two-callees-program two-callees-words two-callees-listing two-spawned-program two-spawned-words two-spawned-listing two-branches-program two-branches-words two-branches-listing two-letters-program two-letters-words two-letters-listing one-letter-program one-letter-words one-letter-listing class-before-letter-program class-before-letter-words class-before-letter-listing read-before-program read-before-words read-before-listing verdict-cases listing-cases
+unfolding bads-sizes-program bads-sizes-words tables-sizes-program tables-sizes-words ceilings-sizes-program ceilings-sizes-words station-a-program station-a-words two-bads-program two-bads-words two-bads-listing unbounded-program unbounded-words one-taken-program one-taken-words arity-of-eight-program arity-of-eight-words eight-parameters-program eight-parameters-words eight-arguments-program eight-arguments-words eight-arguments-listing sixteen-branches-program sixteen-branches-words depth-four-program depth-four-words depth-five-program depth-five-words scopes-program scopes-words scopes-listing values-program values-words values-listing letters-program letters-words letters-listing function-letter-program function-letter-words function-letter-listing address-letter-program address-letter-words address-letter-listing wrong-counts-program wrong-counts-words wrong-counts-listing two-callees-program two-callees-words two-callees-listing two-spawned-program two-spawned-words two-spawned-listing two-branches-program two-branches-words two-branches-listing two-letters-program two-letters-words two-letters-listing one-letter-program one-letter-words one-letter-listing class-before-letter-program class-before-letter-words class-before-letter-listing read-before-program read-before-words read-before-listing verdict-cases listing-cases
 verdict-cases-opens = tt
