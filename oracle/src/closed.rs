@@ -43,9 +43,7 @@ impl Check<'_> {
             Head::Send { name, target, message, rest } => self.send(*name, *target, *message, *rest),
             Head::Spawn { name, callee, rest } => self.spawn(row, *name, *callee, *rest),
             Head::Case { value, branches } => self.branches(self.a.flow(*value), branches),
-            Head::Receive { branches } => {
-                self.branches(&self.a.tables.mail_of(self.a.program, self.class), branches)
-            }
+            Head::Receive { branches } => self.branches(&self.a.tables.mail_of(self.a.program, self.class), branches),
         }
     }
 
@@ -81,9 +79,9 @@ impl Check<'_> {
 
     fn give_back(&self, value: Name, row: Row) -> Option<Want> {
         let function = self.a.program.inside[row]?;
-        self.a.returns(self.class, function).find_map(|(_, name, rest)| {
-            self.wants_flows(name, self.a.flow(value)).or_else(|| self.wants_state(rest))
-        })
+        self.a
+            .returns(self.class, function)
+            .find_map(|(_, name, rest)| self.wants_flows(name, self.a.flow(value)).or_else(|| self.wants_state(rest)))
     }
 
     fn send(&self, name: Name, target: Name, message: Name, rest: Row) -> Option<Want> {
@@ -102,9 +100,10 @@ impl Check<'_> {
 
     fn spawn(&self, row: Row, name: Name, callee: Name, rest: Row) -> Option<Want> {
         let functions = self.a.callees(callee, 0);
-        functions.iter().filter_map(|f| self.a.program.function(f)).find_map(|f| {
-            self.yields(name, row, rest).or_else(|| self.wants_state_of(row, f.body))
-        })
+        functions
+            .iter()
+            .filter_map(|f| self.a.program.function(f))
+            .find_map(|f| self.yields(name, row, rest).or_else(|| self.wants_state_of(row, f.body)))
     }
 
     fn branches(&self, values: &Set, branches: &[Branch]) -> Option<Want> {

@@ -1,6 +1,6 @@
 //! The counters' run, and what holds of its counts.
 
-use crate::bads::Bad;
+use crate::bads::{Bad, Item, Place};
 use crate::bounds::{self, Bounds};
 use crate::limits::UNBOUNDED;
 use crate::machine::{Deed, Machine, Step};
@@ -73,13 +73,27 @@ pub fn rule_of(step: &Step, tables: &Tables, system: &System) -> Option<usize> {
     system.rules[begin..].iter().position(|other| *other == rule).map(|i| begin + i)
 }
 
-/// A safe station beside its counters.
+/// True if a station meets a bad, counted in the station itself.
+pub fn meets(machine: &Machine, bad: &Bad) -> bool {
+    let count = |item: &Item| {
+        let processes = machine.processes.iter().filter(|process| process.class == item.class);
+        match item.place {
+            Place::Head(head) => processes.filter(|process| process.location == head).count(),
+            Place::Letter(letter) => {
+                processes.flat_map(|process| &process.mailbox).filter(|&&m| machine.letter(m) == letter).count()
+            }
+        }
+    };
+    bad.items.iter().all(|item| count(item) >= item.minimum as usize)
+}
+
+/// A station beside its counters, and the bounds where it is safe.
 pub struct Beside<'a> {
     pub machine: Machine<'a>,
     pub counts: Counts,
     pub tables: &'a Tables,
     pub system: &'a System,
-    bounds: &'a Bounds,
+    bounds: Option<&'a Bounds>,
     bads: Vec<Option<Vec<(usize, u16)>>>,
 }
 
@@ -88,7 +102,7 @@ impl<'a> Beside<'a> {
         program: &'a Program,
         tables: &'a Tables,
         system: &'a System,
-        bounds: &'a Bounds,
+        bounds: Option<&'a Bounds>,
         bads: &[Bad],
     ) -> Option<Beside<'a>> {
         let start = tables.state(program.rows, program.start)?;
@@ -104,21 +118,29 @@ impl<'a> Beside<'a> {
 
     /// One number: the process steps and the counters' run follows with the rule the step uses.
     pub fn step(&mut self, number: usize) -> Result<Option<usize>, String> {
-        let Ok(step) = self.machine.step(number) else { return Ok(None) };
-        let rule = rule_of(&step, self.tables, self.system).ok_or_else(|| format!("no rule for {step:?}"))?;
+        match self.machine.step(number) {
+            Ok(step) => self.follow(&step).map(Some),
+            Err(_) => Ok(None),
+        }
+    }
+
+    /// The counters use the rule of a step that the station took; gives the rule.
+    pub fn follow(&mut self, step: &Step) -> Result<usize, String> {
+        let rule = rule_of(step, self.tables, self.system).ok_or_else(|| format!("no rule for {step:?}"))?;
         match self.counts.apply(&self.system.rules[rule]) {
-            true => Ok(Some(rule)),
+            true => Ok(rule),
             false => Err(format!("rule {rule} can't be used in its turn")),
         }
     }
 
-    /// Demand 3 for the counts as they stand.
+    /// Demand 3 for the counts as they stand; of a station that is not safe, that the counts are equal.
     pub fn check(&self) -> Result<(), String> {
         let station = station_counts(&self.machine, self.tables, self.system);
         if station.as_ref() != Some(&self.counts) {
             return Err(format!("the station counts {station:?}, the counters {:?}", self.counts));
         }
-        if !self.counts.under_one(self.bounds) {
+        let Some(bounds) = self.bounds else { return Ok(()) };
+        if !self.counts.under_one(bounds) {
             return Err(format!("counts {:?} lie under no ceiling", self.counts));
         }
         match self.bads.iter().flatten().position(|items| self.counts.meet(items)) {
@@ -146,7 +168,7 @@ pub fn check_demand_3(message: &[u8], numbers: &[usize]) -> Result<Vec<usize>, S
     crate::verify::inspect(message, &mut read).map_err(|r| format!("refused {} at {}", r.number, r.position))?;
     match (&read.program, &read.tables, &read.system, &read.bounds, &read.bads) {
         (Some(program), Some(tables), Some(system), Some(bounds), Some(bads)) => {
-            let beside = Beside::new(program, tables, system, bounds, bads);
+            let beside = Beside::new(program, tables, system, Some(bounds), bads);
             beside.ok_or("no starting state")?.run(numbers)
         }
         _ => Err("not all parts were read".to_string()),

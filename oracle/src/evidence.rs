@@ -34,7 +34,12 @@ pub fn lay_out(m: &mut Message) {
 }
 
 /// A message of rows and bad rows, without tables and bounds.
-pub fn bare(sizes: (usize, usize, usize), rows: &[(usize, usize)], bads: usize, bad_rows: &[(usize, usize)]) -> Message {
+pub fn bare(
+    sizes: (usize, usize, usize),
+    rows: &[(usize, usize)],
+    bads: usize,
+    bad_rows: &[(usize, usize)],
+) -> Message {
     let mut m = Message { names: sizes.0, constructors: sizes.1, functions: sizes.2, bads, ..Message::default() };
     m.program = columns(rows);
     m.bad_rows = columns(bad_rows);
@@ -53,7 +58,11 @@ pub fn read(m: &Message) -> Result<(Program, Vec<Bad>), Refusal> {
 /// Puts tables into a message; a word if they exceed the limits.
 pub fn put_tables(m: &mut Message, program: &Program, tables: &Tables) -> Result<(), String> {
     let (flow, mail) = (tables.flow_pairs(), tables.mail_pairs(program));
-    let sizes = [(flow.len(), limits::FLOW, "flow"), (mail.len(), limits::MAIL, "mail"), (tables.states.len(), limits::STATES, "state")];
+    let sizes = [
+        (flow.len(), limits::FLOW, "flow"),
+        (mail.len(), limits::MAIL, "mail"),
+        (tables.states.len(), limits::STATES, "state"),
+    ];
     for (size, (_, most), what) in sizes {
         if size > most as usize {
             return Err(format!("{size} {what} entries would be needed, at most {most} are allowed"));

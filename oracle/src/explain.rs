@@ -1,43 +1,64 @@
 //! The verdict in words: what the place is, what was wanted there, what to do.
 
+use crate::bads::Bad;
+use crate::bounds::{Bounds, item_counter};
 use crate::limits;
 use crate::message::{Columns, Message};
 use crate::refusal::{self, Detail, Refusal, Want};
+use crate::replay::Derived;
 use crate::symbols::Symbols;
-use crate::verify::{verify_in_detail, Read};
+use crate::system::Rule;
+use crate::text::words::Words;
+use crate::verify::{Read, verify_in_detail};
+use crate::wrap::wrapped;
 
-/// The verdict of a message for a person, with so many words lent.
-pub fn explain(bytes: &[u8], lent: usize) -> String {
+/// The verdict of a message for a person, with so many words lent, and its number. Lines are under 100 characters.
+pub fn explain(bytes: &[u8], lent: usize, words: Option<&Words>) -> (u32, String) {
     let (read, result) = verify_in_detail(bytes, &mut vec![0; lent]);
+    let symbols = match (&read.program, &read.message, words) {
+        (Some(program), Some(message), Some(words)) => Some(words.symbols(program, message)),
+        (Some(program), _, _) => Some(Symbols::new(program)),
+        _ => None,
+    };
     match result {
-        Ok(part) => safe(&read, part.len()),
-        Err(refusal) => Explainer { bytes, read: &read, refusal: &refusal }.words(),
+        Ok(part) => (0, safe(&read, symbols.as_ref(), part.len())),
+        Err(refusal) => {
+            let explainer = Explainer { bytes, read: &read, symbols: symbols.as_ref(), refusal: &refusal };
+            (refusal.number, explainer.words())
+        }
     }
 }
 
-fn safe(read: &Read, part: usize) -> String {
+fn safe(read: &Read, symbols: Option<&Symbols>, part: usize) -> String {
     let system = read.system.as_ref();
     let (states, letters) = system.map_or((0, 0), |s| (s.states, s.letters.len()));
     let rules = system.map_or(0, |s| s.rules.len());
     let bounds = read.bounds.as_ref().map_or(0, |b| b.limits.len());
-    format!(
-        "0 (safe): no run of this station meets a bad.\n\
-         The loader gets the program's {part} bytes. The system has {states} states, {letters} letters and {rules} rules;\n\
-         {bounds} ceilings hold every count a run can reach.\n"
-    )
+    let bads = (0..read.bads.as_ref().map_or(0, Vec::len)).filter_map(|bad| symbols.map(|s| s.bad(bad)));
+    let bads: Vec<String> = bads.collect();
+    wrapped("", &format!("0 (safe): no run of this station meets {}.", bads.join(" or ")))
+        + &wrapped("", &format!("The loader gets the program's {part} bytes."))
+        + &wrapped(
+            "",
+            &format!(
+                "The system has {states} states, {letters} letters and {rules} rules; {} every count a run can reach.",
+                if bounds == 1 { "1 ceiling holds".to_string() } else { format!("{bounds} ceilings hold") }
+            ),
+        )
 }
 
 struct Explainer<'a> {
     bytes: &'a [u8],
     read: &'a Read,
+    symbols: Option<&'a Symbols<'a>>,
     refusal: &'a Refusal,
 }
 
 /// The trade's word for a refusal.
 pub fn trade_word(number: u32) -> &'static str {
     const WORDS: [&str; 15] = [
-        "safe", "length", "size", "row", "name", "scope", "bad", "entry", "open", "counters", "ceiling", "start", "met",
-        "leak", "space",
+        "safe", "length", "size", "row", "name", "scope", "bad", "entry", "open", "counters", "ceiling", "start",
+        "met", "leak", "space",
     ];
     WORDS.get(number as usize).copied().unwrap_or("unknown")
 }
@@ -62,7 +83,9 @@ impl Explainer<'_> {
             _ => self.space(),
         };
         let word = trade_word(r.number);
-        format!("{} ({word}) at {}\nplace:  {what}\nwanted: {wanted}\nto do:  {to_do}\n", r.number, r.position)
+        let lines = [("place:  ", what), ("wanted: ", wanted), ("to do:  ", to_do)];
+        let lines = lines.iter().map(|(label, words)| wrapped(label, words));
+        format!("{} ({word}) at {}\n{}", r.number, r.position, lines.collect::<String>())
     }
 
     fn wanted(&self) -> String {
@@ -83,17 +106,17 @@ impl Explainer<'_> {
         self.read.message.as_ref()
     }
 
-    fn symbols(&self) -> Option<Symbols<'_>> {
-        self.read.program.as_ref().map(Symbols::new)
-    }
-
     fn length(&self) -> (String, String, String) {
         let place = format!("word {} of a message of {} bytes", self.refusal.position, self.bytes.len());
         let what = match self.refusal.detail {
             Detail::Wanted("the end of the message") => format!("{place}: the ceilings end here, but bytes follow"),
             _ => format!("{place}: the part that begins here is not whole"),
         };
-        (what, self.wanted(), "send the whole message, each part as long as its sizes say, and nothing behind it".to_string())
+        (
+            what,
+            self.wanted(),
+            "send the whole message, each part as long as its sizes say, and nothing behind it".to_string(),
+        )
     }
 
     fn size(&self) -> (String, String, String) {
@@ -106,7 +129,9 @@ impl Explainer<'_> {
     /// A row of the program in words.
     fn row_words(&self, row: usize) -> String {
         let pair = self.message().filter(|m| row < m.rows).map(|m| m.program.pair(row));
-        pair.map_or(format!("row {row}: past the last row"), |(tag, number)| format!("row {row}, which is ({tag}, {number})"))
+        pair.map_or(format!("row {row}: past the last row"), |(tag, number)| {
+            format!("row {row}, which is ({tag}, {number})")
+        })
     }
 
     fn row(&self) -> (String, String, String) {
@@ -130,7 +155,9 @@ impl Explainer<'_> {
         let program = self.read.program.as_ref();
         let binder = program.and_then(|p| p.binders.iter().find(|b| b.name == number));
         let bound = binder.map_or(String::new(), |b| match b.from < b.until {
-            true => format!("; name {number} is bound in row {} and holds in rows {} to {}", b.row, b.from, b.until - 1),
+            true => {
+                format!("; name {number} is bound in row {} and holds in rows {} to {}", b.row, b.from, b.until - 1)
+            }
             false => format!("; name {number} is bound in row {} and holds in no row", b.row),
         });
         let what = format!("{}{bound}", self.row_words(row));
@@ -155,20 +182,34 @@ impl Explainer<'_> {
     fn entry(&self) -> (String, String, String) {
         let what = self.message().map_or(String::new(), |m| {
             let i = self.refusal.position.saturating_sub(m.tables.at);
-            let list = if i < m.flow { "flow" } else if i < m.flow + m.mail { "mail" } else { "states" };
+            let list = if i < m.flow {
+                "flow"
+            } else if i < m.flow + m.mail {
+                "mail"
+            } else {
+                "states"
+            };
             format!("{} of the tables, in the list of {list}", self.entry_words("entry", &m.tables))
         });
-        (what, self.wanted(), "sort each list, drop entries that stand twice, keep to names, values, classes and heads".to_string())
+        (
+            what,
+            self.wanted(),
+            "sort each list, drop entries that stand twice, keep to names, values, classes and heads".to_string(),
+        )
     }
 
     fn want(&self, want: &Want) -> String {
-        let Some(symbols) = self.symbols() else { return String::new() };
+        let Some(symbols) = self.symbols else { return String::new() };
         match *want {
             Want::Flow { name, value } => {
                 format!("flow entry ({name}, {value}): {} may hold {}", symbols.name(name), symbols.value(value))
             }
             Want::Mail { class, value } => {
-                format!("mail entry ({class}, {value}): a mailbox of {} may hold {}", symbols.class(class), symbols.value(value))
+                format!(
+                    "mail entry ({class}, {value}): a mailbox of {} may hold {}",
+                    symbols.class(class),
+                    symbols.value(value)
+                )
             }
             Want::State { class, head } => format!("state entry ({class}, {head}): {}", symbols.state(class, head)),
         }
@@ -182,11 +223,15 @@ impl Explainer<'_> {
         let at = self.message().map_or(0, |m| m.tables.at + m.flow + m.mail);
         let state = self.refusal.position.checked_sub(at);
         let state = state.and_then(|i| self.read.tables.as_ref()?.states.get(i).map(|s| (i, *s)));
-        let what = match (state, self.symbols()) {
+        let what = match (state, self.symbols) {
             (Some((i, (class, head))), Some(symbols)) => format!("state {i}: {}", symbols.state(class, head)),
             _ => "the size F: an opening entry is missing".to_string(),
         };
-        (what, wanted, "add this entry, then verify again: it may want others (`oracle assemble` finds them all)".to_string())
+        (
+            what,
+            wanted,
+            "add this entry, then verify again: it may want others (`oracle assemble` finds them all)".to_string(),
+        )
     }
 
     fn counters(&self) -> (String, String, String) {
@@ -195,7 +240,11 @@ impl Explainer<'_> {
             _ => 0,
         };
         let what = format!("the size S: states and letters make {count} counters");
-        (what, format!("at most {} counters", limits::COUNTERS), "make the station smaller or drop entries that are not needed".to_string())
+        (
+            what,
+            format!("at most {} counters", limits::COUNTERS),
+            "make the station smaller or drop entries that are not needed".to_string(),
+        )
     }
 
     fn bound(&self) -> (String, String, String) {
@@ -211,38 +260,31 @@ impl Explainer<'_> {
         (what, wanted, "add such a ceiling".to_string())
     }
 
-    /// A ceiling's limits in words.
-    fn limits(&self, bound: usize) -> String {
-        let (Some(symbols), Some(tables), Some(system), Some(bounds)) =
-            (self.symbols(), &self.read.tables, &self.read.system, &self.read.bounds)
-        else {
-            return String::new();
-        };
-        let held = bounds.limits[bound].iter().enumerate().filter(|&(_, &limit)| limit > 0);
-        let words = held.map(|(c, &limit)| {
-            let limit = if limit == limits::UNBOUNDED { "any".to_string() } else { limit.to_string() };
-            format!("{}<={limit}", symbols.counter(tables, system, c))
-        });
-        words.collect::<Vec<_>>().join(" ")
+    /// What the ceilings are told with.
+    fn counted(&self) -> Option<Counted<'_>> {
+        let Read { tables, system, bounds, bads, program, .. } = self.read;
+        Some(Counted {
+            symbols: self.symbols?,
+            derived: Derived { program: program.as_ref()?, tables: tables.as_ref()?, system: system.as_ref()? },
+            bounds: bounds.as_ref()?,
+            bads: bads.as_deref()?,
+        })
     }
 
     fn met(&self) -> (String, String, String) {
         let Detail::Met { bad, bound } = self.refusal.detail else { return Default::default() };
-        let what = format!("bad {bad}; ceiling {bound} allows it: {}", self.limits(bound));
+        let what = self.counted().map_or(String::new(), |counted| counted.met(bad, bound));
         let wanted = "no ceiling that lets every item of a bad reach its minimum".to_string();
-        let to_do = "if a run can meet the bad, change the station; if not, split this ceiling into narrower ones";
+        let to_do = "`oracle assemble` says which it is: if a run of the station meets the bad, change the station; if \
+                     only the counters do, tell apart what they mix; if neither, split this ceiling into narrower ones";
         (what, wanted, to_do.to_string())
     }
 
     fn leak(&self) -> (String, String, String) {
         let Detail::Leak { bound, rule } = self.refusal.detail else { return Default::default() };
-        let words = match (self.symbols(), &self.read.tables, &self.read.system) {
-            (Some(symbols), Some(tables), Some(system)) => symbols.rule(tables, system, &system.rules[rule]),
-            _ => String::new(),
-        };
-        let what = format!("ceiling {bound}: {}", self.limits(bound));
-        let wanted = format!("one ceiling over all that rule {rule} makes of it: {words}");
-        (what, wanted, "raise a limit or add a ceiling that holds the result (65534 and one more lies under 65535 only)".to_string())
+        let (what, wanted) = self.counted().map_or(Default::default(), |counted| counted.leak(bound, rule));
+        let to_do = "raise a limit or add a ceiling that holds the result (65534 and one more lies under any only)";
+        (what, wanted, to_do.to_string())
     }
 
     fn space(&self) -> (String, String, String) {
@@ -253,4 +295,85 @@ impl Explainer<'_> {
         let what = format!("the system needs {} words, {lent} were lent", self.refusal.position);
         (what, "room for the whole system".to_string(), format!("lend {} words (`--lend {0}`)", self.refusal.position))
     }
+}
+
+/// A message whose ceilings were read: the counters that matter, in words.
+struct Counted<'a> {
+    symbols: &'a Symbols<'a>,
+    derived: Derived<'a>,
+    bounds: &'a Bounds,
+    bads: &'a [Bad],
+}
+
+/// Counters that are named at most where there may be many.
+const NAMED: usize = 4;
+
+impl Counted<'_> {
+    fn counter(&self, counter: usize) -> String {
+        self.symbols.counter(self.derived.tables, self.derived.system, counter)
+    }
+
+    /// Some limits of a ceiling.
+    fn limits(&self, bound: usize, counters: &[usize]) -> String {
+        let words = counters.iter().map(|&c| format!("{}<={}", self.counter(c), told(self.bounds.limits[bound][c])));
+        words.collect::<Vec<_>>().join(" ")
+    }
+
+    /// A bad and a ceiling that allows it, by the counters of its items.
+    fn met(&self, bad: usize, bound: usize) -> String {
+        let Derived { program, tables, system } = self.derived;
+        let items: Vec<String> = self.bads[bad].items.iter().map(|item| self.symbols.item(item)).collect();
+        let counters = self.bads[bad].items.iter().filter_map(|item| item_counter(program, tables, system, item));
+        let mut counters: Vec<usize> = counters.collect();
+        counters.dedup();
+        let (name, items, limits) = (self.symbols.bad(bad), items.join(" and "), self.limits(bound, &counters));
+        format!("{name}, {items}; ceiling {bound} allows it: {limits}")
+    }
+
+    /// A ceiling by the counters of the rule that leaks; the rule, and what comes nearest to hold its result.
+    fn leak(&self, bound: usize, rule: usize) -> (String, String) {
+        let (tables, system) = (self.derived.tables, self.derived.system);
+        let used = &system.rules[rule];
+        let mut counters: Vec<usize> =
+            [Some(used.from), used.read(), Some(used.to), used.adds()].into_iter().flatten().collect();
+        counters.sort_unstable();
+        counters.dedup();
+        let what = format!("ceiling {bound}: {}", self.limits(bound, &counters));
+        let rule_words = format!("rule {rule}, {}", self.symbols.rule(tables, system, used));
+        let (nearest, over) = self.nearest(&after(&self.bounds.limits[bound], used));
+        let named = &over[..over.len().min(NAMED)];
+        let more = if over.len() > NAMED { format!(" and {} more", over.len() - NAMED) } else { String::new() };
+        let limits = self.limits(nearest, named);
+        (
+            what,
+            format!(
+                "one ceiling over all that it becomes by {rule_words}; nearest is ceiling {nearest}, too low at \
+                 {limits}{more}"
+            ),
+        )
+    }
+
+    /// The ceiling with the fewest counters that some counts exceed, and these counters.
+    fn nearest(&self, counts: &[u32]) -> (usize, Vec<usize>) {
+        let over = |limits: &Vec<u16>| {
+            let over = limits.iter().zip(counts).enumerate();
+            let over = over.filter(|&(_, (&limit, &count))| limit != limits::UNBOUNDED && count > limit as u32);
+            over.map(|(counter, _)| counter).collect::<Vec<_>>()
+        };
+        let all = self.bounds.limits.iter().map(over).enumerate();
+        all.min_by_key(|(_, over)| over.len()).unwrap_or_default()
+    }
+}
+
+/// The highest counts under a ceiling after a rule; unbounded ones as more than any limit.
+fn after(limits: &[u16], rule: &Rule) -> Vec<u32> {
+    const MANY: u32 = 1 << 20;
+    let mut counts: Vec<u32> = limits.iter().map(|&l| if l == limits::UNBOUNDED { MANY } else { l as u32 }).collect();
+    [Some(rule.from), rule.read()].into_iter().flatten().for_each(|counter| counts[counter] -= 1);
+    [Some(rule.to), rule.adds()].into_iter().flatten().for_each(|counter| counts[counter] += 1);
+    counts
+}
+
+fn told(limit: u16) -> String {
+    if limit == limits::UNBOUNDED { "any".to_string() } else { limit.to_string() }
 }

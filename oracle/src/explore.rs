@@ -64,6 +64,28 @@ pub fn bounds(net: &Net, budget: usize) -> Result<Vec<Limits>, Failure> {
     }
 }
 
+/// The same, but few bounds rather than exact ones.
+pub fn fewest(net: &Net, budget: usize) -> Result<Vec<Limits>, Failure> {
+    from(net, budget, false)
+}
+
+/// Bounds that allow only the bads that both allow: counts that stay under some bound of each stay under the least of
+/// the two. None if they become too many.
+pub fn meet(some: &[Limits], others: &[Limits]) -> Option<Vec<Limits>> {
+    let mut kept: Vec<Limits> = Vec::new();
+    for (a, b) in some.iter().flat_map(|a| others.iter().map(move |b| (a, b))) {
+        let least: Limits = a.iter().zip(b).map(|(a, b)| *a.min(b)).collect();
+        if !kept.iter().any(|other| covers(other, &least)) {
+            kept.retain(|other| !covers(&least, other));
+            kept.push(least);
+        }
+        if kept.len() > MOST_MAXIMAL {
+            return None;
+        }
+    }
+    Some(kept)
+}
+
 /// Starts with every counter exact, or every counter coarse.
 fn from(net: &Net, budget: usize, all_exact: bool) -> Result<Vec<Limits>, Failure> {
     let ranges = net.system.by_state();
@@ -78,14 +100,14 @@ fn from(net: &Net, budget: usize, all_exact: bool) -> Result<Vec<Limits>, Failur
                 let limits = if all_exact { limits } else { coarsen(net, &ranges, exact, limits) };
                 return fitting(&limits).map(|()| limits);
             }
-            Grown::Exhausted => return Err(Failure::TooLarge(format!("more than {budget} sets of counts were tried"))),
+            Grown::Exhausted if tree.maximal.len() > MOST_MAXIMAL => {
+                return Err(Failure::TooLarge(format!("more than {MOST_MAXIMAL} ceilings were found")));
+            }
+            Grown::Exhausted => return Err(Failure::TooLarge(format!("{budget} sets of counts were tried"))),
             Grown::Meets { bad, path } => match refine(net, bad, &path, &exact) {
                 Refined::Run(rules) => return Err(Failure::Coverable { bad, rules, whole: true }),
                 Refined::Exact(counter) => exact[counter] = true,
-                Refined::Pattern if exact.iter().all(|&e| e) => {
-                    let rules = path.into_iter().map(|(rule, _)| rule).collect();
-                    return Err(Failure::Coverable { bad, rules, whole: false });
-                }
+                Refined::Pattern if exact.iter().all(|&e| e) => return Err(growing(net, bad, &path)),
                 Refined::Pattern => exact.fill(true),
             },
         }
@@ -93,21 +115,24 @@ fn from(net: &Net, budget: usize, all_exact: bool) -> Result<Vec<Limits>, Failur
 }
 
 /// A word if bounds exceed the limits of 01.
-fn fitting(limits: &[Limits]) -> Result<(), Failure> {
+pub fn fitting(limits: &[Limits]) -> Result<(), Failure> {
     let entries: usize = limits.iter().map(|l| 1 + l.iter().filter(|&&limit| limit > 0).count()).sum();
     let (most, most_entries) = (limits::BOUNDS.1 as usize, limits::BOUND_ENTRIES.1 as usize);
     if limits.len() > most {
-        return Err(Failure::TooLarge(format!("{} ceilings would be needed, at most {most} are allowed", limits.len())));
+        return Err(Failure::TooLarge(format!("{} ceilings were found, at most {most} are allowed", limits.len())));
     }
     if entries > most_entries {
-        return Err(Failure::TooLarge(format!("{entries} ceiling entries would be needed, at most {most_entries} are allowed")));
+        return Err(Failure::TooLarge(format!(
+            "{entries} ceiling entries were found, at most {most_entries} are allowed"
+        )));
     }
     Ok(())
 }
 
 /// True if no limit of `lesser` is above that of `greater`. By lanes, which the compiler does at once.
 fn covers(greater: &[u16], lesser: &[u16]) -> bool {
-    let above = |lesser: &[u16], greater: &[u16]| lesser.iter().zip(greater).fold(0, |a, (l, g)| a | l.saturating_sub(*g));
+    let above =
+        |lesser: &[u16], greater: &[u16]| lesser.iter().zip(greater).fold(0, |a, (l, g)| a | l.saturating_sub(*g));
     lesser.chunks(LANES).zip(greater.chunks(LANES)).all(|(l, g)| above(l, g) == 0)
 }
 
@@ -224,15 +249,19 @@ enum Refined {
     Pattern,
 }
 
-/// Longest run that is tried.
+/// How often the pumped parts of a path are repeated, and the longest run that is tried so.
+const REPEATS: [usize; 8] = [0, 1, 2, 4, 8, 16, 32, 64];
 const LONGEST_RUN: usize = 20_000;
+/// The same for a path that is known to lead to the bad if only its parts are repeated often enough.
+const MORE_REPEATS: [usize; 10] = [128, 256, 512, 1024, 2048, 4096, 8192, 16_384, 32_768, 65_536];
+const LONGEST_GROWING: usize = 500_000;
 
 /// Tries a path with true counts, its pumped parts repeated more and more often. Of the
 /// counters that fall short, the last coarse one, nearest to the bad, shall become exact.
 fn refine(net: &Net, bad: usize, path: &[(usize, Option<usize>)], exact: &[bool]) -> Refined {
     let mut short = None;
-    for times in [0, 1, 2, 4, 8, 16, 32, 64] {
-        let Some(mut run) = repeated(path, times) else { break };
+    for times in REPEATS {
+        let Some(mut run) = repeated(path, times, LONGEST_RUN) else { break };
         match replay(net, bad, &run) {
             Ok(length) => {
                 run.truncate(length);
@@ -247,7 +276,22 @@ fn refine(net: &Net, bad: usize, path: &[(usize, Option<usize>)], exact: &[bool]
     short.map_or(Refined::Pattern, Refined::Exact)
 }
 
-fn repeated(path: &[(usize, Option<usize>)], times: usize) -> Option<Vec<usize>> {
+/// The run to a bad that a path leads to when its pumped parts are repeated often enough; the path itself if that is
+/// too often.
+fn growing(net: &Net, bad: usize, path: &[(usize, Option<usize>)]) -> Failure {
+    let runs = MORE_REPEATS.iter().map_while(|&times| repeated(path, times, LONGEST_GROWING));
+    let met = |mut run: Vec<usize>| {
+        let length = replay(net, bad, &run).ok()?;
+        run.truncate(length);
+        Some(Failure::Coverable { bad, rules: run, whole: true })
+    };
+    let as_it_stands = || path.iter().map(|&(rule, _)| rule).collect();
+    let pattern = || Failure::Coverable { bad, rules: as_it_stands(), whole: false };
+    runs.filter_map(met).next().unwrap_or_else(pattern)
+}
+
+/// The rules of a path with its pumped parts repeated; none if they are more than the longest run.
+fn repeated(path: &[(usize, Option<usize>)], times: usize, longest: usize) -> Option<Vec<usize>> {
     let mut run = Vec::new();
     let mut begins = Vec::new();
     for &(rule, pumped) in path {
@@ -255,9 +299,12 @@ fn repeated(path: &[(usize, Option<usize>)], times: usize) -> Option<Vec<usize>>
         run.push(rule);
         if let Some(&begin) = pumped.and_then(|p| begins.get(p)) {
             let part = run[begin..].to_vec();
+            if times * part.len() > longest {
+                return None;
+            }
             (0..times).for_each(|_| run.extend(&part));
         }
-        if run.len() > LONGEST_RUN {
+        if run.len() > longest {
             return None;
         }
     }

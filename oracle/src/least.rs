@@ -69,7 +69,9 @@ impl<'a> Growth<'a> {
     fn state(&mut self, class: usize, row: Row) {
         let program = self.a.program;
         match program.head(row) {
-            Some(Head::Build { name, rest, .. } | Head::Function { name, rest }) => self.yields(class, *name, row, *rest),
+            Some(Head::Build { name, rest, .. } | Head::Function { name, rest }) => {
+                self.yields(class, *name, row, *rest)
+            }
             Some(Head::SelfAddress { name, rest }) => self.yields(class, *name, class, *rest),
             Some(Head::Call { callee, args, .. }) => self.call(class, *callee, args),
             Some(Head::GiveBack { value }) => self.give_back(class, row, *value),

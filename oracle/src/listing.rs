@@ -1,6 +1,6 @@
 //! The text that the printing program gives.
 
-use crate::verify::{verify, Outcome};
+use crate::verify::{Outcome, verify};
 use std::fmt::Write;
 
 /// Number and place; if safe the four sizes, then a tag and a number a line.

@@ -2,49 +2,17 @@
 
 mod shown;
 
-use crate::program::{Branch, Head, Name, Pattern, Program, Row};
+use crate::program::{Branch, Head, Name, Program, Row};
+use crate::store::{Bindings, Frame, Frames, Store, Value, ValueId};
 
-/// A value in the machine's store.
-pub type ValueId = usize;
-/// A list of bindings in the machine's store; none is the empty list.
-pub type Bindings = Option<usize>;
-
-#[derive(Clone, Debug, PartialEq, Eq)]
-pub enum Value {
-    Function { row: Row, bindings: Bindings },
-    Built { row: Row, constructor: usize, args: Vec<ValueId> },
-    Address(usize),
-}
-
-#[derive(Clone, Copy, Debug)]
-struct Binding {
-    name: Name,
-    value: ValueId,
-    others: Bindings,
-}
-
-/// A pushed call.
-#[derive(Clone, Copy, Debug)]
-struct Frame {
-    call: Row,
-    bindings: Bindings,
-}
-
-#[derive(Clone, Debug)]
+#[derive(Clone, Debug, PartialEq, Eq, Hash)]
 pub struct Process {
     pub class: usize,
     /// The head it stands at (01: its place).
     pub location: Row,
     bindings: Bindings,
-    frames: Vec<Frame>,
+    frames: Frames,
     pub mailbox: Vec<ValueId>,
-}
-
-impl Process {
-    /// Number of calls pushed.
-    pub fn pushed(&self) -> usize {
-        self.frames.len()
-    }
 }
 
 /// Why a number changes nothing.
@@ -73,229 +41,221 @@ pub struct Step {
     pub deed: Deed,
 }
 
+/// What a process is about to do; the name that is bound then and the rest stand together.
+enum Act<'a> {
+    Yield { value: Value, then: (Name, Row) },
+    GiveBack { value: ValueId, frame: Frame, then: (Name, Row) },
+    Call { body: Row, bindings: Bindings, params: &'a [Name], args: Vec<ValueId> },
+    Send { process: usize, message: ValueId, then: (Name, Row) },
+    Spawn { head: Row, bindings: Bindings, then: (Name, Row) },
+    Enter { branch: &'a Branch, found: Vec<(Name, ValueId)>, taken: Option<usize> },
+}
+
+/// A store and the processes that refer to it. Equal processes of one machine, also at different times, are equal in
+/// all that they hold: the store keeps each value once.
 pub struct Machine<'a> {
     pub program: &'a Program,
     pub processes: Vec<Process>,
-    values: Vec<Value>,
-    store: Vec<Binding>,
-    /// The value of each tag 11 name.
-    named: Vec<Option<ValueId>>,
+    store: Store,
 }
 
 impl<'a> Machine<'a> {
     /// The starting process alone. The program must have passed the checks up to 5.
     pub fn new(program: &'a Program) -> Machine<'a> {
-        let mut machine =
-            Machine { program, processes: Vec::new(), values: Vec::new(), store: Vec::new(), named: vec![None; program.names] };
-        for function in program.named() {
-            machine.named[function.name] = Some(machine.values.len());
-            machine.values.push(Value::Function { row: function.row, bindings: None });
-        }
+        let mut machine = Machine { program, processes: Vec::new(), store: Store::new(program) };
         machine.add_process(program.rows, program.start, None);
         machine
     }
 
     fn add_process(&mut self, class: usize, location: Row, bindings: Bindings) -> usize {
-        self.processes.push(Process { class, location, bindings, frames: Vec::new(), mailbox: Vec::new() });
+        self.processes.push(Process { class, location, bindings, frames: None, mailbox: Vec::new() });
         self.processes.len() - 1
-    }
-
-    pub fn value(&self, id: ValueId) -> &Value {
-        &self.values[id]
-    }
-
-    fn add_value(&mut self, value: Value) -> ValueId {
-        self.values.push(value);
-        self.values.len() - 1
     }
 
     /// The letter of a value.
     pub fn letter(&self, id: ValueId) -> usize {
         let count = self.program.arities.len();
-        match &self.values[id] {
+        match self.store.value(id) {
             Value::Built { constructor, .. } => *constructor,
             Value::Function { .. } => count,
             Value::Address(_) => count + 1,
         }
     }
 
-    fn bound(&mut self, others: Bindings, name: Name, value: ValueId) -> Bindings {
-        self.store.push(Binding { name, value, others });
-        Some(self.store.len() - 1)
-    }
-
-    /// The value of a name; scopes hold, so only an unsound program would lack one.
-    fn look_up(&self, mut bindings: Bindings, name: Name) -> Option<ValueId> {
-        if let Some(value) = self.named[name] {
-            return Some(value);
-        }
-        while let Some(i) = bindings {
-            if self.store[i].name == name {
-                return Some(self.store[i].value);
-            }
-            bindings = self.store[i].others;
-        }
-        None
-    }
-
-    fn look_up_all(&self, bindings: Bindings, names: &[Name]) -> Option<Vec<ValueId>> {
-        names.iter().map(|&name| self.look_up(bindings, name)).collect()
+    /// Takes calls that were pushed again and again out of a process: the same call with the same bindings right above
+    /// itself, where it only gives back what it gets. Giving back through one or through many of them passes the same
+    /// places with the same bindings, so a loop's states are few and what they lead to is counted the same.
+    pub fn settle(&mut self, number: usize) {
+        let frames = self.processes[number].frames;
+        self.processes[number].frames = self.store.settled(frames, |call| self.program.is_tail_call(call));
     }
 
     /// The process of this number steps, or tells why it does not.
     pub fn step(&mut self, number: usize) -> Result<Step, Idle> {
+        let act = self.next(number)?;
+        let step = self.foreseen(number, &act);
+        self.act(number, act);
+        Ok(step)
+    }
+
+    /// The step that the process of this number would take, or why it takes none.
+    pub fn peek(&self, number: usize) -> Result<Step, Idle> {
+        self.next(number).map(|act| self.foreseen(number, &act))
+    }
+
+    fn foreseen(&self, number: usize, act: &Act) -> Step {
+        let process = &self.processes[number];
+        let (to, deed) = match *act {
+            Act::Yield { then, .. } | Act::GiveBack { then, .. } => (then.1, Deed::Inner),
+            Act::Call { body, .. } => (body, Deed::Inner),
+            Act::Send { process, message, then } => {
+                let class = self.processes[process].class;
+                (then.1, Deed::Put { class, letter: self.letter(message), process })
+            }
+            Act::Spawn { head, then, .. } => {
+                (then.1, Deed::New { class: process.location, head, process: self.processes.len() })
+            }
+            Act::Enter { branch, taken: None, .. } => (branch.body, Deed::Inner),
+            Act::Enter { branch, taken: Some(i), .. } => {
+                (branch.body, Deed::Read { letter: self.letter(process.mailbox[i]) })
+            }
+        };
+        Step { class: process.class, from: process.location, to, deed }
+    }
+
+    fn next(&self, number: usize) -> Result<Act<'a>, Idle> {
         let process = self.processes.get(number).ok_or(Idle::NoProcess)?;
-        let (class, from, bindings) = (process.class, process.location, process.bindings);
-        let program = self.program;
-        let head = program.head(from).ok_or(Idle::Stopped("no head"))?;
-        let deed = match head {
-            Head::GiveBack { value } => self.give_back(number, bindings, *value)?,
+        match self.program.head(process.location).ok_or(Idle::Stopped("no head"))? {
+            Head::GiveBack { value } => self.give_back(process, *value),
             Head::Build { name, constructor, args, rest } => {
-                let args = self.look_up_all(bindings, args).ok_or(Idle::Stopped("no such name"))?;
-                let value = self.add_value(Value::Built { row: from, constructor: *constructor, args });
-                self.go_on(number, bindings, *name, value, *rest)
+                let args = self.values(process, args)?;
+                let value = Value::Built { row: process.location, constructor: *constructor, args };
+                Ok(Act::Yield { value, then: (*name, *rest) })
             }
             Head::Function { name, rest } => {
-                let value = self.add_value(Value::Function { row: from, bindings });
-                self.go_on(number, bindings, *name, value, *rest)
+                let value = Value::Function { row: process.location, bindings: process.bindings };
+                Ok(Act::Yield { value, then: (*name, *rest) })
             }
-            Head::SelfAddress { name, rest } => {
-                let value = self.add_value(Value::Address(number));
-                self.go_on(number, bindings, *name, value, *rest)
-            }
-            Head::Call { callee, args, .. } => self.call(number, from, bindings, *callee, args)?,
-            Head::Send { name, target, message, rest } => {
-                self.send(number, bindings, (*name, *rest), *target, *message)?
-            }
-            Head::Spawn { name, callee, rest } => self.spawn(number, from, bindings, (*name, *rest), *callee)?,
-            Head::Case { value, branches } => self.case(number, bindings, *value, branches)?,
-            Head::Receive { branches } => self.receive(number, bindings, branches)?,
-        };
-        Ok(Step { class, from, to: self.processes[number].location, deed })
+            Head::SelfAddress { name, rest } => Ok(Act::Yield { value: Value::Address(number), then: (*name, *rest) }),
+            Head::Call { callee, args, .. } => self.call(process, *callee, args),
+            Head::Send { name, target, message, rest } => self.send(process, *target, *message, (*name, *rest)),
+            Head::Spawn { name, callee, rest } => self.spawn(process, *callee, (*name, *rest)),
+            Head::Case { value, branches } => self.case(process, *value, branches),
+            Head::Receive { branches } => self.receive(process, branches),
+        }
     }
 
-    /// Binds a head's name and stands at its rest.
-    fn go_on(&mut self, number: usize, bindings: Bindings, name: Name, value: ValueId, rest: Row) -> Deed {
-        let bindings = self.bound(bindings, name, value);
-        self.stand(number, rest, bindings)
+    /// The value of a name; scopes hold, so only an unsound program would lack one.
+    fn held(&self, process: &Process, name: Name) -> Result<ValueId, Idle> {
+        self.store.look_up(process.bindings, name).ok_or(Idle::Stopped("no such name"))
     }
 
-    fn stand(&mut self, number: usize, location: Row, bindings: Bindings) -> Deed {
-        self.processes[number].location = location;
-        self.processes[number].bindings = bindings;
-        Deed::Inner
+    fn values(&self, process: &Process, names: &[Name]) -> Result<Vec<ValueId>, Idle> {
+        names.iter().map(|&name| self.held(process, name)).collect()
     }
 
-    fn give_back(&mut self, number: usize, bindings: Bindings, value: Name) -> Result<Deed, Idle> {
-        let value = self.look_up(bindings, value).ok_or(Idle::Stopped("no such name"))?;
-        let frame = self.processes[number].frames.pop().ok_or(Idle::Ended)?;
+    fn give_back(&self, process: &Process, value: Name) -> Result<Act<'a>, Idle> {
+        let value = self.held(process, value)?;
+        let frame = self.store.frame(process.frames).ok_or(Idle::Ended)?;
         match self.program.head(frame.call) {
-            Some(Head::Call { name, rest, .. }) => Ok(self.go_on(number, frame.bindings, *name, value, *rest)),
+            Some(Head::Call { name, rest, .. }) => Ok(Act::GiveBack { value, frame, then: (*name, *rest) }),
             _ => Err(Idle::Stopped("no call")),
         }
     }
 
     /// Row and bindings of a function value with this number of parameters.
-    fn callable(&self, bindings: Bindings, callee: Name, count: usize) -> Option<(Row, Bindings)> {
-        match self.values[self.look_up(bindings, callee)?] {
-            Value::Function { row, bindings } if self.program.function(row)?.params.len() == count => {
-                Some((row, bindings))
+    fn callable(&self, process: &Process, callee: Name, count: usize) -> Option<(Row, Bindings)> {
+        match self.store.value(self.held(process, callee).ok()?) {
+            Value::Function { row, bindings } if self.program.function(*row)?.params.len() == count => {
+                Some((*row, *bindings))
             }
             _ => None,
         }
     }
 
-    fn call(&mut self, number: usize, call: Row, bindings: Bindings, callee: Name, args: &[Name]) -> Result<Deed, Idle> {
+    fn call(&self, process: &Process, callee: Name, args: &[Name]) -> Result<Act<'a>, Idle> {
         let stopped = Idle::Stopped("the value can't be called with that count");
-        let (row, mut inner) = self.callable(bindings, callee, args.len()).ok_or(stopped)?;
-        let values = self.look_up_all(bindings, args).ok_or(stopped)?;
+        let (row, bindings) = self.callable(process, callee, args.len()).ok_or(stopped)?;
         let function = self.program.function(row).ok_or(stopped)?;
-        for (&param, value) in function.params.iter().zip(values) {
-            inner = self.bound(inner, param, value);
+        Ok(Act::Call { body: function.body, bindings, params: &function.params, args: self.values(process, args)? })
+    }
+
+    fn send(&self, process: &Process, target: Name, message: Name, then: (Name, Row)) -> Result<Act<'a>, Idle> {
+        let message = self.held(process, message)?;
+        match *self.store.value(self.held(process, target)?) {
+            Value::Address(process) => Ok(Act::Send { process, message, then }),
+            _ => Err(Idle::Stopped("the target is no process")),
         }
-        self.processes[number].frames.push(Frame { call, bindings });
-        Ok(self.stand(number, function.body, inner))
     }
 
-    fn send(
-        &mut self,
-        number: usize,
-        bindings: Bindings,
-        (name, rest): (Name, Row),
-        target: Name,
-        message: Name,
-    ) -> Result<Deed, Idle> {
-        let stopped = Idle::Stopped("the target is no process");
-        let target = self.look_up(bindings, target).ok_or(stopped)?;
-        let message = self.look_up(bindings, message).ok_or(stopped)?;
-        let Value::Address(process) = self.values[target] else { return Err(stopped) };
-        self.processes[process].mailbox.push(message);
-        self.go_on(number, bindings, name, message, rest);
-        Ok(Deed::Put { class: self.processes[process].class, letter: self.letter(message), process })
-    }
-
-    fn spawn(
-        &mut self,
-        number: usize,
-        row: Row,
-        bindings: Bindings,
-        (name, rest): (Name, Row),
-        callee: Name,
-    ) -> Result<Deed, Idle> {
+    fn spawn(&self, process: &Process, callee: Name, then: (Name, Row)) -> Result<Act<'a>, Idle> {
         let stopped = Idle::Stopped("only a function without parameters can be spawned");
-        let (function, inner) = self.callable(bindings, callee, 0).ok_or(stopped)?;
+        let (function, bindings) = self.callable(process, callee, 0).ok_or(stopped)?;
         let head = self.program.function(function).ok_or(stopped)?.body;
-        let process = self.add_process(row, head, inner);
-        let address = self.add_value(Value::Address(process));
-        self.go_on(number, bindings, name, address, rest);
-        Ok(Deed::New { class: row, head, process })
+        Ok(Act::Spawn { head, bindings, then })
     }
 
-    fn case(&mut self, number: usize, bindings: Bindings, value: Name, branches: &[Branch]) -> Result<Deed, Idle> {
-        let stopped = Idle::Stopped("no branch of the case matches");
-        let value = self.look_up(bindings, value).ok_or(stopped)?;
-        let (branch, found) = self.first_match(branches, value).ok_or(stopped)?;
-        Ok(self.enter(number, bindings, branch, found))
+    fn case(&self, process: &Process, value: Name, branches: &'a [Branch]) -> Result<Act<'a>, Idle> {
+        let first = self.store.first_match(self.program, branches, self.held(process, value)?);
+        let (branch, found) = first.ok_or(Idle::Stopped("no branch of the case matches"))?;
+        Ok(Act::Enter { branch, found, taken: None })
     }
 
-    fn receive(&mut self, number: usize, bindings: Bindings, branches: &[Branch]) -> Result<Deed, Idle> {
-        let mailbox = self.processes[number].mailbox.iter().enumerate();
-        let taken = mailbox.filter_map(|(i, &v)| self.first_match(branches, v).map(|m| (i, v, m))).next();
-        let (i, value, (branch, found)) = taken.ok_or(Idle::Waiting)?;
-        self.processes[number].mailbox.remove(i);
-        let letter = self.letter(value);
-        self.enter(number, bindings, branch, found);
-        Ok(Deed::Read { letter })
+    fn receive(&self, process: &Process, branches: &'a [Branch]) -> Result<Act<'a>, Idle> {
+        let mut mailbox = process.mailbox.iter().enumerate();
+        let earliest = mailbox.find_map(|(i, &v)| Some((i, self.store.first_match(self.program, branches, v)?)));
+        let (i, (branch, found)) = earliest.ok_or(Idle::Waiting)?;
+        Ok(Act::Enter { branch, found, taken: Some(i) })
     }
 
-    fn enter(&mut self, number: usize, mut bindings: Bindings, branch: &Branch, found: Vec<(Name, ValueId)>) -> Deed {
-        for (name, value) in found {
-            bindings = self.bound(bindings, name, value);
-        }
-        self.stand(number, branch.body, bindings)
-    }
-
-    fn first_match<'b>(&self, branches: &'b [Branch], value: ValueId) -> Option<(&'b Branch, Vec<(Name, ValueId)>)> {
-        branches.iter().find_map(|branch| {
-            let mut found = Vec::new();
-            self.matches(branch.pattern, value, &mut found).then_some((branch, found))
-        })
-    }
-
-    fn matches(&self, pattern: Row, value: ValueId, found: &mut Vec<(Name, ValueId)>) -> bool {
-        match self.program.pattern(pattern) {
-            Some(Pattern::Any) => true,
-            Some(Pattern::Name(name)) => {
-                found.push((*name, value));
-                true
+    fn act(&mut self, number: usize, act: Act) {
+        let Process { location: from, bindings, frames, .. } = self.processes[number];
+        match act {
+            Act::Yield { value, then } => {
+                let value = self.store.add_value(value);
+                self.go_on(number, bindings, value, then);
             }
-            Some(Pattern::Constructor { constructor, parts }) => match &self.values[value] {
-                Value::Built { constructor: built, args, .. } if built == constructor => {
-                    parts.iter().zip(args).all(|(&part, &arg)| self.matches(part, arg, found))
-                }
-                _ => false,
-            },
-            None => false,
+            Act::GiveBack { value, frame, then } => {
+                self.processes[number].frames = frame.below;
+                self.go_on(number, frame.bindings, value, then);
+            }
+            Act::Call { body, bindings: inner, params, args } => {
+                self.processes[number].frames = self.store.pushed(Frame { call: from, bindings, below: frames });
+                self.stand(number, body, inner, params.iter().copied().zip(args));
+            }
+            Act::Send { process, message, then } => {
+                self.processes[process].mailbox.push(message);
+                self.go_on(number, bindings, message, then);
+            }
+            Act::Spawn { head, bindings: inner, then } => {
+                let process = self.add_process(from, head, inner);
+                let address = self.store.add_value(Value::Address(process));
+                self.go_on(number, bindings, address, then);
+            }
+            Act::Enter { branch, found, taken } => {
+                taken.map(|i| self.processes[number].mailbox.remove(i));
+                self.stand(number, branch.body, bindings, found.into_iter());
+            }
         }
+    }
+
+    /// Binds a head's name and stands at its rest.
+    fn go_on(&mut self, number: usize, bindings: Bindings, value: ValueId, (name, rest): (Name, Row)) {
+        self.stand(number, rest, bindings, std::iter::once((name, value)));
+    }
+
+    /// Stands at a head with these bindings and more.
+    fn stand(
+        &mut self,
+        number: usize,
+        location: Row,
+        mut bindings: Bindings,
+        more: impl Iterator<Item = (Name, ValueId)>,
+    ) {
+        for (name, value) in more {
+            bindings = self.store.bound(bindings, name, value);
+        }
+        let process = &mut self.processes[number];
+        (process.location, process.bindings) = (location, bindings);
     }
 }

@@ -2,14 +2,20 @@
 
 mod commands;
 
-use commands::{against, assemble, cases, corpus, disassemble, explain, fuzz, hostile, run, time, verify, Answer};
-use std::io::Write;
+use commands::output::say;
+use commands::{
+    Answer, NO_VERDICT, against, assemble, cases, corpus, disassemble, explain, fuzz, hostile, run, time, told, verify,
+};
 use std::process::ExitCode;
 
-const USAGE: &str = "oracle verify [--lend N] FILE...      number, place and listing (- for standard input)
-oracle explain [--lend N] FILE          the verdict in words
-oracle run FILE NUMBERS...             a station run step by step beside its counters (N*K repeats)
-oracle assemble FILE [OUT]             text to message, with tables and ceilings
+const USAGE: &str = "oracle verify [--lend N] [--quiet] [FILE...]
+    number and place; if safe the listing (- or no file: standard input). Status 0 safe, 1 refused, 2 no verdict
+oracle explain [--lend N] [--station FILE] FILE
+    the verdict in words, with the names of NAME.station beside NAME.msg. Status as verify
+oracle run [--station FILE] [--random N] [--seed S] FILE [NUMBERS...]
+    a station run step by step beside its counters (N*K is K times process N). Status 1 where a bad is met
+oracle assemble [--budget N] FILE [OUT]
+    text to message, with tables and ceilings; what was found goes to standard error. Status as verify
 oracle disassemble FILE                message to text
 oracle fuzz SEED COUNT                 random messages through the proved code and `verify` (feature `proved`)
 oracle fuzz-naive SEED COUNT           the same messages through `verify` and a second, naive reading
@@ -20,7 +26,7 @@ oracle check-corpus BIN TXT            verifies a stored corpus anew
 oracle hostile DIR                     writes worst-case messages
 oracle run-cases SOURCE                the model's table of runs, with what this machine comes to
 oracle verdict-cases SOURCE            the model's table of verdicts, with what this verifier answers
-oracle bench                           times of the proved code and of `verify`, as Markdown (feature `proved`)";
+oracle bench [OUT]                     times of the proved code and of `verify`, a page of its own (feature `proved`)";
 
 fn answer(command: &str, args: &[String]) -> Answer {
     match command {
@@ -43,24 +49,24 @@ fn answer(command: &str, args: &[String]) -> Answer {
         "explain" => explain::command(args),
         "assemble" => assemble::command(args),
         "disassemble" => disassemble::command(args),
+        "-h" | "--help" | "help" => told(&format!("{USAGE}\n")),
         _ => Err(USAGE.to_string()),
     }
 }
 
 fn main() -> ExitCode {
-    let args: Vec<String> = std::env::args().skip(1).collect();
+    let args: Vec<String> = std::env::args_os().skip(1).map(|arg| arg.to_string_lossy().into_owned()).collect();
     let (command, rest) = match args.split_first() {
         Some((command, rest)) => (command.as_str(), rest),
         None => ("", &[][..]),
     };
-    match answer(command, rest) {
-        Ok(text) => match std::io::stdout().write_all(text.as_bytes()) {
-            Ok(()) => ExitCode::SUCCESS,
-            Err(_) => ExitCode::from(2),
-        },
-        Err(word) => {
-            eprintln!("{word}");
-            ExitCode::from(2)
+    let status = match std::panic::catch_unwind(|| answer(command, rest)) {
+        Ok(Ok(status)) => status,
+        Ok(Err(word)) => {
+            say(&word);
+            NO_VERDICT
         }
-    }
+        Err(_) => NO_VERDICT,
+    };
+    ExitCode::from(status)
 }

@@ -111,6 +111,16 @@ impl Program {
         self.functions.iter().filter(|f| matches!(self.nodes[f.row], Node::Named))
     }
 
+    /// True for a call whose rest gives back what the call gets.
+    pub fn is_tail_call(&self, row: Row) -> bool {
+        match self.head(row) {
+            Some(Head::Call { name, rest, .. }) => {
+                matches!(self.head(*rest), Some(Head::GiveBack { value }) if value == name)
+            }
+            _ => false,
+        }
+    }
+
     pub fn is_head(&self, row: Row) -> bool {
         self.head(row).is_some()
     }

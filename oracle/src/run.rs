@@ -1,107 +1,192 @@
 //! A run shown step by step: the station, and beside it the counters.
 
-use crate::counters::{rule_of, Beside, Counts};
+use crate::bads::Bad;
+use crate::counters::{Beside, Counts, meets};
+use crate::fuzz::rng::Rng;
 use crate::machine::{Deed, Idle, Machine, Step};
 use crate::symbols::Symbols;
-use crate::system::System;
-use crate::tables::Tables;
-use crate::verify::{inspect, Read};
-use std::fmt::Write;
+use crate::text::telling::listed;
+use crate::text::words::Words;
+use crate::verify::{Read, inspect};
+use crate::wrap::wrapped;
 
-/// Shows a run. A program that passed the checks up to 5 can run; the counters run beside it
-/// where the tables are closed, and demand 3 is checked where the message is safe.
-pub fn show(message: &[u8], numbers: &[usize]) -> Result<String, String> {
+/// Which run is wanted: these numbers, then so many steps of processes picked at random among those that can step.
+#[derive(Clone, Debug, Default)]
+pub struct Wanted {
+    pub numbers: Vec<usize>,
+    pub random: usize,
+    pub seed: u64,
+}
+
+/// A run as text, and whether it met a bad.
+pub struct Shown {
+    pub text: String,
+    pub met: bool,
+}
+
+/// Shows a run. A program that passed the checks up to 5 can run; the counters run beside it where the tables are
+/// closed, and demand 3 is checked where the message is safe.
+pub fn show(message: &[u8], words: Option<&Words>, wanted: &Wanted) -> Result<Shown, String> {
     let mut read = Read::default();
     let refusal = inspect(message, &mut read).err();
-    let number = refusal.as_ref().map_or(0, |r| r.number);
-    let mut text = match &refusal {
+    let verdict = match &refusal {
         None => "safe: the counters run beside the station\n".to_string(),
         Some(r) => format!("refused {} at {}\n", r.number, r.position),
     };
-    match (&read.program, &read.tables, &read.system) {
-        (Some(program), Some(tables), Some(system)) => {
-            let symbols = Symbols::new(program);
-            let shown = Shown { symbols: &symbols, tables, system };
-            match (&read.bounds, &read.bads) {
-                (Some(bounds), Some(bads)) if number == 0 => {
-                    let beside = Beside::new(program, tables, system, bounds, bads);
-                    shown.safe(&mut beside.ok_or("no starting state")?, numbers, &mut text)?;
-                }
-                _ => shown.refused(&mut Machine::new(program), numbers, &mut text)?,
-            }
+    let (Some(program), Some(m)) = (&read.program, &read.message) else {
+        return Err(format!("{verdict}the program itself is refused: nothing can run"));
+    };
+    if refusal.as_ref().is_some_and(|r| r.number <= crate::refusal::SCOPE) {
+        return Err(format!("{verdict}the program itself is refused: nothing can run"));
+    }
+    let symbols = words.map_or_else(|| Symbols::new(program), |words| words.symbols(program, m));
+    let bads = read.bads.as_deref().unwrap_or(&[]);
+    let bounds = read.bounds.as_ref().filter(|_| refusal.is_none());
+    let station = match (&read.tables, &read.system) {
+        (Some(tables), Some(system)) => {
+            let beside = Beside::new(program, tables, system, bounds, bads);
+            Station::Beside(Box::new(beside.ok_or("no starting state")?))
         }
-        (Some(program), _, _) if number > 5 => plain(&mut Machine::new(program), numbers, &mut text),
-        _ => return Err(format!("{text}the program itself is refused: nothing can run")),
+        _ => Station::Alone(Box::new(Machine::new(program))),
+    };
+    let mut show = Show {
+        symbols: &symbols,
+        bads,
+        station,
+        met: vec![false; bads.len()],
+        ever: false,
+        text: verdict,
+        done: Vec::new(),
+    };
+    show.run(wanted)?;
+    if bounds.is_some() {
+        show.text.push_str("demand 3 held after every number: equal counts, under one ceiling, no bad met\n");
     }
-    Ok(text)
+    Ok(Shown { met: show.ever, text: show.text })
 }
 
-/// The station alone.
-fn plain(machine: &mut Machine, numbers: &[usize], text: &mut String) {
-    text.push_str("the tables are not closed: the station runs alone\n");
-    let symbols = Symbols::new(machine.program);
-    for (i, &number) in numbers.iter().enumerate() {
-        let step = machine.step(number);
-        let _ = writeln!(text, "{:>4}. {}", i + 1, step_words(&symbols, number, &step));
-    }
+/// The station beside its counters, or alone where its tables are not closed.
+enum Station<'a> {
+    Beside(Box<Beside<'a>>),
+    Alone(Box<Machine<'a>>),
 }
 
-struct Shown<'a> {
+struct Show<'a> {
     symbols: &'a Symbols<'a>,
-    tables: &'a Tables,
-    system: &'a System,
+    bads: &'a [Bad],
+    station: Station<'a>,
+    /// Which bads are met now, and whether one ever was.
+    met: Vec<bool>,
+    ever: bool,
+    text: String,
+    done: Vec<usize>,
 }
 
-impl Shown<'_> {
+impl Show<'_> {
+    fn machine(&self) -> &Machine<'_> {
+        match &self.station {
+            Station::Beside(beside) => &beside.machine,
+            Station::Alone(machine) => machine,
+        }
+    }
+
+    fn run(&mut self, wanted: &Wanted) -> Result<(), String> {
+        match &self.station {
+            Station::Beside(beside) => self.text.push_str(&self.counts(&beside.counts)),
+            Station::Alone(_) => self.text.push_str("the tables are not closed: the station runs alone\n"),
+        }
+        self.look()?;
+        for &number in &wanted.numbers {
+            self.number(number)?;
+        }
+        let mut rng = Rng::new(wanted.seed);
+        for _ in 0..wanted.random {
+            let free = self.free();
+            let Some(&number) = rng.pick(&free).filter(|_| !self.ever) else { break };
+            self.number(number)?;
+        }
+        if wanted.random > 0 {
+            self.line("the numbers: ", &listed(&self.done));
+        }
+        self.who();
+        Ok(())
+    }
+
+    fn line(&mut self, label: &str, words: &str) {
+        self.text.push_str(&wrapped(label, words));
+    }
+
+    /// One number: the step, the rule that the counters use for it, the counts, and the bads that are met then.
+    fn number(&mut self, number: usize) -> Result<(), String> {
+        self.done.push(number);
+        let step = match &mut self.station {
+            Station::Beside(beside) => beside.machine.step(number),
+            Station::Alone(machine) => machine.step(number),
+        };
+        self.line(&format!("{:>4}. ", self.done.len()), &step_words(self.symbols, number, &step));
+        if let (Ok(step), Station::Beside(beside)) = (step, &mut self.station) {
+            let rule = beside.follow(&step)?;
+            let words = self.symbols.rule(beside.tables, beside.system, &beside.system.rules[rule]);
+            let counts = beside.counts.clone();
+            self.line("      ", &format!("rule {rule}: {words}"));
+            self.text.push_str(&self.counts(&counts));
+        }
+        self.look()
+    }
+
     fn counts(&self, counts: &Counts) -> String {
+        let Station::Beside(beside) = &self.station else { return String::new() };
         let held = counts.0.iter().enumerate().filter(|&(_, &count)| count > 0);
-        let words = held.map(|(i, count)| format!("{}={count}", self.symbols.counter(self.tables, self.system, i)));
-        words.collect::<Vec<_>>().join(" ")
+        let words = held.map(|(i, count)| format!("{}={count}", self.symbols.counter(beside.tables, beside.system, i)));
+        wrapped("      counts: ", &words.collect::<Vec<_>>().join(" "))
     }
 
-    fn safe(&self, beside: &mut Beside, numbers: &[usize], text: &mut String) -> Result<(), String> {
-        let _ = writeln!(text, "      counts: {}", self.counts(&beside.counts));
-        beside.check()?;
-        for (i, &number) in numbers.iter().enumerate() {
-            let step = beside.machine.step(number);
-            let _ = writeln!(text, "{:>4}. {}", i + 1, step_words(self.symbols, number, &step));
-            if let Ok(step) = step {
-                self.follow(&step, &mut beside.counts, text)?;
+    /// Tells of the bads that were not met before, and checks demand 3 where it is promised.
+    fn look(&mut self) -> Result<(), String> {
+        let met: Vec<bool> = self.bads.iter().map(|bad| meets(self.machine(), bad)).collect();
+        for (i, bad) in self.bads.iter().enumerate().filter(|(i, _)| met[*i] && !self.met[*i]) {
+            let items: Vec<String> = bad.items.iter().map(|item| self.symbols.item(item)).collect();
+            let words = format!("{} is met: {}", self.symbols.bad(i), items.join(" and "));
+            self.text.push_str(&wrapped("   !! ", &words));
+        }
+        self.ever |= met.contains(&true);
+        self.met = met;
+        match &self.station {
+            Station::Beside(beside) => beside.check(),
+            Station::Alone(_) => Ok(()),
+        }
+    }
+
+    /// The processes that can step.
+    fn free(&self) -> Vec<usize> {
+        (0..self.machine().processes.len()).filter(|&number| self.machine().peek(number).is_ok()).collect()
+    }
+
+    /// Who can step now, and why the others can't.
+    fn who(&mut self) {
+        let mut whys: Vec<(String, Vec<usize>)> = vec![("can step: ".to_string(), Vec::new())];
+        for number in 0..self.machine().processes.len() {
+            let why = match self.machine().peek(number) {
+                Ok(_) => "can step: ".to_string(),
+                Err(Idle::Waiting) => "waits at a receive that matches nothing: ".to_string(),
+                Err(Idle::Stopped(why)) => format!("stopped for good, {why}: "),
+                Err(_) => "has ended: ".to_string(),
+            };
+            match whys.iter_mut().find(|(other, _)| *other == why) {
+                Some((_, numbers)) => numbers.push(number),
+                None => whys.push((why, vec![number])),
             }
-            beside.check()?;
         }
-        text.push_str("demand 3 held after every number: equal counts, under one ceiling, no bad met\n");
-        Ok(())
-    }
-
-    fn refused(&self, machine: &mut Machine, numbers: &[usize], text: &mut String) -> Result<(), String> {
-        let start = self.tables.state(machine.program.rows, machine.program.start).ok_or("no starting state")?;
-        let mut counts = Counts::start(self.system, start);
-        let _ = writeln!(text, "      counts: {}", self.counts(&counts));
-        for (i, &number) in numbers.iter().enumerate() {
-            let step = machine.step(number);
-            let _ = writeln!(text, "{:>4}. {}", i + 1, step_words(self.symbols, number, &step));
-            if let Ok(step) = step {
-                self.follow(&step, &mut counts, text)?;
-            }
+        for (why, numbers) in whys {
+            let numbers: Vec<String> = numbers.iter().map(usize::to_string).collect();
+            let numbers = if numbers.is_empty() { "nobody".to_string() } else { numbers.join(" ") };
+            self.line(&why, &numbers);
         }
-        Ok(())
-    }
-
-    /// The counters use the rule of a step.
-    fn follow(&self, step: &Step, counts: &mut Counts, text: &mut String) -> Result<(), String> {
-        let i = rule_of(step, self.tables, self.system).ok_or_else(|| format!("no rule for {step:?}"))?;
-        let rule = &self.system.rules[i];
-        if !counts.apply(rule) {
-            return Err(format!("rule {i} can't be used in its turn"));
-        }
-        let _ = writeln!(text, "      rule {i}: {}", self.symbols.rule(self.tables, self.system, rule));
-        let _ = writeln!(text, "      counts: {}", self.counts(counts));
-        Ok(())
     }
 }
 
-fn step_words(symbols: &Symbols, number: usize, step: &Result<Step, Idle>) -> String {
+/// A step in words, or why there is none.
+pub fn step_words(symbols: &Symbols, number: usize, step: &Result<Step, Idle>) -> String {
     match step {
         Ok(step) => {
             let deed = match step.deed {

@@ -1,6 +1,7 @@
 //! Words for the numbers of a message: the same ones in `run`, `explain` and `disassemble`.
 
-use crate::program::{Head, Name, Node, Program, Row};
+use crate::bads::{Item, Place};
+use crate::program::{Head, Name, Node, Pattern, Program, Row};
 use crate::system::{Effect, Rule, System};
 use crate::tables::Tables;
 use std::collections::BTreeMap;
@@ -12,6 +13,10 @@ pub struct Symbols<'a> {
     pub names: Vec<String>,
     pub constructors: Vec<String>,
     pub labels: BTreeMap<Row, String>,
+    /// The lines of heads in the author's text.
+    pub lines: BTreeMap<Row, usize>,
+    /// The names of the bads.
+    pub bads: Vec<String>,
 }
 
 impl<'a> Symbols<'a> {
@@ -21,7 +26,21 @@ impl<'a> Symbols<'a> {
             names[function.name] = format!("f{i}");
         }
         let constructors = (0..program.arities.len()).map(|c| format!("c{c}")).collect();
-        Symbols { program, names, constructors, labels: BTreeMap::new() }
+        Symbols { program, names, constructors, labels: BTreeMap::new(), lines: BTreeMap::new(), bads: Vec::new() }
+    }
+
+    /// A bad by its name, or by its number where it has none.
+    pub fn bad(&self, bad: usize) -> String {
+        self.bads.get(bad).map_or(format!("bad {bad}"), |name| format!("bad `{name}`"))
+    }
+
+    /// An item of a bad.
+    pub fn item(&self, item: &Item) -> String {
+        let what = match item.place {
+            Place::Head(head) => format!("at {}", self.label(head)),
+            Place::Letter(letter) => format!("holds {}", self.letter(letter)),
+        };
+        format!("{} {what} >= {}", self.class(item.class), item.minimum)
     }
 
     pub fn name(&self, name: Name) -> &str {
@@ -66,6 +85,20 @@ impl<'a> Symbols<'a> {
         names.iter().map(|&n| self.name(n)).collect::<Vec<_>>().join(", ")
     }
 
+    pub fn pattern(&self, row: Row) -> String {
+        match self.program.pattern(row) {
+            Some(Pattern::Name(name)) => self.name(*name).to_string(),
+            Some(Pattern::Constructor { constructor, parts }) if parts.is_empty() => {
+                self.constructor(*constructor).to_string()
+            }
+            Some(Pattern::Constructor { constructor, parts }) => {
+                let parts: Vec<String> = parts.iter().map(|&part| self.pattern(part)).collect();
+                format!("{}({})", self.constructor(*constructor), parts.join(", "))
+            }
+            _ => "_".to_string(),
+        }
+    }
+
     /// One head in a few words, without its rest.
     pub fn head(&self, row: Row) -> String {
         let n = |name: &Name| self.name(*name);
@@ -87,8 +120,16 @@ impl<'a> Symbols<'a> {
         }
     }
 
+    /// One head in a few words, with its line where that is known.
+    pub fn line(&self, row: Row) -> String {
+        match self.lines.get(&row) {
+            Some(line) => format!("line {line}: {}", self.head(row)),
+            None => self.head(row),
+        }
+    }
+
     pub fn state(&self, class: usize, head: Row) -> String {
-        format!("{} at {} [{}]", self.class(class), self.label(head), self.head(head))
+        format!("{} at {} [{}]", self.class(class), self.label(head), self.line(head))
     }
 
     /// A counter, short: `start@r7` for a state, `start!c0` for a letter.

@@ -58,11 +58,7 @@ struct List<'a> {
 }
 
 impl List<'_> {
-    fn each(
-        &self,
-        in_range: impl Fn(usize, usize) -> bool,
-        mut keep: impl FnMut(usize, usize),
-    ) -> Result<(), Refusal> {
+    fn each(&self, in_range: impl Fn(usize, usize) -> bool, mut keep: impl FnMut(usize, usize)) -> Result<(), Refusal> {
         let mut before = None;
         for i in self.from..self.from + self.count {
             let pair = self.message.tables.pair(i);

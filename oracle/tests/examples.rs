@@ -27,7 +27,7 @@ fn each_stands_in_the_list_of_examples() {
     there.sort();
     listed.sort();
     assert_eq!(there, listed);
-    assert_eq!(examples().len(), 13);
+    assert_eq!(examples().len(), 14);
 }
 
 #[test]
@@ -91,13 +91,4 @@ fn safe_ones_keep_demand_3() {
             assert!(rules.is_ok_and(|rules| !rules.is_empty()), "{path:?}");
         }
     }
-}
-
-#[test]
-fn the_overflow_is_told_with_its_run() {
-    let text = std::fs::read_to_string(path("examples/overflow.station")).unwrap();
-    let assembled = assemble(&text).unwrap();
-    assert!(!assembled.safe);
-    assert!(assembled.notes[0].contains("bad `overflow` can be met"), "{:?}", assembled.notes);
-    assert!(assembled.notes[0].contains("puts consumer!item"), "{:?}", assembled.notes);
 }

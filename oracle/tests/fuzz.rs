@@ -31,8 +31,15 @@ fn a_wrong_verifier_is_found_out() {
     assert!(found_out(|outcome, _| outcome.number = if outcome.number == 12 { 13 } else { outcome.number }));
     assert!(found_out(|outcome, _| outcome.part.end += 2 * usize::from(outcome.number == 0)));
     assert!(found_out(|outcome, _| outcome.part.end += usize::from(outcome.number == 14)));
-    assert!(found_out(|outcome, lent| lent.iter_mut().take(usize::from(outcome.number == 9)).for_each(|word| *word = 0)));
-    assert!(found_out(|outcome, lent| lent.last_mut().filter(|_| outcome.number == 0).into_iter().for_each(|word| *word ^= 1)));
+    assert!(found_out(|outcome, lent| lent
+        .iter_mut()
+        .take(usize::from(outcome.number == 9))
+        .for_each(|word| *word = 0)));
+    assert!(found_out(|outcome, lent| lent
+        .last_mut()
+        .filter(|_| outcome.number == 0)
+        .into_iter()
+        .for_each(|word| *word ^= 1)));
 }
 
 #[test]

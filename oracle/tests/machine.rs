@@ -99,6 +99,7 @@ fn spawned_processes_are_numbered_and_start_with_nothing_pushed() {
 #[test]
 fn letters_of_functions_and_addresses() {
     let deeds = ends_with_branch("start -> Me = self(), Me ! Me, Me ! fun() -> a end, a.");
-    let letters: Vec<usize> = deeds.iter().filter_map(|d| if let Deed::Put { letter, .. } = d { Some(*letter) } else { None }).collect();
+    let letters: Vec<usize> =
+        deeds.iter().filter_map(|d| if let Deed::Put { letter, .. } = d { Some(*letter) } else { None }).collect();
     assert_eq!(letters, [4, 3]);
 }

@@ -37,6 +37,16 @@ fn each_stored_message_gets_the_same() {
 }
 
 #[test]
+fn bench_overwrites_no_page_that_it_did_not_make() {
+    let page = common::path("docs/PERFORMANCE.md");
+    let before = std::fs::read(&page).unwrap();
+    let bench = std::process::Command::new(env!("CARGO_BIN_EXE_oracle")).arg("bench").arg(&page).output().unwrap();
+    assert_eq!(bench.status.code(), Some(2));
+    assert!(String::from_utf8_lossy(&bench.stderr).contains("was not made by `oracle bench`"));
+    assert_eq!(std::fs::read(&page).unwrap(), before);
+}
+
+#[test]
 fn the_largest_honest_messages_get_the_same() {
     on_stack(|| {
         stress::honest::honest().unwrap().iter().for_each(|sample| agree(&sample.name, &sample.message, &LENT))

@@ -119,7 +119,8 @@ fn a_spot_is_reached_only_if_the_whole_pattern_may_match() {
 
 #[test]
 fn every_branch_that_may_match_gets_its_rule() {
-    let text = text_of("constructors a/0. start -> X = a, case X of a -> X; a -> X; _ -> X end. bad b: start holds address.");
+    let text =
+        text_of("constructors a/0. start -> X = a, case X of a -> X; a -> X; _ -> X end. bad b: start holds address.");
     assert!(text.starts_with("0 0\n5 0 4 8\n50 0\n51 1\n50 1\n51 2\n50 1\n51 3\n50 1\n51 4\n"), "{text}");
 }
 
@@ -181,7 +182,8 @@ fn taking_comes_before_adding_at_65534() {
 fn a_new_state_that_is_from_is_no_less_in_the_end() {
     let text = "function f() -> @x spawn(f). start -> spawn(f). bad b: x holds address.";
     let mut m = message::read(&assemble(text).unwrap().message).unwrap();
-    let limits = [vec![0, 0, 0, 0, 1, 0], vec![0, 0, 1, 0, 0, 1], vec![2, 1, 0, 1, 0, 1], vec![1, UNBOUNDED, 0, 1, 0, 1]];
+    let limits =
+        [vec![0, 0, 0, 0, 1, 0], vec![0, 0, 1, 0, 0, 1], vec![2, 1, 0, 1, 0, 1], vec![1, UNBOUNDED, 0, 1, 0, 1]];
     evidence::put_bounds(&mut m, &limits);
     assert_eq!(of(&m), (13, m.entries.at + 2 + 3));
     let limits = [vec![0, 0, 0, 0, 1, 0], vec![0, 0, 1, 0, 0, 1], vec![2, UNBOUNDED, 0, 1, 0, 1]];

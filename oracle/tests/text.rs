@@ -36,7 +36,9 @@ fn names_in_another_order_come_back() {
 #[test]
 fn mistakes_are_told_with_their_line() {
     assert!(refused("start -> X.\nbad b: start holds address.").contains("line 1: X is not known here"));
-    assert!(refused("constructors a/0.\nstart ->\n a(a).\nbad b: start holds a.").contains("line 3: a takes 0 arguments"));
+    assert!(
+        refused("constructors a/0.\nstart ->\n a(a).\nbad b: start holds a.").contains("line 3: a takes 0 arguments")
+    );
     assert!(refused("constructors a/0. start -> a.").contains("no bad"));
     assert!(refused("constructors a/0.").contains("no `start"));
     assert!(refused("start -> self() self(). bad b: start holds address.").contains("`.` was wanted"));

@@ -1,7 +1,7 @@
 //! `oracle against PROGRAM SEED COUNT`: compares with a program that reads a message from
 //! standard input, lends 16,384 words and prints the listing.
 
-use super::{number, Answer};
+use super::{Answer, number, told};
 use oracle::fuzz::compare::{Cases, Tally};
 use oracle::listing::verified;
 use oracle::{limits, verify};
@@ -38,5 +38,5 @@ pub fn command(args: &[String]) -> Answer {
         let outcome = verify::verify(&case.message, &mut vec![0; limits::LENT]);
         tally.count(outcome.number, &case.message);
     }
-    Ok(tally.words())
+    told(&tally.words())
 }

@@ -1,6 +1,6 @@
-//! `oracle bench`: how long the proved code and `verify` take, as Markdown.
+//! `oracle bench [OUT]`: how long the proved code and `verify` take, as Markdown.
 
-use super::{Answer, read_message};
+use super::{Answer, read_message, told};
 use oracle::stress::growth::{self, Family};
 use oracle::stress::{self, Sample, honest};
 use oracle::verify::{self, Outcome};
@@ -14,6 +14,9 @@ const PLENTY: usize = 1 << 20;
 const TIMES: usize = 201;
 const UNTIL: Duration = Duration::from_millis(600);
 const EXAMPLES: &str = concat!(env!("CARGO_MANIFEST_DIR"), "/../examples");
+
+/// A page, or a part of it.
+type Text = Result<String, String>;
 
 /// Middle times of one call, in microseconds.
 struct Times {
@@ -52,7 +55,7 @@ fn measure(message: &[u8], lent: &mut [u32]) -> Result<Times, String> {
 }
 
 /// A time for a person.
-fn told(micros: f64) -> String {
+fn duration(micros: f64) -> String {
     match micros {
         m if m < 1e3 => format!("{m:.1} µs"),
         m if m < 1e6 => format!("{:.1} ms", m / 1e3),
@@ -62,7 +65,7 @@ fn told(micros: f64) -> String {
 
 /// The columns with both times and their ratio.
 fn columns(times: &Times) -> String {
-    format!("{} | {} | {:.1}", told(times.proved), told(times.own), times.proved / times.own)
+    format!("{} | {} | {:.1}", duration(times.proved), duration(times.own), times.proved / times.own)
 }
 
 fn sizes(message: &[u8]) -> String {
@@ -73,7 +76,7 @@ fn sizes(message: &[u8]) -> String {
 const SIZES: &str = "rows | flow | mail | states | ceilings | entries";
 
 /// A table of messages, one a line.
-fn table(title: &str, samples: &[Sample], lent: &mut [u32]) -> Answer {
+fn table(title: &str, samples: &[Sample], lent: &mut [u32]) -> Text {
     let mut text = format!("## {title}\n\n| message | verdict | {SIZES} | proved | oracle | ratio |\n");
     text.push_str("|---|--:|--:|--:|--:|--:|--:|--:|--:|--:|--:|\n");
     for Sample { name, verdict, message, .. } in samples {
@@ -93,7 +96,7 @@ fn table(title: &str, samples: &[Sample], lent: &mut [u32]) -> Answer {
 }
 
 /// A table of one family; `more` is the time against that of the line before.
-fn grown(family: &Family, lent: &mut [u32]) -> Answer {
+fn grown(family: &Family, lent: &mut [u32]) -> Text {
     let mut text = format!("### {}\n\n| size | {SIZES} | proved | oracle | ratio | more |\n", family.about);
     text.push_str("|--:|--:|--:|--:|--:|--:|--:|--:|--:|--:|--:|\n");
     let mut before = None;
@@ -129,11 +132,16 @@ fn machine() -> String {
     name.unwrap_or("an unknown processor").to_string()
 }
 
-fn report() -> Answer {
+/// The first line of the page. What does not begin so was written by somebody else and is not overwritten.
+const MARK: &str =
+    "<!-- Made by `oracle bench`, which writes it anew: words of your own belong into PERFORMANCE.md. -->";
+
+fn report() -> Text {
     let mut lent = vec![0; PLENTY];
+    let (processor, cores) = (machine(), std::thread::available_parallelism().map_or(1, usize::from));
     let mut text = format!(
-        "# Performance\n\nThe middle time of one call, the proved code and `oracle verify` in turn in one process, on {}.\n\n",
-        machine()
+        "{MARK}\n# Benchmark\n\nThe middle time of one call, the proved code and `oracle verify` in turn in one \
+         process, on {processor} ({cores} cores).\n\n"
     );
     text.push_str(&table("Examples", &examples()?, &mut lent)?);
     text.push_str(&table("Honest messages near the limits", &honest::honest()?, &mut lent)?);
@@ -145,9 +153,25 @@ fn report() -> Answer {
     Ok(text.trim_end().to_string() + "\n")
 }
 
+/// A word if the page would overwrite something else.
+fn free_to_write(path: &str) -> Result<(), String> {
+    match std::fs::read_to_string(path) {
+        Ok(text) if !text.starts_with(MARK) => Err(format!("{path} was not made by `oracle bench`: it stays as it is")),
+        Err(e) if e.kind() != std::io::ErrorKind::NotFound => Err(format!("{path}: {e}")),
+        _ => Ok(()),
+    }
+}
+
+/// The page on standard output, or in a file of its own.
 pub fn command(args: &[String]) -> Answer {
     match args {
-        [] => stack::with_stack(proved::STACK, report)?,
-        _ => Err("bench: no words are wanted".to_string()),
+        [] => told(&stack::with_stack(proved::STACK, report)??),
+        [path] => {
+            free_to_write(path)?;
+            let page = stack::with_stack(proved::STACK, report)??;
+            std::fs::write(path, page).map_err(|e| format!("{path}: {e}"))?;
+            Ok(super::DONE)
+        }
+        _ => Err("oracle bench [OUT]".to_string()),
     }
 }

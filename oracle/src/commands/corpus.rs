@@ -1,6 +1,6 @@
 //! `oracle corpus SEED COUNT OUT` and `oracle check-corpus OUT`
 
-use super::{Answer, number};
+use super::{Answer, number, told};
 use oracle::fuzz::{compare, corpus};
 use oracle::verify;
 
@@ -10,7 +10,7 @@ pub fn command(args: &[String]) -> Answer {
     let io = |e: std::io::Error| format!("{out}: {e}");
     std::fs::write(format!("{out}.bin"), corpus::stream(&made.cases)).map_err(io)?;
     std::fs::write(format!("{out}.txt"), &made.lines).map_err(io)?;
-    Ok(format!("{} cases, by verdict from 0 to 14: {:?}\n", made.cases.len(), made.verdicts))
+    told(&format!("{} cases, by verdict from 0 to 14: {:?}\n", made.cases.len(), made.verdicts))
 }
 
 /// Verifies every case of a stored corpus anew and compares the lines.
@@ -26,7 +26,7 @@ pub fn check(args: &[String]) -> Answer {
         }
     }
     match cases.len() == lines.lines().count() {
-        true => Ok(format!("{} cases as stored\n", cases.len())),
+        true => told(&format!("{} cases as stored\n", cases.len())),
         false => Err(format!("{} cases but {} lines", cases.len(), lines.lines().count())),
     }
 }

@@ -1,9 +1,9 @@
 //! `oracle disassemble FILE`
 
-use super::{read_message, Answer};
+use super::{Answer, read_message, told};
 use oracle::text::disassemble;
 
 pub fn command(args: &[String]) -> Answer {
     let file = args.first().ok_or("disassemble: a file is missing")?;
-    disassemble::disassemble(&read_message(file)?)
+    told(&disassemble::disassemble(&read_message(file)?)?)
 }

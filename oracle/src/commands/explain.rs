@@ -1,13 +1,24 @@
-//! `oracle explain [--lend N] FILE`
+//! `oracle explain [--lend N] [--station FILE] FILE`
 
-use super::{number, read_message, Answer};
+use super::output::print;
+use super::station::{self, Names};
+use super::{Answer, number, read_message, status};
 use oracle::{explain, limits};
 
 pub fn command(args: &[String]) -> Answer {
-    let (lent, file) = match args {
-        [option, lent, file] if option == "--lend" => (number(lent)?, file),
-        [file] => (limits::LENT, file),
-        _ => return Err("explain: one file is wanted".to_string()),
-    };
-    Ok(explain::explain(&read_message(file)?, lent))
+    let (mut lent, mut station, mut files) = (limits::LENT, None, Vec::new());
+    let mut args = args.iter();
+    while let Some(arg) = args.next() {
+        match arg.as_str() {
+            "--lend" => lent = number(args.next().ok_or("--lend: a number is missing")?)?,
+            "--station" => station = Some(args.next().ok_or("--station: a file is missing")?),
+            _ => files.push(arg),
+        }
+    }
+    let [file] = files[..] else { return Err("oracle explain [--lend N] [--station FILE] FILE".to_string()) };
+    let message = read_message(file)?;
+    let Names { words, note } = station::names(station, file, &message)?;
+    let (verdict, text) = explain::explain(&message, lent, words.as_ref());
+    print((text + &note).as_bytes())?;
+    Ok(status(verdict))
 }

@@ -1,6 +1,6 @@
 //! `oracle fuzz SEED COUNT` and `oracle fuzz-naive SEED COUNT`
 
-use super::{Answer, number};
+use super::{Answer, number, told};
 use oracle::fuzz::compare::{self, Tally, Verifier};
 use oracle::{naive, verify};
 
@@ -34,9 +34,9 @@ fn fuzz(args: &[String], first: Verifier, second: Verifier) -> Answer {
 fn complete(tally: &Tally) -> Answer {
     let missing = tally.verdicts.iter().position(|&seen| seen == 0);
     match missing {
-        _ if tally.total() < MANY => Ok(tally.words()),
+        _ if tally.total() < MANY => told(&tally.words()),
         Some(number) => Err(format!("{}verdict {number} did not come", tally.words())),
         None if 3 * tally.verdicts[0] < tally.total() => Err(format!("{}less than a third is safe", tally.words())),
-        None => Ok(tally.words()),
+        None => told(&tally.words()),
     }
 }

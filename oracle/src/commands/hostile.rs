@@ -1,6 +1,6 @@
 //! `oracle hostile DIR`
 
-use super::Answer;
+use super::{Answer, told};
 use oracle::stress;
 use std::fmt::Write;
 
@@ -14,5 +14,5 @@ pub fn command(args: &[String]) -> Answer {
         std::fs::write(&path, &hostile.message).map_err(|e| format!("{path}: {e}"))?;
         let _ = writeln!(text, "{:<20} {:>2}  {}", hostile.name, hostile.verdict, hostile.about);
     }
-    Ok(text)
+    told(&text)
 }

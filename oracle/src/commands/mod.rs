@@ -10,7 +10,9 @@ pub mod disassemble;
 pub mod explain;
 pub mod fuzz;
 pub mod hostile;
+pub mod output;
 pub mod run;
+pub mod station;
 pub mod time;
 pub mod verify;
 
@@ -18,30 +20,55 @@ use std::io::Read;
 
 /// What a command for the proved code says in a build that does not have it.
 #[cfg(not(feature = "proved"))]
-pub const WITHOUT_PROVED: &str = "built without the proved code: run `rt staticlib verifier`, then build with `--features proved`";
+pub const WITHOUT_PROVED: &str =
+    "built without the proved code: run `rt staticlib verifier`, then build with `--features proved`";
 
-/// What a command gives: text for standard output, or a word on what went wrong.
-pub type Answer = Result<String, String>;
+/// The status that a command ends with, or a word on what went wrong (status 2).
+pub type Answer = Result<u8, String>;
+
+/// The statuses: 0 where a message is safe, and where a command that gives no verdict has done its work.
+pub const DONE: u8 = 0;
+pub const REFUSED: u8 = 1;
+pub const NO_VERDICT: u8 = 2;
+
+/// The status of a verdict.
+pub fn status(number: u32) -> u8 {
+    if number == 0 { DONE } else { REFUSED }
+}
+
+/// Prints what a command tells.
+pub fn told(text: &str) -> Answer {
+    output::print(text.as_bytes()).map(|()| DONE)
+}
 
 /// Bytes of a file, or of standard input for `-`; no more than settle a verdict.
-pub fn read_message(path: &str) -> Result<Vec<u8>, String> {
+pub fn read_bytes(path: &str) -> Result<Vec<u8>, String> {
     let most = oracle::limits::LONGEST as u64 + 1;
     let mut bytes = Vec::new();
     let read = match path {
-        "-" => std::io::stdin().take(most).read_to_end(&mut bytes),
+        "-" => output::input()?.take(most).read_to_end(&mut bytes),
         _ => std::fs::File::open(path).and_then(|file| file.take(most).read_to_end(&mut bytes)),
     };
-    read.map_err(|e| format!("{path}: {e}"))?;
-    Ok(bytes)
+    read.map(|_| bytes).map_err(|e| e.to_string())
+}
+
+/// The same, with the file's name in what went wrong.
+pub fn read_message(path: &str) -> Result<Vec<u8>, String> {
+    read_bytes(path).map_err(|e| format!("{}: {e}", printable(path)))
 }
 
 pub fn read_text(path: &str) -> Result<String, String> {
     let mut text = String::new();
     match path {
-        "-" => std::io::stdin().read_to_string(&mut text).map(|_| text),
+        "-" => output::input()?.read_to_string(&mut text).map(|_| text),
         _ => std::fs::read_to_string(path),
     }
-    .map_err(|e| format!("{path}: {e}"))
+    .map_err(|e| format!("{}: {e}", printable(path)))
+}
+
+/// A file's name with its control characters shown as ?.
+pub fn printable(path: &str) -> String {
+    path.chars().map(|c| if c.is_control() { '?' } else { c }).collect()
 }
 
 pub fn number<T: std::str::FromStr>(text: &str) -> Result<T, String> {

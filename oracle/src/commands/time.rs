@@ -1,6 +1,6 @@
 //! `oracle time FILE...`: how long the verifier takes.
 
-use super::{read_message, Answer};
+use super::{Answer, read_message, told};
 use oracle::verify::verify;
 use std::fmt::Write;
 use std::time::Instant;
@@ -26,5 +26,5 @@ pub fn command(args: &[String]) -> Answer {
         let (least, middle) = (times[0] as f64 / 1e3, times[times.len() / 2] as f64 / 1e3);
         let _ = writeln!(text, "{least:>10.1} us least {middle:>10.1} us middle  {file}");
     }
-    Ok(text)
+    told(&text)
 }

@@ -107,7 +107,8 @@ impl Tally {
         let [rows, flow, mail, states, ceilings, entries] = self.largest;
         text.push_str(&format!("all {}, safe {share} %, runs {} with {} steps\n", self.total(), self.runs, self.steps));
         text.push_str(&format!(
-            "the most in a safe message: {rows} rows, {flow} flow, {mail} mail, {states} states, {ceilings} ceilings, {entries} entries\n"
+            "the most in a safe message: {rows} rows, {flow} flow, {mail} mail, {states} states, {ceilings} ceilings, \
+             {entries} entries\n"
         ));
         text
     }

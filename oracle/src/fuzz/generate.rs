@@ -53,7 +53,8 @@ pub fn program(rng: &mut Rng, size: usize) -> Rows {
 fn attempt(rng: &mut Rng, size: usize) -> Rows {
     let constructors = if rng.chance(1, 30) { rng.range(0, 64.min(size)) } else { rng.range(0, 5) };
     let functions = if rng.chance(1, 30) { rng.range(0, 64.min(size / 8)) } else { rng.range(0, 4.min(size / 8)) };
-    let arities = (0..constructors).map(|_| if rng.chance(1, 20) { rng.range(0, 8) } else { rng.range(0, 3) }).collect();
+    let arities =
+        (0..constructors).map(|_| if rng.chance(1, 20) { rng.range(0, 8) } else { rng.range(0, 3) }).collect();
     let mut maker = Maker { rng, arities, rows: Vec::new(), binders: 0, scope: Vec::new(), built: Vec::new() };
     maker.whole(size, functions);
     let numbers = maker.numbers();

@@ -2,6 +2,7 @@
 //! (crates/model/specs/Shown.antt), so that the table of runs can be compared as it stands.
 
 use super::{Bindings, Machine, Process, Value, ValueId};
+use std::iter::successors;
 
 impl Machine<'_> {
     /// A text for each process, `18@13 ^7 ^12 : c0@3 #1`: class 18 at row 13, the calls of rows 7 and 12 pushed, the latest first, and in the
@@ -12,7 +13,8 @@ impl Machine<'_> {
 
     fn process_text(&self, process: &Process) -> String {
         let mut text = format!("{}@{}", process.class, process.location);
-        text.extend(process.frames.iter().rev().map(|frame| format!(" ^{}", frame.call)));
+        let frames = successors(self.store.frame(process.frames), |frame| self.store.frame(frame.below));
+        text.extend(frames.map(|frame| format!(" ^{}", frame.call)));
         if !process.mailbox.is_empty() {
             text.push_str(" : ");
             text.push_str(&self.value_texts(&process.mailbox).join(" "));
@@ -27,7 +29,7 @@ impl Machine<'_> {
     /// `c1@5(c0@3 #0)`: built at row 5 of constructor 1; `f@7{0=#0 2=c0@3}`: the function of row 7 with what it keeps, by name; `#1`: the
     /// address of process 1.
     fn value_text(&self, id: ValueId) -> String {
-        match self.value(id) {
+        match self.store.value(id) {
             Value::Built { row, constructor, args } if args.is_empty() => format!("c{constructor}@{row}"),
             Value::Built { row, constructor, args } => {
                 format!("c{constructor}@{row}({})", self.value_texts(args).join(" "))
@@ -37,13 +39,8 @@ impl Machine<'_> {
         }
     }
 
-    fn kept(&self, mut bindings: Bindings) -> Vec<String> {
-        let mut held = Vec::new();
-        while let Some(i) = bindings {
-            held.push((self.store[i].name, self.store[i].value));
-            bindings = self.store[i].others;
-        }
-        held.sort();
+    fn kept(&self, bindings: Bindings) -> Vec<String> {
+        let held = self.store.held(bindings);
         held.iter().map(|&(name, value)| format!("{name}={}", self.value_text(value))).collect()
     }
 }

@@ -39,9 +39,10 @@ pub fn may_match(program: &Program, pairs: &Pairs, pattern: Row, value: usize) -
     match program.pattern(pattern) {
         Some(Pattern::Name(_) | Pattern::Any) => true,
         Some(Pattern::Constructor { constructor, parts }) => match program.build(value) {
-            Some((built, args)) if built == *constructor => args.iter().zip(parts).all(|(&arg, &part)| {
-                pairs.values(arg).into_iter().any(|v| may_match(program, pairs, part, v))
-            }),
+            Some((built, args)) if built == *constructor => args
+                .iter()
+                .zip(parts)
+                .all(|(&arg, &part)| pairs.values(arg).into_iter().any(|v| may_match(program, pairs, part, v))),
             _ => false,
         },
         None => false,
@@ -106,7 +107,11 @@ fn wants(program: &Program, pairs: &Pairs, class: usize, row: Row) -> Vec<Want> 
             }
         }
         Some(Head::GiveBack { value }) => {
-            for (name, rest) in program.inside[row].iter().flat_map(|&f| returns(program, pairs, class, f)).filter_map(|c| call(program, c)) {
+            for (name, rest) in program.inside[row]
+                .iter()
+                .flat_map(|&f| returns(program, pairs, class, f))
+                .filter_map(|c| call(program, c))
+            {
                 wants.extend(all(name, *value));
                 wants.push(state(rest));
             }
@@ -121,8 +126,12 @@ fn wants(program: &Program, pairs: &Pairs, class: usize, row: Row) -> Vec<Want> 
                 wants.extend([holds(*name, row), state(*rest), Want::State { class: row, head: f.body }]);
             }
         }
-        Some(Head::Case { value, branches }) => branch_wants(program, pairs, branches, &pairs.values(*value), class, &mut wants),
-        Some(Head::Receive { branches }) => branch_wants(program, pairs, branches, &pairs.letters(class), class, &mut wants),
+        Some(Head::Case { value, branches }) => {
+            branch_wants(program, pairs, branches, &pairs.values(*value), class, &mut wants)
+        }
+        Some(Head::Receive { branches }) => {
+            branch_wants(program, pairs, branches, &pairs.letters(class), class, &mut wants)
+        }
         None => {}
     }
     wants

@@ -1,7 +1,7 @@
 //! Every ceiling, every rule, every candidate ceiling, every counter (refusal 13).
 
-use super::rules::{Plain, Rule};
 use super::Refused;
+use super::rules::{Plain, Rule};
 use crate::bounds::Bounds;
 use crate::message::Message;
 

@@ -13,8 +13,8 @@ use crate::bads::{self, Bad};
 use crate::bounds::{self, Bounds};
 use crate::message::{self, Message};
 use crate::program::Program;
-use crate::verify::Outcome;
 use crate::reader;
+use crate::verify::Outcome;
 use closed::Pairs;
 use rules::Plain;
 
@@ -59,14 +59,24 @@ fn check(bytes: &[u8], lent: &mut [u32]) -> Result<usize, Refused> {
 }
 
 /// Refusals 11 and 12.
-fn start_and_bads(m: &Message, program: &Program, system: &Plain, bads: &[Bad], bounds: &Bounds) -> Result<(), Refused> {
-    let start: Vec<u64> = system.counters.iter().map(|c| (*c == rules::Counter::State(program.rows, program.start)) as u64).collect();
-    let under = |limits: &Vec<u16>| start.iter().zip(limits).all(|(&count, &limit)| limit == 65_535 || count <= limit as u64);
+fn start_and_bads(
+    m: &Message,
+    program: &Program,
+    system: &Plain,
+    bads: &[Bad],
+    bounds: &Bounds,
+) -> Result<(), Refused> {
+    let start: Vec<u64> =
+        system.counters.iter().map(|c| (*c == rules::Counter::State(program.rows, program.start)) as u64).collect();
+    let under =
+        |limits: &Vec<u16>| start.iter().zip(limits).all(|(&count, &limit)| limit == 65_535 || count <= limit as u64);
     if !bounds.limits.iter().any(under) {
         return Err((11, m.bounds_at));
     }
     for bad in bads {
-        let met = |limits: &Vec<u16>| bad.items.iter().all(|item| system.limit_of(item, limits).is_none_or(|l| l >= item.minimum as u64));
+        let met = |limits: &Vec<u16>| {
+            bad.items.iter().all(|item| system.limit_of(item, limits).is_none_or(|l| l >= item.minimum as u64))
+        };
         if bounds.limits.iter().any(met) {
             return Err((12, m.bads_at + 2 + bad.first));
         }
@@ -77,7 +87,8 @@ fn start_and_bads(m: &Message, program: &Program, system: &Plain, bads: &[Bad], 
 fn write(system: &Plain, lent: &mut [u32]) -> Result<(), Refused> {
     let rows: Vec<(u32, u32)> = system.rules.iter().flat_map(rules::rows).collect();
     let states = system.counters.iter().filter(|c| matches!(c, rules::Counter::State(..))).count();
-    let mut words = vec![states as u32, (system.counters.len() - states) as u32, system.rules.len() as u32, rows.len() as u32];
+    let mut words =
+        vec![states as u32, (system.counters.len() - states) as u32, system.rules.len() as u32, rows.len() as u32];
     words.extend(rows.iter().map(|row| row.0));
     words.extend(rows.iter().map(|row| row.1));
     if words.len() > lent.len() {

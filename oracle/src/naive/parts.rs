@@ -112,6 +112,8 @@ pub fn ceilings(m: &Message, counters: usize) -> Result<(), Refused> {
 /// What the tags say of a program agrees with what its reader says.
 pub fn same_kinds(m: &Message, program: &Program) -> bool {
     (0..=m.rows + 1).all(|i| {
-        is_class(m, i) == program.is_class(i) && is_value(m, i) == program.is_value(i) && is_head(m, i) == program.is_head(i)
+        is_class(m, i) == program.is_class(i)
+            && is_value(m, i) == program.is_value(i)
+            && is_head(m, i) == program.is_head(i)
     })
 }

@@ -1,6 +1,6 @@
 //! Rules by value instead of by set: one for each case of 01, sorted by the keys 01 names, repeats dropped.
 
-use super::closed::{both, call, classes, functions, may_match, returns, Pairs};
+use super::closed::{Pairs, both, call, classes, functions, may_match, returns};
 use crate::bads::{Item, Place};
 use crate::program::{Branch, Head, Program, Row};
 
@@ -30,7 +30,8 @@ type Keyed = ((usize, usize, usize), Rule);
 impl Plain {
     pub fn new(program: &Program, pairs: &Pairs) -> Plain {
         let mut counters: Vec<Counter> = pairs.states.iter().map(|&(c, h)| Counter::State(c, h)).collect();
-        let mut letters: Vec<Counter> = pairs.mail.iter().map(|&(c, v)| Counter::Letter(c, program.letter(v))).collect();
+        let mut letters: Vec<Counter> =
+            pairs.mail.iter().map(|&(c, v)| Counter::Letter(c, program.letter(v))).collect();
         letters.sort();
         letters.dedup();
         counters.extend(letters);
@@ -77,7 +78,9 @@ impl Plain {
     fn state_rules(&self, program: &Program, pairs: &Pairs, from: usize, class: usize, row: Row) -> Vec<Keyed> {
         let to = |head: Row| self.number(Counter::State(class, head));
         let letter = |class: usize, value: usize| self.number(Counter::Letter(class, program.letter(value)));
-        let bodies = |name: usize, count: usize| functions(program, pairs, name, count).into_iter().filter_map(|f| program.function(f));
+        let bodies = |name: usize, count: usize| {
+            functions(program, pairs, name, count).into_iter().filter_map(|f| program.function(f))
+        };
         let mut keyed = Vec::new();
         match program.head(row) {
             Some(Head::Build { rest, .. } | Head::Function { rest, .. } | Head::SelfAddress { rest, .. }) => {
@@ -108,7 +111,8 @@ impl Plain {
             Some(Head::Receive { branches }) => {
                 for v in pairs.letters(class) {
                     let (key, read) = (program.letter(v), Some((52, letter(class, v))));
-                    keyed.extend(taken(program, pairs, branches, v).map(|(i, b)| ((from, i, key), (from, to(b), read))));
+                    keyed
+                        .extend(taken(program, pairs, branches, v).map(|(i, b)| ((from, i, key), (from, to(b), read))));
                 }
             }
             None => {}

@@ -1,112 +1,181 @@
 //! Text to message, with the least closed tables and explored bounds (01: ceilings).
 
-use super::ast::{Bad, Station};
-use super::lower::{lower, Lowered};
+use super::lower::lower;
 use super::parser::parse;
+use super::telling::{Telling, ceilings};
+use super::warnings::warnings;
+use super::words::{STACK, Words, bare};
+use crate::bads::Bad;
+use crate::bounds::bad_counters;
 use crate::evidence;
-use crate::explore::Failure;
+use crate::explain::trade_word;
+use crate::explore::{self, Failure, Limits, Net};
 use crate::least::least;
+use crate::limits;
 use crate::message::{self, Message};
-use crate::program::Program;
+use crate::refusal::{Detail, Refusal, SPACE};
+use crate::replay::{Derived, Judged, judge};
 use crate::stack::with_stack;
 use crate::symbols::Symbols;
-use crate::system::System;
-use crate::tables::Tables;
-use std::fmt::Write;
+use crate::verify::verify_in_detail;
 
-/// Rules of a run that are shown at most.
-const SHOWN: usize = 60;
-/// Sets of counts that are tried at most.
-const BUDGET: usize = 200_000;
+/// Sets of counts, and states of the station, that are tried at most for each bad where nothing else is said.
+pub const BUDGET: usize = 200_000;
 
 pub struct Assembled {
     pub message: Vec<u8>,
-    /// Words for the author: warnings, and why no bounds were found.
+    /// Words for the author: warnings, what was found for each bad, the verdict.
     pub notes: Vec<String>,
-    /// False if the message is known to be refused.
+    /// False if the message is refused, with as many words lent as the programs lend.
     pub safe: bool,
 }
 
-fn bare(lowered: &Lowered, constructors: usize, functions: usize, bads: usize) -> Message {
-    evidence::bare((lowered.names, constructors, functions), &lowered.rows, bads, &lowered.bads)
-}
-
-/// Stack for texts nested as deep as the parser allows.
-const STACK: usize = 64 << 20;
-
-/// A station's message. Without bounds that allow no bad it holds those that are found when
-/// the bads are left aside, so that the verifier shows the bad.
+/// A station's message. Where a bad has no ceilings it holds those that the other bads have, so that the verifier
+/// shows that bad.
 pub fn assemble(text: &str) -> Result<Assembled, String> {
-    with_stack(STACK, || assemble_here(text))?
+    assemble_within(text, BUDGET)
 }
 
-fn assemble_here(text: &str) -> Result<Assembled, String> {
+/// The same with a budget.
+pub fn assemble_within(text: &str, budget: usize) -> Result<Assembled, String> {
+    with_stack(STACK, || assemble_here(text, budget))?
+}
+
+fn assemble_here(text: &str, budget: usize) -> Result<Assembled, String> {
     let station = parse(text)?;
     let lowered = lower(&station)?;
-    let mut m = bare(&lowered, station.constructors.len(), station.functions.len(), station.bads.len());
-    let refused = |r: crate::refusal::Refusal| format!("the rows are refused: {} at {} ({:?})", r.number, r.position, r.detail);
+    let mut m = bare(&station, &lowered);
+    let refused = |r: Refusal| format!("the rows are refused: {} at {} ({:?})", r.number, r.position, r.detail);
     let (program, bads) = evidence::read(&m).map_err(refused)?;
     let tables = least(&program);
     evidence::put_tables(&mut m, &program, &tables)?;
     let system = evidence::derive(&m, &program, &tables)?;
-    let mut notes = lowered.warnings.clone();
-    let found = evidence::find_bounds(&program, &tables, &system, &bads, BUDGET);
-    let safe = found.is_ok();
-    let limits = match found {
-        Ok(limits) => limits,
-        Err(failure) => {
-            let symbols = authors(&program, &station, &lowered);
-            notes.push(Telling { symbols, tables: &tables, system: &system }.failure(&failure, &station.bads));
-            evidence::find_bounds(&program, &tables, &system, &[], BUDGET).unwrap_or_default()
+    let symbols = Words::new(&station, &lowered).symbols(&program, &m);
+    let derived = Derived { program: &program, tables: &tables, system: &system };
+    let warnings = [lowered.warnings.clone(), warnings(derived, &bads, &symbols)].concat();
+    let mut notes: Vec<String> = warnings.iter().map(|warning| format!("warning: {warning}")).collect();
+    let finding = Finding { derived, bads: &bads, budget };
+    let telling = Telling { derived, symbols: &symbols };
+    let (fates, limits) = finding.fates_and_bounds(&mut notes);
+    let fates = fates.iter().enumerate().filter(|(_, fate)| !matches!(fate, Fate::NoCounter));
+    notes.extend(fates.map(|(i, fate)| format!("{}: {}", symbols.bad(i), telling.fate(fate))));
+    evidence::put_bounds(&mut m, &limits);
+    Ok(finished(&m, &symbols, notes))
+}
+
+/// The message, and its verdict as the last note.
+fn finished(m: &Message, symbols: &Symbols, mut notes: Vec<String>) -> Assembled {
+    let message = message::to_bytes(&message::write(m));
+    let (_, result) = verify_in_detail(&message, &mut vec![0; limits::LENT]);
+    let entries = m.entries.len();
+    let (verdict, safe) = match &result {
+        Ok(_) => (format!("safe: {} with {entries} entries found", ceilings(m.bounds)), true),
+        Err(r) if r.number == SPACE => {
+            (format!("refused: 14 space, {} words needed: safe where so many are lent", r.position), false)
+        }
+        Err(Refusal { number, position, detail }) => {
+            let bad = match detail {
+                Detail::Met { bad, .. } => format!(", {}", symbols.bad(*bad)),
+                _ => String::new(),
+            };
+            (format!("refused: {number} {}, word {position}{bad}", trade_word(*number)), false)
         }
     };
-    evidence::put_bounds(&mut m, &limits);
-    Ok(Assembled { message: message::to_bytes(&message::write(&m)), notes, safe })
+    notes.push(verdict);
+    Assembled { message, notes, safe }
 }
 
-/// The author's words for the numbers of a message.
-fn authors<'a>(program: &'a Program, station: &Station, lowered: &Lowered) -> Symbols<'a> {
-    let mut symbols = Symbols::new(program);
-    symbols.constructors = station.constructors.iter().map(|(name, _)| name.clone()).collect();
-    symbols.labels = lowered.labels.iter().map(|(label, &row)| (row, label.clone())).collect();
-    let words = symbols.names.iter_mut().zip(&lowered.words);
-    words.for_each(|(name, word)| word.iter().for_each(|w| *name = w.clone()));
-    symbols
+/// What was found for one bad.
+pub enum Fate {
+    /// An item has no counter: it is never met, and a warning tells so.
+    NoCounter,
+    /// Ceilings for it alone.
+    Alone(Vec<Limits>),
+    /// None for it alone, but those for all bads together serve it.
+    Together,
+    Met {
+        rules: Vec<usize>,
+        judged: Judged,
+    },
+    TooLarge(String),
 }
 
-/// Tells why no bounds were found.
-struct Telling<'a> {
-    symbols: Symbols<'a>,
-    tables: &'a Tables,
-    system: &'a System,
+/// Of the budget, what is spent on fewer ceilings for a bad where there are some already.
+const FEWER: usize = 40;
+
+struct Finding<'a> {
+    derived: Derived<'a>,
+    bads: &'a [Bad],
+    budget: usize,
 }
 
-impl Telling<'_> {
-    fn failure(&self, failure: &Failure, bads: &[Bad]) -> String {
-        match failure {
-            Failure::TooLarge(why) => format!("no ceilings were found: {why}"),
-            Failure::Coverable { bad, rules, whole } => {
-                let name = bads.get(*bad).map_or("?", |bad| &bad.name);
-                let how = match whole {
-                    true => "this run of the counters meets it",
-                    false => "this run, with its growing parts repeated often enough, meets it",
-                };
-                format!("no ceilings were found: bad `{name}` can be met; {how}:\n{}", self.run(rules))
-            }
+impl Finding<'_> {
+    /// What was found for each bad, and the ceilings that allow none of the bads that have some.
+    fn fates_and_bounds(&self, notes: &mut Vec<String>) -> (Vec<Fate>, Vec<Limits>) {
+        if let Ok(limits) = self.bounds(self.bads) {
+            return (self.bads.iter().map(|bad| self.fewer(bad)).collect(), limits);
         }
+        let mut fates: Vec<Fate> = self.bads.iter().map(|bad| self.fate(bad)).collect();
+        let not_met: Vec<Bad> = self.those(&fates, |fate| !matches!(fate, Fate::Met { .. }));
+        if let Ok(limits) = self.bounds(&not_met) {
+            fates.iter_mut().filter(|fate| matches!(fate, Fate::TooLarge(_))).for_each(|fate| *fate = Fate::Together);
+            return (fates, limits);
+        }
+        let limits = self.together(&fates).unwrap_or_else(|why| {
+            notes.push(format!("no ceilings were found that serve all bads together: {why}"));
+            self.bounds(&[]).unwrap_or_default()
+        });
+        (fates, limits)
     }
 
-    fn run(&self, rules: &[usize]) -> String {
-        let mut text = String::new();
-        for (i, &rule) in rules.iter().enumerate().take(SHOWN) {
-            let rule = &self.system.rules[rule];
-            let (_, head) = self.tables.states[rule.from];
-            let words = self.symbols.rule(self.tables, self.system, rule);
-            let _ = writeln!(text, "  {}. {words}   [{}]", i + 1, self.symbols.head(head));
+    fn bounds(&self, bads: &[Bad]) -> Result<Vec<Limits>, Failure> {
+        evidence::find_bounds(self.derived.program, self.derived.tables, self.derived.system, bads, self.budget)
+    }
+
+    fn those(&self, fates: &[Fate], which: fn(&Fate) -> bool) -> Vec<Bad> {
+        self.bads.iter().zip(fates).filter(|(_, fate)| which(fate)).map(|(bad, _)| bad.clone()).collect()
+    }
+
+    /// The counters of a bad and what to explore for it alone.
+    fn alone(&self, bad: &Bad, explore: impl FnOnce(&Net, &[(usize, u16)]) -> Fate) -> Fate {
+        let Derived { program, tables, system } = self.derived;
+        let Some(items) = bad_counters(program, tables, system, bad) else { return Fate::NoCounter };
+        let start = tables.state(program.rows, program.start).unwrap_or(0);
+        explore(&Net { system, start, bads: &[Some(items.clone())] }, &items)
+    }
+
+    /// A bad that is known to have ceilings.
+    fn fewer(&self, bad: &Bad) -> Fate {
+        self.alone(bad, |net, _| explore::fewest(net, self.budget / FEWER).map_or(Fate::Together, Fate::Alone))
+    }
+
+    fn fate(&self, bad: &Bad) -> Fate {
+        let explored = |net: &Net| match explore::fewest(net, self.budget / FEWER) {
+            Err(Failure::TooLarge(_)) => explore::bounds(net, self.budget),
+            found => found,
+        };
+        self.alone(bad, |net, items| match explored(net) {
+            Ok(limits) => Fate::Alone(limits),
+            Err(Failure::TooLarge(why)) => Fate::TooLarge(why),
+            Err(Failure::Coverable { rules, whole, .. }) => {
+                let judged = judge(self.derived, items, &rules, whole, self.budget);
+                Fate::Met { rules, judged }
+            }
+        })
+    }
+
+    /// Ceilings made of those that each bad has alone; a word where they are too many.
+    fn together(&self, fates: &[Fate]) -> Result<Vec<Limits>, String> {
+        let alone = fates.iter().filter_map(|fate| if let Fate::Alone(limits) = fate { Some(limits) } else { None });
+        let mut all: Option<Vec<Limits>> = None;
+        for limits in alone {
+            let met = all.map_or(Some(limits.clone()), |all| explore::meet(&all, limits));
+            all = Some(met.ok_or("those that each bad has alone make too many")?);
         }
-        if rules.len() > SHOWN {
-            let _ = writeln!(text, "  ... and {} more", rules.len() - SHOWN);
+        let all = all.unwrap_or_default();
+        match explore::fitting(&all) {
+            Err(Failure::TooLarge(why)) => Err(why),
+            _ => Ok(all),
         }
-        text
     }
 }

@@ -1,10 +1,10 @@
 //! Message to text, with tables and bounds (01: ceilings) as comments.
 
-use crate::bads::{Bad, Place};
+use crate::bads::Bad;
 use crate::limits::UNBOUNDED;
-use crate::program::{Branch, Head, Pattern, Program, Row};
+use crate::program::{Branch, Head, Program, Row};
 use crate::symbols::Symbols;
-use crate::verify::{inspect, Read};
+use crate::verify::{Read, inspect};
 use std::fmt::Write;
 
 /// The text of a message, or a word if not even its rows can be read.
@@ -43,7 +43,8 @@ impl Writer<'_> {
 
     fn program(&mut self) {
         let arities = self.program.arities.iter().enumerate();
-        let constructors: Vec<String> = arities.map(|(i, arity)| format!("{}/{arity}", self.symbols.constructor(i))).collect();
+        let constructors: Vec<String> =
+            arities.map(|(i, arity)| format!("{}/{arity}", self.symbols.constructor(i))).collect();
         if !constructors.is_empty() {
             self.line(0, &format!("constructors {}.", constructors.join(", ")));
         }
@@ -127,37 +128,17 @@ impl Writer<'_> {
 
     fn branches(&mut self, branches: &[Branch], depth: usize, end: &str) {
         for (i, branch) in branches.iter().enumerate() {
-            let words = format!("{} ->", self.pattern(branch.pattern));
+            let words = format!("{} ->", self.symbols.pattern(branch.pattern));
             self.line(depth + 1, &words);
             self.expression(branch.body, depth + 2, if i + 1 < branches.len() { ";" } else { "" });
         }
         self.line(depth, &format!("end{end}"));
     }
 
-    fn pattern(&self, row: Row) -> String {
-        match self.program.pattern(row) {
-            Some(Pattern::Name(name)) => self.symbols.name(*name).to_string(),
-            Some(Pattern::Constructor { constructor, parts }) if parts.is_empty() => {
-                self.symbols.constructor(*constructor).to_string()
-            }
-            Some(Pattern::Constructor { constructor, parts }) => {
-                let parts: Vec<String> = parts.iter().map(|&part| self.pattern(part)).collect();
-                format!("{}({})", self.symbols.constructor(*constructor), parts.join(", "))
-            }
-            _ => "_".to_string(),
-        }
-    }
-
     fn bads(&mut self, bads: &[Bad]) {
         self.line(0, "");
         for (i, bad) in bads.iter().enumerate() {
-            let items = bad.items.iter().map(|item| {
-                let what = match item.place {
-                    Place::Head(head) => format!("at {}", self.symbols.label(head)),
-                    Place::Letter(letter) => format!("holds {}", self.symbols.letter(letter)),
-                };
-                format!("{} {what} >= {}", self.symbols.class(item.class), item.minimum)
-            });
+            let items = bad.items.iter().map(|item| self.symbols.item(item));
             let words = format!("bad b{i}: {}.", items.collect::<Vec<_>>().join(" and "));
             self.line(0, &words);
         }
@@ -194,7 +175,9 @@ impl Writer<'_> {
         self.line(0, "% ceilings: most of each counter, 0 where none is named");
         for (i, limits) in bounds.limits.iter().enumerate() {
             let held = limits.iter().enumerate().filter(|&(_, &limit)| limit > 0);
-            let words: Vec<String> = held.map(|(c, &limit)| format!("{}<={}", self.symbols.counter(tables, system, c), shown(limit))).collect();
+            let words: Vec<String> = held
+                .map(|(c, &limit)| format!("{}<={}", self.symbols.counter(tables, system, c), shown(limit)))
+                .collect();
             self.line(0, &format!("%   {i}: {}", words.join(" ")));
         }
     }

@@ -25,6 +25,8 @@ pub struct Lowered {
     pub labels: BTreeMap<String, usize>,
     /// The author's word for each name, by its number.
     pub words: Vec<Option<String>>,
+    /// The line of each head, and of each branch by the row of its pattern.
+    pub lines: BTreeMap<usize, usize>,
 }
 
 struct Lower<'a> {
@@ -35,6 +37,7 @@ struct Lower<'a> {
     words: Vec<Option<String>>,
     scope: Vec<(String, Binder)>,
     labels: BTreeMap<String, usize>,
+    lines: BTreeMap<usize, usize>,
     warnings: Vec<String>,
 }
 
@@ -47,6 +50,7 @@ pub fn lower(station: &Station) -> Lowering<Lowered> {
         words: Vec::new(),
         scope: Vec::new(),
         labels: BTreeMap::new(),
+        lines: BTreeMap::new(),
         warnings: Vec::new(),
     };
     lower.front(station)?;
@@ -70,6 +74,7 @@ pub fn lower(station: &Station) -> Lowering<Lowered> {
         bads,
         warnings: lower.warnings,
         labels: lower.labels,
+        lines: lower.lines,
     })
 }
 
@@ -112,7 +117,13 @@ impl<'a> Lower<'a> {
         self.scope.iter().rev().find(|(w, _)| w == word).map(|&(_, binder)| binder)
     }
 
+    /// The next row is a head of this line.
+    fn line(&mut self, line: usize) {
+        self.lines.insert(self.rows.len(), line);
+    }
+
     fn label(&mut self, expr: &Expr) -> Lowering<()> {
+        self.line(expr.line);
         let Some(label) = &expr.label else { return Ok(()) };
         match self.labels.insert(label.clone(), self.rows.len()) {
             None => Ok(()),
@@ -191,6 +202,7 @@ impl<'a> Lower<'a> {
             }
             _ => {
                 let binder = self.step(step)?;
+                self.line(step.value.line);
                 self.named_row(1, binder);
                 Ok(())
             }
@@ -234,9 +246,9 @@ impl<'a> Lower<'a> {
             }
             Term::Case(value, branches) => {
                 let value = self.value(value, None)?;
-                self.at_once(word, |lower| lower.case(expr, value, branches))
+                self.at_once(expr.line, word, |lower| lower.case(expr, value, branches))
             }
-            Term::Receive(branches) => self.at_once(word, |lower| lower.receive(expr, branches)),
+            Term::Receive(branches) => self.at_once(expr.line, word, |lower| lower.receive(expr, branches)),
         }
     }
 
@@ -278,12 +290,19 @@ impl<'a> Lower<'a> {
     }
 
     /// A case or receive with a rest: a function without parameters, called at once.
-    fn at_once(&mut self, word: Option<&str>, body: impl FnOnce(&mut Self) -> Lowering<()>) -> Lowering<Binder> {
+    fn at_once(
+        &mut self,
+        line: usize,
+        word: Option<&str>,
+        body: impl FnOnce(&mut Self) -> Lowering<()>,
+    ) -> Lowering<Binder> {
         let function = self.fresh(None);
+        self.line(line);
         self.named_row(3, function);
         self.row(22, 0);
         body(self)?;
         let binder = self.fresh(word);
+        self.line(line);
         self.named_row(4, binder);
         self.named_row(21, function);
         self.row(22, 0);
@@ -309,6 +328,7 @@ impl<'a> Lower<'a> {
         }
         for branch in branches {
             let outside = self.scope.len();
+            self.line(branch.line);
             self.pattern(branch, &branch.pattern, 1, outside)?;
             self.body(&branch.body)?;
             self.scope.truncate(outside);
@@ -342,7 +362,8 @@ impl<'a> Lower<'a> {
             return Err(format!("line {}: {name} twice in one pattern; each would bind afresh", branch.line));
         }
         if self.in_scope(name).is_some() {
-            let warning = format!("line {}: {name} binds afresh here, it is not compared with {name} above", branch.line);
+            let warning =
+                format!("line {}: {name} binds afresh here, it is not compared with {name} above", branch.line);
             self.warnings.push(warning);
         }
         let binder = self.fresh(Some(name));

@@ -6,3 +6,6 @@ pub mod disassemble;
 pub mod lexer;
 pub mod lower;
 pub mod parser;
+pub mod telling;
+pub mod warnings;
+pub mod words;

@@ -1,7 +1,7 @@
 //! Tokens to tree.
 
 use super::ast::{Bad, Body, Branch, Expr, Function, Item, Pattern, Station, Step, Term, What};
-use super::lexer::{tokens, Placed, Token};
+use super::lexer::{Placed, Token, tokens};
 
 type Parsed<T> = Result<T, String>;
 
