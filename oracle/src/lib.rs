@@ -3,6 +3,7 @@
 pub mod analysis;
 pub mod bads;
 pub mod bounds;
+pub mod cases;
 pub mod closed;
 pub mod counters;
 pub mod evidence;

@@ -1,5 +1,7 @@
 //! A station as it runs: one process at a time takes a step (01, "How a station runs").
 
+mod shown;
+
 use crate::program::{Branch, Head, Name, Program, Row};
 use crate::store::{Bindings, Frame, Frames, Store, Value, ValueId};
 

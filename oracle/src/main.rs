@@ -4,7 +4,7 @@ mod commands;
 
 use commands::output::say;
 use commands::{
-    Answer, NO_VERDICT, against, assemble, corpus, disassemble, explain, fuzz, hostile, run, time, told, verify,
+    Answer, NO_VERDICT, against, assemble, cases, corpus, disassemble, explain, fuzz, hostile, run, time, told, verify,
 };
 use std::process::ExitCode;
 
@@ -24,6 +24,8 @@ oracle time FILE...                    how long the verifier takes
 oracle corpus SEED COUNT OUT           OUT.bin and OUT.txt: messages of every verdict, what is expected
 oracle check-corpus BIN TXT            verifies a stored corpus anew
 oracle hostile DIR                     writes worst-case messages
+oracle run-cases SOURCE                the model's table of runs, with what this machine comes to
+oracle verdict-cases SOURCE            the model's table of verdicts, with what this verifier answers
 oracle bench [OUT]                     times of the proved code and of `verify`, a page of its own (feature `proved`)";
 
 fn answer(command: &str, args: &[String]) -> Answer {
@@ -39,6 +41,8 @@ fn answer(command: &str, args: &[String]) -> Answer {
         "fuzz-naive" => fuzz::naive(args),
         "against" => against::command(args),
         "time" => time::command(args),
+        "run-cases" => cases::runs(args),
+        "verdict-cases" => cases::verdicts(args),
         "corpus" => corpus::command(args),
         "check-corpus" => corpus::check(args),
         "hostile" => hostile::command(args),

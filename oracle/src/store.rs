@@ -135,6 +135,15 @@ impl Store {
         None
     }
 
+    /// The names that a list binds, with what they hold, by name.
+    pub fn held(&self, bindings: Bindings) -> Vec<(Name, ValueId)> {
+        let binding = |list: Bindings| list.map(|i| self.bindings.all[i]);
+        let all = std::iter::successors(binding(bindings), |newer| binding(newer.others));
+        let mut held: Vec<(Name, ValueId)> = all.map(|binding| (binding.name, binding.value)).collect();
+        held.sort_unstable();
+        held
+    }
+
     /// The first branch that matches a value, and what its names hold then.
     pub fn first_match<'b>(
         &self,

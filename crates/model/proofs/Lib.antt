@@ -1,5 +1,8 @@
 pub mod Opens
 pub mod Cases
+pub mod RunCases
+pub mod VerdictCases
+pub mod CounterCases
 pub mod Logic
 pub mod Index
 pub mod Reader

@@ -23,6 +23,10 @@ pub mod Markings
 pub mod Bounds
 pub mod Verify
 pub mod Cases
+pub mod Shown
+pub mod RunCases
+pub mod VerdictCases
+pub mod CounterCases
 pub mod Wanted
 pub mod Met
 pub mod Demands

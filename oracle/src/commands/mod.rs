@@ -4,6 +4,7 @@ pub mod against;
 pub mod assemble;
 #[cfg(feature = "proved")]
 pub mod bench;
+pub mod cases;
 pub mod corpus;
 pub mod disassemble;
 pub mod explain;

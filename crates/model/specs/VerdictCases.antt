@@ -1,0 +1,1087 @@
+-- Cases for every limit and for what Cases.antt leaves bare. What is expected is what the other implementation gives,
+-- which was written from the papers alone: `oracle verdict-cases oracle/tests/cases/verdicts.txt` writes this file.
+-- proofs/VerdictCases.antt proves by computation that the definitions give the same: number and place, and in the
+-- second table the part handed on and every lent word.
+--
+-- Above a message stands the text of its station (docs/STATIONS.md), where it was assembled from one. `changed ws
+-- ((8, 12) ∷ [])` is the message ws with the word 12 at place 8.
+use Prim.Native.Nat.{ℕ}
+use mathlib.Core.List.{List, [], _∷_, _++_}
+use lib.ListN.{set}
+use Rattle.model.specs.Verdict.{number, place}
+use Rattle.model.specs.Verify.{verdict}
+use Rattle.model.specs.Cases.{Case, Pairs, program-words, bad-words, table-words, bound-words, to-bytes, safe}
+
+-- the words with others in their places
+unfoldable pub changed : List ℕ → Pairs → List ℕ
+changed ws [] = ws
+changed ws (x ∷ xs) = changed (set ws (x .0) (x .1)) xs
+
+-- a message, and the number and place of its verdict
+pub record Verdict-case : Type 0 where
+  pub bytes : List ℕ
+  pub expected : List ℕ
+
+unfoldable pub at : ℕ → ℕ → List ℕ → Verdict-case
+at n position bytes = record { bytes = bytes; expected = n ∷ position ∷ [] }
+
+-- as many words are lent as any of these messages needs
+unfoldable pub told : Verdict-case → List ℕ
+told k = let v = verdict (k .bytes) 100 in number v ∷ place v ∷ []
+
+-- A program of one row; the sizes of the bads begin at word 6.
+unfoldable pub bads-sizes-program : List ℕ
+bads-sizes-program =
+    program-words 1 0 0
+    ((1, 0) ∷ [])
+
+unfoldable pub bads-sizes-words : List ℕ
+bads-sizes-words =
+    bads-sizes-program
+
+-- The tables begin at word 16.
+unfoldable pub tables-sizes-program : List ℕ
+tables-sizes-program =
+    program-words 1 0 0
+    ((1, 0) ∷ [])
+
+unfoldable pub tables-sizes-words : List ℕ
+tables-sizes-words =
+    tables-sizes-program ++
+    bad-words 1
+    ((40, 1) ∷ (41, 0) ∷ (43, 1) ∷ (44, 0) ∷ [])
+
+-- The ceilings begin at word 19.
+unfoldable pub ceilings-sizes-program : List ℕ
+ceilings-sizes-program =
+    program-words 1 0 0
+    ((1, 0) ∷ [])
+
+unfoldable pub ceilings-sizes-words : List ℕ
+ceilings-sizes-words =
+    ceilings-sizes-program ++
+    bad-words 1
+    ((40, 1) ∷ (41, 0) ∷ (43, 1) ∷ (44, 0) ∷ []) ++
+    table-words
+    []
+    []
+    []
+
+-- Station A of document 01. Its words: sizes 0 to 3, tags 4 to 13, numbers 14 to 23; bads 24 and 25, tags 26 to 29,
+-- numbers 30 to 33; tables 34 to 36, first columns 37 to 45, second columns 46 to 54; ceilings 55 and 56, counter numbers
+-- 57 to 67, limits 68 to 78.
+unfoldable pub station-a-program : List ℕ
+station-a-program =
+    program-words 3 1 0
+    ((10, 0) ∷ (7, 0) ∷ (2, 1) ∷ (20, 0) ∷ (5, 2) ∷ (21, 0) ∷ (21, 1) ∷ (9, 1) ∷ (31, 0) ∷ (1, 0) ∷ [])
+
+unfoldable pub station-a-words : List ℕ
+station-a-words =
+    station-a-program ++
+    bad-words 1
+    ((40, 10) ∷ (42, 0) ∷ (43, 2) ∷ (44, 0) ∷ []) ++
+    table-words
+    ((0, 10) ∷ (1, 2) ∷ (2, 2) ∷ [])
+    ((10, 2) ∷ [])
+    ((10, 1) ∷ (10, 2) ∷ (10, 4) ∷ (10, 7) ∷ (10, 9) ∷ []) ++
+    bound-words 5
+    ((0, 1) ∷ (6, 0) ∷ (1, 1) ∷ (6, 0) ∷ (2, 1) ∷ (6, 0) ∷ (3, 1) ∷ (5, 1) ∷ (6, 0) ∷ (4, 1) ∷ (6, 0) ∷ [])
+
+-- Station A with two bads, the second of two items: a message that waits, and a process at the receive.
+unfoldable pub two-bads-program : List ℕ
+two-bads-program =
+    program-words 3 1 0
+    ((10, 0) ∷ (7, 0) ∷ (2, 1) ∷ (20, 0) ∷ (5, 2) ∷ (21, 0) ∷ (21, 1) ∷ (9, 1) ∷ (31, 0) ∷ (1, 0) ∷ [])
+
+unfoldable pub two-bads-words : List ℕ
+two-bads-words =
+    two-bads-program ++
+    bad-words 2
+    ((40, 10) ∷ (42, 0) ∷ (43, 2) ∷ (44, 0) ∷ (40, 10) ∷ (42, 0) ∷ (43, 1) ∷ (40, 10) ∷ (41, 4) ∷ (43, 1) ∷ (44, 0) ∷
+    []) ++
+    table-words
+    ((0, 10) ∷ (1, 2) ∷ (2, 2) ∷ [])
+    ((10, 2) ∷ [])
+    ((10, 1) ∷ (10, 2) ∷ (10, 4) ∷ (10, 7) ∷ (10, 9) ∷ []) ++
+    bound-words 5
+    ((0, 1) ∷ (6, 0) ∷ (1, 1) ∷ (6, 0) ∷ (2, 1) ∷ (6, 0) ∷ (3, 1) ∷ (5, 1) ∷ (6, 0) ∷ (4, 1) ∷ (6, 0) ∷ [])
+
+unfoldable pub two-bads-listing : List ℕ
+two-bads-listing =
+    (5 ∷ 1 ∷ 4 ∷ 10 ∷ []) ++
+    (50 ∷ 51 ∷ 50 ∷ 51 ∷ 50 ∷ 51 ∷ 53 ∷ 50 ∷ 51 ∷ 52 ∷ []) ++
+    (0 ∷ 1 ∷ 1 ∷ 2 ∷ 2 ∷ 3 ∷ 5 ∷ 3 ∷ 4 ∷ 5 ∷ [])
+
+-- Station A with one ceiling that leaves every counter unbounded, and a bad that no function waits: limits are words 64 to 70.
+unfoldable pub unbounded-program : List ℕ
+unbounded-program =
+    program-words 3 1 0
+    ((10, 0) ∷ (7, 0) ∷ (2, 1) ∷ (20, 0) ∷ (5, 2) ∷ (21, 0) ∷ (21, 1) ∷ (9, 1) ∷ (31, 0) ∷ (1, 0) ∷ [])
+
+unfoldable pub unbounded-words : List ℕ
+unbounded-words =
+    unbounded-program ++
+    bad-words 1
+    ((40, 10) ∷ (42, 1) ∷ (43, 1) ∷ (44, 0) ∷ []) ++
+    table-words
+    ((0, 10) ∷ (1, 2) ∷ (2, 2) ∷ [])
+    ((10, 2) ∷ [])
+    ((10, 1) ∷ (10, 2) ∷ (10, 4) ∷ (10, 7) ∷ (10, 9) ∷ []) ++
+    bound-words 1
+    ((0, 65535) ∷ (1, 65535) ∷ (2, 65535) ∷ (3, 65535) ∷ (4, 65535) ∷ (5, 65535) ∷ (6, 0) ∷ [])
+
+-- Station A with a ceiling of any number of processes at the start, and one of 65,534 there and anything elsewhere.
+unfoldable pub one-taken-program : List ℕ
+one-taken-program =
+    program-words 3 1 0
+    ((10, 0) ∷ (7, 0) ∷ (2, 1) ∷ (20, 0) ∷ (5, 2) ∷ (21, 0) ∷ (21, 1) ∷ (9, 1) ∷ (31, 0) ∷ (1, 0) ∷ [])
+
+unfoldable pub one-taken-words : List ℕ
+one-taken-words =
+    one-taken-program ++
+    bad-words 1
+    ((40, 10) ∷ (42, 1) ∷ (43, 1) ∷ (44, 0) ∷ []) ++
+    table-words
+    ((0, 10) ∷ (1, 2) ∷ (2, 2) ∷ [])
+    ((10, 2) ∷ [])
+    ((10, 1) ∷ (10, 2) ∷ (10, 4) ∷ (10, 7) ∷ (10, 9) ∷ []) ++
+    bound-words 2
+    ((0, 65535) ∷ (6, 0) ∷ (0, 65534) ∷ (1, 65535) ∷ (2, 65535) ∷ (3, 65535) ∷ (4, 65535) ∷ (5, 65535) ∷ (6, 0) ∷ [])
+
+-- A constructor of arity 8, built once.
+unfoldable pub arity-of-eight-program : List ℕ
+arity-of-eight-program =
+    program-words 2 1 0
+    ((10, 8) ∷ (7, 0) ∷ (2, 1) ∷ (20, 0) ∷ (21, 0) ∷ (21, 0) ∷ (21, 0) ∷ (21, 0) ∷ (21, 0) ∷ (21, 0) ∷ (21, 0) ∷
+    (21, 0) ∷ (1, 1) ∷ [])
+
+unfoldable pub arity-of-eight-words : List ℕ
+arity-of-eight-words =
+    arity-of-eight-program ++
+    bad-words 1
+    ((40, 13) ∷ (41, 1) ∷ (43, 1) ∷ (44, 0) ∷ []) ++
+    table-words
+    []
+    []
+    [] ++
+    bound-words 0
+    []
+
+-- A function of 8 parameters.
+unfoldable pub eight-parameters-program : List ℕ
+eight-parameters-program =
+    program-words 9 0 1
+    ((11, 0) ∷ (22, 8) ∷ (23, 1) ∷ (23, 2) ∷ (23, 3) ∷ (23, 4) ∷ (23, 5) ∷ (23, 6) ∷ (23, 7) ∷ (23, 8) ∷ (1, 8) ∷
+    (1, 0) ∷ [])
+
+unfoldable pub eight-parameters-words : List ℕ
+eight-parameters-words =
+    eight-parameters-program ++
+    bad-words 1
+    ((40, 12) ∷ (41, 11) ∷ (43, 1) ∷ (44, 0) ∷ []) ++
+    table-words
+    []
+    []
+    ((12, 11) ∷ []) ++
+    bound-words 0
+    []
+
+-- A call with 8 arguments of a function without parameters.
+unfoldable pub eight-arguments-program : List ℕ
+eight-arguments-program =
+    program-words 3 0 1
+    ((11, 0) ∷ (22, 0) ∷ (1, 0) ∷ (7, 1) ∷ (4, 2) ∷ (21, 0) ∷ (22, 8) ∷ (21, 1) ∷ (21, 1) ∷ (21, 1) ∷ (21, 1) ∷
+    (21, 1) ∷ (21, 1) ∷ (21, 1) ∷ (21, 1) ∷ (1, 2) ∷ [])
+
+unfoldable pub eight-arguments-words : List ℕ
+eight-arguments-words =
+    eight-arguments-program ++
+    bad-words 1
+    ((40, 16) ∷ (41, 3) ∷ (43, 2) ∷ (44, 0) ∷ []) ++
+    table-words
+    ((0, 0) ∷ (1, 16) ∷ [])
+    []
+    ((16, 3) ∷ (16, 4) ∷ []) ++
+    bound-words 2
+    ((0, 1) ∷ (2, 0) ∷ (1, 1) ∷ (2, 0) ∷ [])
+
+unfoldable pub eight-arguments-listing : List ℕ
+eight-arguments-listing =
+    (2 ∷ 0 ∷ 1 ∷ 2 ∷ []) ++
+    (50 ∷ 51 ∷ []) ++
+    (0 ∷ 1 ∷ [])
+
+-- A case and a receive of 16 branches each.
+unfoldable pub sixteen-branches-program : List ℕ
+sixteen-branches-program =
+    program-words 1 0 0
+    ((7, 0) ∷ (8, 0) ∷ (25, 16) ∷ (32, 0) ∷ (9, 16) ∷ (32, 0) ∷ (1, 0) ∷ (32, 0) ∷ (1, 0) ∷ (32, 0) ∷ (1, 0) ∷
+    (32, 0) ∷ (1, 0) ∷ (32, 0) ∷ (1, 0) ∷ (32, 0) ∷ (1, 0) ∷ (32, 0) ∷ (1, 0) ∷ (32, 0) ∷ (1, 0) ∷ (32, 0) ∷ (1, 0) ∷
+    (32, 0) ∷ (1, 0) ∷ (32, 0) ∷ (1, 0) ∷ (32, 0) ∷ (1, 0) ∷ (32, 0) ∷ (1, 0) ∷ (32, 0) ∷ (1, 0) ∷ (32, 0) ∷ (1, 0) ∷
+    (32, 0) ∷ (1, 0) ∷ (32, 0) ∷ (1, 0) ∷ (32, 0) ∷ (1, 0) ∷ (32, 0) ∷ (1, 0) ∷ (32, 0) ∷ (1, 0) ∷ (32, 0) ∷ (1, 0) ∷
+    (32, 0) ∷ (1, 0) ∷ (32, 0) ∷ (1, 0) ∷ (32, 0) ∷ (1, 0) ∷ (32, 0) ∷ (1, 0) ∷ (32, 0) ∷ (1, 0) ∷ (32, 0) ∷ (1, 0) ∷
+    (32, 0) ∷ (1, 0) ∷ (32, 0) ∷ (1, 0) ∷ (32, 0) ∷ (1, 0) ∷ (32, 0) ∷ (1, 0) ∷ [])
+
+unfoldable pub sixteen-branches-words : List ℕ
+sixteen-branches-words =
+    sixteen-branches-program ++
+    bad-words 1
+    ((40, 67) ∷ (41, 1) ∷ (43, 1) ∷ (44, 0) ∷ []) ++
+    table-words
+    []
+    []
+    [] ++
+    bound-words 0
+    []
+
+-- A pattern of depth 4, whose innermost part is a name.
+unfoldable pub depth-four-program : List ℕ
+depth-four-program =
+    program-words 2 2 0
+    ((10, 1) ∷ (10, 0) ∷ (7, 0) ∷ (8, 0) ∷ (25, 1) ∷ (31, 0) ∷ (31, 0) ∷ (31, 0) ∷ (30, 1) ∷ (1, 1) ∷ [])
+
+unfoldable pub depth-four-words : List ℕ
+depth-four-words =
+    depth-four-program ++
+    bad-words 1
+    ((40, 10) ∷ (41, 2) ∷ (43, 1) ∷ (44, 0) ∷ []) ++
+    table-words
+    []
+    []
+    [] ++
+    bound-words 0
+    []
+
+-- A pattern of depth 5.
+unfoldable pub depth-five-program : List ℕ
+depth-five-program =
+    program-words 2 2 0
+    ((10, 1) ∷ (10, 0) ∷ (7, 0) ∷ (8, 0) ∷ (25, 1) ∷ (31, 0) ∷ (31, 0) ∷ (31, 0) ∷ (31, 0) ∷ (30, 1) ∷ (1, 1) ∷ [])
+
+unfoldable pub depth-five-words : List ℕ
+depth-five-words =
+    depth-five-program ++
+    bad-words 1
+    ((40, 11) ∷ (41, 2) ∷ (43, 1) ∷ (44, 0) ∷ []) ++
+    table-words
+    []
+    []
+    [] ++
+    bound-words 0
+    []
+
+-- Where names hold. f(a) = (g = fun(b) -> b; a); x = self; case x of { y -> y; _ -> x }.
+unfoldable pub scopes-program : List ℕ
+scopes-program =
+    program-words 6 0 1
+    ((11, 0) ∷ (22, 1) ∷ (23, 1) ∷ (3, 2) ∷ (22, 1) ∷ (23, 3) ∷ (1, 3) ∷ (1, 1) ∷ (7, 4) ∷ (8, 4) ∷ (25, 2) ∷
+    (30, 5) ∷ (1, 5) ∷ (32, 0) ∷ (1, 4) ∷ [])
+
+unfoldable pub scopes-words : List ℕ
+scopes-words =
+    scopes-program ++
+    bad-words 1
+    ((40, 15) ∷ (41, 8) ∷ (43, 2) ∷ (44, 0) ∷ []) ++
+    table-words
+    ((0, 0) ∷ (4, 15) ∷ (5, 15) ∷ [])
+    []
+    ((15, 8) ∷ (15, 9) ∷ (15, 12) ∷ (15, 14) ∷ []) ++
+    bound-words 4
+    ((0, 1) ∷ (4, 0) ∷ (1, 1) ∷ (4, 0) ∷ (2, 1) ∷ (4, 0) ∷ (3, 1) ∷ (4, 0) ∷ [])
+
+unfoldable pub scopes-listing : List ℕ
+scopes-listing =
+    (4 ∷ 0 ∷ 3 ∷ 6 ∷ []) ++
+    (50 ∷ 51 ∷ 50 ∷ 51 ∷ 50 ∷ 51 ∷ []) ++
+    (0 ∷ 1 ∷ 1 ∷ 2 ∷ 1 ∷ 3 ∷ [])
+
+-- Values of every kind but a built one: functions of tags 11 and 3 and the address of a spawned process.
+--     constructors a/0.
+--     function f() -> f.
+--     start ->
+--         Me = self(),
+--         P = spawn(f),
+--         G = fun() -> a end,
+--         Me ! f,
+--         Me ! P,
+--         Me ! G.
+--     bad none: start holds a >= 1.
+unfoldable pub values-program : List ℕ
+values-program =
+    program-words 8 1 1
+    ((10, 0) ∷ (11, 0) ∷ (22, 0) ∷ (1, 0) ∷ (7, 1) ∷ (6, 2) ∷ (21, 0) ∷ (3, 3) ∷ (22, 0) ∷ (2, 4) ∷ (20, 0) ∷ (1, 4) ∷
+    (5, 5) ∷ (21, 1) ∷ (21, 0) ∷ (5, 6) ∷ (21, 1) ∷ (21, 2) ∷ (5, 7) ∷ (21, 1) ∷ (21, 3) ∷ (1, 7) ∷ [])
+
+unfoldable pub values-words : List ℕ
+values-words =
+    values-program ++
+    bad-words 1
+    ((40, 22) ∷ (42, 0) ∷ (43, 1) ∷ (44, 0) ∷ []) ++
+    table-words
+    ((0, 1) ∷ (1, 22) ∷ (2, 5) ∷ (3, 7) ∷ (5, 1) ∷ (6, 5) ∷ (7, 7) ∷ [])
+    ((22, 1) ∷ (22, 5) ∷ (22, 7) ∷ [])
+    ((5, 3) ∷ (22, 4) ∷ (22, 5) ∷ (22, 7) ∷ (22, 12) ∷ (22, 15) ∷ (22, 18) ∷ (22, 21) ∷ []) ++
+    bound-words 1
+    ((0, 65535) ∷ (1, 65535) ∷ (2, 65535) ∷ (3, 65535) ∷ (4, 65535) ∷ (5, 65535) ∷ (6, 65535) ∷ (7, 65535) ∷
+    (8, 65535) ∷ (9, 65535) ∷ (10, 0) ∷ [])
+
+unfoldable pub values-listing : List ℕ
+values-listing =
+    (8 ∷ 2 ∷ 6 ∷ 16 ∷ []) ++
+    (50 ∷ 51 ∷ 50 ∷ 51 ∷ 54 ∷ 50 ∷ 51 ∷ 50 ∷ 51 ∷ 53 ∷ 50 ∷ 51 ∷ 53 ∷ 50 ∷ 51 ∷ 53 ∷ []) ++
+    (1 ∷ 2 ∷ 2 ∷ 3 ∷ 0 ∷ 3 ∷ 4 ∷ 4 ∷ 5 ∷ 8 ∷ 5 ∷ 6 ∷ 9 ∷ 6 ∷ 7 ∷ 8 ∷ [])
+
+-- A function and an address as messages: letters C and C + 1.
+--     constructors a/0, b/0.
+--     start ->
+--         Me = self(),
+--         Me ! fun() -> Me end,
+--         receive F -> Me ! Me end.
+--     bad none: start holds a >= 1.
+unfoldable pub letters-program : List ℕ
+letters-program =
+    program-words 5 2 0
+    ((10, 0) ∷ (10, 0) ∷ (7, 0) ∷ (3, 1) ∷ (22, 0) ∷ (1, 0) ∷ (5, 2) ∷ (21, 0) ∷ (21, 1) ∷ (9, 1) ∷ (30, 3) ∷ (5, 4) ∷
+    (21, 0) ∷ (21, 0) ∷ (1, 4) ∷ [])
+
+unfoldable pub letters-words : List ℕ
+letters-words =
+    letters-program ++
+    bad-words 1
+    ((40, 15) ∷ (42, 0) ∷ (43, 1) ∷ (44, 0) ∷ []) ++
+    table-words
+    ((0, 15) ∷ (1, 3) ∷ (2, 3) ∷ (3, 3) ∷ (3, 15) ∷ (4, 15) ∷ [])
+    ((15, 3) ∷ (15, 15) ∷ [])
+    ((15, 2) ∷ (15, 3) ∷ (15, 6) ∷ (15, 9) ∷ (15, 11) ∷ (15, 14) ∷ []) ++
+    bound-words 1
+    ((0, 65535) ∷ (1, 65535) ∷ (2, 65535) ∷ (3, 65535) ∷ (4, 65535) ∷ (5, 65535) ∷ (6, 65535) ∷ (7, 65535) ∷ (8, 0) ∷
+    [])
+
+unfoldable pub letters-listing : List ℕ
+letters-listing =
+    (6 ∷ 2 ∷ 6 ∷ 16 ∷ []) ++
+    (50 ∷ 51 ∷ 50 ∷ 51 ∷ 50 ∷ 51 ∷ 53 ∷ 50 ∷ 51 ∷ 52 ∷ 50 ∷ 51 ∷ 52 ∷ 50 ∷ 51 ∷ 53 ∷ []) ++
+    (0 ∷ 1 ∷ 1 ∷ 2 ∷ 2 ∷ 3 ∷ 6 ∷ 3 ∷ 4 ∷ 6 ∷ 3 ∷ 4 ∷ 7 ∷ 4 ∷ 5 ∷ 7 ∷ [])
+
+-- A function as message, read by a name; a bad of one letter.
+--     constructors a/0.
+--     start ->
+--         Me = self(),
+--         Me ! fun() -> Me end,
+--         Me.
+--     bad address: start holds address >= 1.
+unfoldable pub function-letter-program : List ℕ
+function-letter-program =
+    program-words 3 1 0
+    ((10, 0) ∷ (7, 0) ∷ (3, 1) ∷ (22, 0) ∷ (1, 0) ∷ (5, 2) ∷ (21, 0) ∷ (21, 1) ∷ (1, 0) ∷ [])
+
+unfoldable pub function-letter-words : List ℕ
+function-letter-words =
+    function-letter-program ++
+    bad-words 1
+    ((40, 9) ∷ (42, 2) ∷ (43, 1) ∷ (44, 0) ∷ []) ++
+    table-words
+    ((0, 9) ∷ (1, 2) ∷ (2, 2) ∷ [])
+    ((9, 2) ∷ [])
+    ((9, 1) ∷ (9, 2) ∷ (9, 5) ∷ (9, 8) ∷ []) ++
+    bound-words 1
+    ((0, 65535) ∷ (1, 65535) ∷ (2, 65535) ∷ (3, 65535) ∷ (4, 65535) ∷ (5, 0) ∷ [])
+
+unfoldable pub function-letter-listing : List ℕ
+function-letter-listing =
+    (4 ∷ 1 ∷ 3 ∷ 7 ∷ []) ++
+    (50 ∷ 51 ∷ 50 ∷ 51 ∷ 50 ∷ 51 ∷ 53 ∷ []) ++
+    (0 ∷ 1 ∷ 1 ∷ 2 ∷ 2 ∷ 3 ∷ 4 ∷ [])
+
+-- An address as message.
+--     constructors a/0.
+--     start ->
+--         Me = self(),
+--         Me ! Me,
+--         Me.
+--     bad function: start holds function >= 1.
+unfoldable pub address-letter-program : List ℕ
+address-letter-program =
+    program-words 2 1 0
+    ((10, 0) ∷ (7, 0) ∷ (5, 1) ∷ (21, 0) ∷ (21, 0) ∷ (1, 0) ∷ [])
+
+unfoldable pub address-letter-words : List ℕ
+address-letter-words =
+    address-letter-program ++
+    bad-words 1
+    ((40, 6) ∷ (42, 1) ∷ (43, 1) ∷ (44, 0) ∷ []) ++
+    table-words
+    ((0, 6) ∷ (1, 6) ∷ [])
+    ((6, 6) ∷ [])
+    ((6, 1) ∷ (6, 2) ∷ (6, 5) ∷ []) ++
+    bound-words 1
+    ((0, 65535) ∷ (1, 65535) ∷ (2, 65535) ∷ (3, 65535) ∷ (4, 0) ∷ [])
+
+unfoldable pub address-letter-listing : List ℕ
+address-letter-listing =
+    (3 ∷ 1 ∷ 2 ∷ 5 ∷ []) ++
+    (50 ∷ 51 ∷ 50 ∷ 51 ∷ 53 ∷ []) ++
+    (0 ∷ 1 ∷ 1 ∷ 2 ∷ 3 ∷ [])
+
+-- A call with a wrong count has no rule; beside it one with the right count.
+--     constructors a/0.
+--     function one(X) -> X.
+--     function none() -> one.
+--     function apply(F) -> F().
+--     start ->
+--         apply(none),
+--         apply(one).
+--     bad none: start holds a >= 1.
+unfoldable pub wrong-counts-program : List ℕ
+wrong-counts-program =
+    program-words 8 1 3
+    ((10, 0) ∷ (11, 0) ∷ (22, 1) ∷ (23, 1) ∷ (1, 1) ∷ (11, 2) ∷ (22, 0) ∷ (1, 0) ∷ (11, 3) ∷ (22, 1) ∷ (23, 4) ∷
+    (4, 5) ∷ (21, 4) ∷ (22, 0) ∷ (1, 5) ∷ (4, 6) ∷ (21, 3) ∷ (22, 1) ∷ (21, 2) ∷ (4, 7) ∷ (21, 3) ∷ (22, 1) ∷
+    (21, 0) ∷ (1, 7) ∷ [])
+
+unfoldable pub wrong-counts-words : List ℕ
+wrong-counts-words =
+    wrong-counts-program ++
+    bad-words 1
+    ((40, 24) ∷ (42, 0) ∷ (43, 1) ∷ (44, 0) ∷ []) ++
+    table-words
+    ((0, 1) ∷ (2, 5) ∷ (3, 8) ∷ (4, 1) ∷ (4, 5) ∷ (5, 1) ∷ (6, 1) ∷ (7, 1) ∷ [])
+    []
+    ((24, 7) ∷ (24, 11) ∷ (24, 14) ∷ (24, 15) ∷ (24, 19) ∷ (24, 23) ∷ []) ++
+    bound-words 1
+    ((0, 65535) ∷ (1, 65535) ∷ (2, 65535) ∷ (3, 65535) ∷ (4, 65535) ∷ (5, 65535) ∷ (6, 0) ∷ [])
+
+unfoldable pub wrong-counts-listing : List ℕ
+wrong-counts-listing =
+    (6 ∷ 0 ∷ 6 ∷ 12 ∷ []) ++
+    (50 ∷ 51 ∷ 50 ∷ 51 ∷ 50 ∷ 51 ∷ 50 ∷ 51 ∷ 50 ∷ 51 ∷ 50 ∷ 51 ∷ []) ++
+    (0 ∷ 2 ∷ 1 ∷ 0 ∷ 2 ∷ 4 ∷ 2 ∷ 5 ∷ 3 ∷ 1 ∷ 4 ∷ 1 ∷ [])
+
+-- A call that may go to two functions, each of which gives back to it.
+--     constructors a/0, b/0.
+--     function f() -> a.
+--     function g() -> b.
+--     function apply(F) -> X = F(), X.
+--     start ->
+--         apply(f),
+--         apply(g).
+--     bad none: start holds a >= 1.
+unfoldable pub two-callees-program : List ℕ
+two-callees-program =
+    program-words 9 2 3
+    ((10, 0) ∷ (10, 0) ∷ (11, 0) ∷ (22, 0) ∷ (2, 1) ∷ (20, 0) ∷ (1, 1) ∷ (11, 2) ∷ (22, 0) ∷ (2, 3) ∷ (20, 1) ∷
+    (1, 3) ∷ (11, 4) ∷ (22, 1) ∷ (23, 5) ∷ (4, 6) ∷ (21, 5) ∷ (22, 0) ∷ (1, 6) ∷ (4, 7) ∷ (21, 4) ∷ (22, 1) ∷
+    (21, 0) ∷ (4, 8) ∷ (21, 4) ∷ (22, 1) ∷ (21, 2) ∷ (1, 8) ∷ [])
+
+unfoldable pub two-callees-words : List ℕ
+two-callees-words =
+    two-callees-program ++
+    bad-words 1
+    ((40, 28) ∷ (42, 0) ∷ (43, 1) ∷ (44, 0) ∷ []) ++
+    table-words
+    ((0, 2) ∷ (1, 4) ∷ (2, 7) ∷ (3, 9) ∷ (4, 12) ∷ (5, 2) ∷ (5, 7) ∷ (6, 4) ∷ (6, 9) ∷ (7, 4) ∷ (7, 9) ∷ (8, 4) ∷
+    (8, 9) ∷ [])
+    []
+    ((28, 4) ∷ (28, 6) ∷ (28, 9) ∷ (28, 11) ∷ (28, 15) ∷ (28, 18) ∷ (28, 19) ∷ (28, 23) ∷ (28, 27) ∷ []) ++
+    bound-words 1
+    ((0, 65535) ∷ (1, 65535) ∷ (2, 65535) ∷ (3, 65535) ∷ (4, 65535) ∷ (5, 65535) ∷ (6, 65535) ∷ (7, 65535) ∷
+    (8, 65535) ∷ (9, 0) ∷ [])
+
+unfoldable pub two-callees-listing : List ℕ
+two-callees-listing =
+    (9 ∷ 0 ∷ 10 ∷ 20 ∷ []) ++
+    (50 ∷ 51 ∷ 50 ∷ 51 ∷ 50 ∷ 51 ∷ 50 ∷ 51 ∷ 50 ∷ 51 ∷ 50 ∷ 51 ∷ 50 ∷ 51 ∷ 50 ∷ 51 ∷ 50 ∷ 51 ∷ 50 ∷ 51 ∷ []) ++
+    (0 ∷ 1 ∷ 1 ∷ 5 ∷ 2 ∷ 3 ∷ 3 ∷ 5 ∷ 4 ∷ 0 ∷ 4 ∷ 2 ∷ 5 ∷ 7 ∷ 5 ∷ 8 ∷ 6 ∷ 4 ∷ 7 ∷ 4 ∷ [])
+
+-- A spawn that may start two functions.
+--     constructors a/0.
+--     function f() -> a.
+--     function g() -> f.
+--     function new(F) -> P = spawn(F), P.
+--     start ->
+--         new(f),
+--         new(g).
+--     bad none: start holds a >= 1.
+unfoldable pub two-spawned-program : List ℕ
+two-spawned-program =
+    program-words 8 1 3
+    ((10, 0) ∷ (11, 0) ∷ (22, 0) ∷ (2, 1) ∷ (20, 0) ∷ (1, 1) ∷ (11, 2) ∷ (22, 0) ∷ (1, 0) ∷ (11, 3) ∷ (22, 1) ∷
+    (23, 4) ∷ (6, 5) ∷ (21, 4) ∷ (1, 5) ∷ (4, 6) ∷ (21, 3) ∷ (22, 1) ∷ (21, 0) ∷ (4, 7) ∷ (21, 3) ∷ (22, 1) ∷
+    (21, 2) ∷ (1, 7) ∷ [])
+
+unfoldable pub two-spawned-words : List ℕ
+two-spawned-words =
+    two-spawned-program ++
+    bad-words 1
+    ((40, 24) ∷ (42, 0) ∷ (43, 1) ∷ (44, 0) ∷ []) ++
+    table-words
+    ((0, 1) ∷ (1, 3) ∷ (2, 6) ∷ (3, 9) ∷ (4, 1) ∷ (4, 6) ∷ (5, 12) ∷ (6, 12) ∷ (7, 12) ∷ [])
+    []
+    ((12, 3) ∷ (12, 5) ∷ (12, 8) ∷ (24, 12) ∷ (24, 14) ∷ (24, 15) ∷ (24, 19) ∷ (24, 23) ∷ []) ++
+    bound-words 1
+    ((0, 65535) ∷ (1, 65535) ∷ (2, 65535) ∷ (3, 65535) ∷ (4, 65535) ∷ (5, 65535) ∷ (6, 65535) ∷ (7, 65535) ∷ (8, 0) ∷
+    [])
+
+unfoldable pub two-spawned-listing : List ℕ
+two-spawned-listing =
+    (8 ∷ 0 ∷ 7 ∷ 16 ∷ []) ++
+    (50 ∷ 51 ∷ 50 ∷ 51 ∷ 54 ∷ 50 ∷ 51 ∷ 54 ∷ 50 ∷ 51 ∷ 50 ∷ 51 ∷ 50 ∷ 51 ∷ 50 ∷ 51 ∷ []) ++
+    (0 ∷ 1 ∷ 3 ∷ 4 ∷ 0 ∷ 3 ∷ 4 ∷ 2 ∷ 4 ∷ 6 ∷ 4 ∷ 7 ∷ 5 ∷ 3 ∷ 6 ∷ 3 ∷ [])
+
+-- A case of which two branches may match one value, and a third may not.
+--     constructors a/0, b/0.
+--     start ->
+--         A = a,
+--         case A of
+--             a -> A;
+--             b -> A;
+--             X -> X
+--         end.
+--     bad none: start holds a >= 1.
+unfoldable pub two-branches-program : List ℕ
+two-branches-program =
+    program-words 2 2 0
+    ((10, 0) ∷ (10, 0) ∷ (2, 0) ∷ (20, 0) ∷ (8, 0) ∷ (25, 3) ∷ (31, 0) ∷ (1, 0) ∷ (31, 1) ∷ (1, 0) ∷ (30, 1) ∷
+    (1, 1) ∷ [])
+
+unfoldable pub two-branches-words : List ℕ
+two-branches-words =
+    two-branches-program ++
+    bad-words 1
+    ((40, 12) ∷ (42, 0) ∷ (43, 1) ∷ (44, 0) ∷ []) ++
+    table-words
+    ((0, 2) ∷ (1, 2) ∷ [])
+    []
+    ((12, 2) ∷ (12, 4) ∷ (12, 7) ∷ (12, 11) ∷ []) ++
+    bound-words 1
+    ((0, 65535) ∷ (1, 65535) ∷ (2, 65535) ∷ (3, 65535) ∷ (4, 0) ∷ [])
+
+unfoldable pub two-branches-listing : List ℕ
+two-branches-listing =
+    (4 ∷ 0 ∷ 3 ∷ 6 ∷ []) ++
+    (50 ∷ 51 ∷ 50 ∷ 51 ∷ 50 ∷ 51 ∷ []) ++
+    (0 ∷ 1 ∷ 1 ∷ 2 ∷ 1 ∷ 3 ∷ [])
+
+-- A send of what may be two letters.
+--     constructors a/0, b/0.
+--     function send(To, X) -> To ! X.
+--     start ->
+--         Me = self(),
+--         B = b,
+--         A = a,
+--         send(Me, B),
+--         send(Me, A),
+--         receive b -> Me; X -> X end.
+--     bad none: start holds function >= 1.
+unfoldable pub two-letters-program : List ℕ
+two-letters-program =
+    program-words 10 2 1
+    ((10, 0) ∷ (10, 0) ∷ (11, 0) ∷ (22, 2) ∷ (23, 1) ∷ (23, 2) ∷ (5, 3) ∷ (21, 1) ∷ (21, 2) ∷ (1, 3) ∷ (7, 4) ∷
+    (2, 5) ∷ (20, 1) ∷ (2, 6) ∷ (20, 0) ∷ (4, 7) ∷ (21, 0) ∷ (22, 2) ∷ (21, 4) ∷ (21, 5) ∷ (4, 8) ∷ (21, 0) ∷
+    (22, 2) ∷ (21, 4) ∷ (21, 6) ∷ (9, 2) ∷ (31, 1) ∷ (1, 4) ∷ (30, 9) ∷ (1, 9) ∷ [])
+
+unfoldable pub two-letters-words : List ℕ
+two-letters-words =
+    two-letters-program ++
+    bad-words 1
+    ((40, 30) ∷ (42, 2) ∷ (43, 1) ∷ (44, 0) ∷ []) ++
+    table-words
+    ((0, 2) ∷ (1, 30) ∷ (2, 11) ∷ (2, 13) ∷ (3, 11) ∷ (3, 13) ∷ (4, 30) ∷ (5, 11) ∷ (6, 13) ∷ (7, 11) ∷ (7, 13) ∷
+    (8, 11) ∷ (8, 13) ∷ (9, 11) ∷ (9, 13) ∷ [])
+    ((30, 11) ∷ (30, 13) ∷ [])
+    ((30, 6) ∷ (30, 9) ∷ (30, 10) ∷ (30, 11) ∷ (30, 13) ∷ (30, 15) ∷ (30, 20) ∷ (30, 25) ∷ (30, 27) ∷ (30, 29) ∷ [])
+    ++
+    bound-words 1
+    ((0, 65535) ∷ (1, 65535) ∷ (2, 65535) ∷ (3, 65535) ∷ (4, 65535) ∷ (5, 65535) ∷ (6, 65535) ∷ (7, 65535) ∷
+    (8, 65535) ∷ (9, 65535) ∷ (10, 65535) ∷ (11, 65535) ∷ (12, 0) ∷ [])
+
+unfoldable pub two-letters-listing : List ℕ
+two-letters-listing =
+    (10 ∷ 2 ∷ 12 ∷ 29 ∷ []) ++
+    (50 ∷ 51 ∷ 53 ∷ 50 ∷ 51 ∷ 53 ∷ 50 ∷ 51 ∷ 50 ∷ 51 ∷ 50 ∷ 51 ∷ 50 ∷ 51 ∷ 50 ∷ 51 ∷ 50 ∷ 51 ∷ 50 ∷ 51 ∷ 50 ∷ 51 ∷
+    52 ∷ 50 ∷ 51 ∷ 52 ∷ 50 ∷ 51 ∷ 52 ∷ []) ++
+    (0 ∷ 1 ∷ 10 ∷ 0 ∷ 1 ∷ 11 ∷ 1 ∷ 6 ∷ 1 ∷ 7 ∷ 2 ∷ 3 ∷ 3 ∷ 4 ∷ 4 ∷ 5 ∷ 5 ∷ 0 ∷ 6 ∷ 0 ∷ 7 ∷ 8 ∷ 11 ∷ 7 ∷ 9 ∷ 10 ∷ 7 ∷
+    9 ∷ 11 ∷ [])
+
+-- A send of what may be two values of one letter.
+--     constructors a/0, b/0.
+--     function send(To, X) -> To ! X.
+--     start ->
+--         Me = self(),
+--         A = a,
+--         B = a,
+--         send(Me, A),
+--         send(Me, B),
+--         receive X -> X end.
+--     bad none: start holds b >= 1.
+unfoldable pub one-letter-program : List ℕ
+one-letter-program =
+    program-words 10 2 1
+    ((10, 0) ∷ (10, 0) ∷ (11, 0) ∷ (22, 2) ∷ (23, 1) ∷ (23, 2) ∷ (5, 3) ∷ (21, 1) ∷ (21, 2) ∷ (1, 3) ∷ (7, 4) ∷
+    (2, 5) ∷ (20, 0) ∷ (2, 6) ∷ (20, 0) ∷ (4, 7) ∷ (21, 0) ∷ (22, 2) ∷ (21, 4) ∷ (21, 5) ∷ (4, 8) ∷ (21, 0) ∷
+    (22, 2) ∷ (21, 4) ∷ (21, 6) ∷ (9, 1) ∷ (30, 9) ∷ (1, 9) ∷ [])
+
+unfoldable pub one-letter-words : List ℕ
+one-letter-words =
+    one-letter-program ++
+    bad-words 1
+    ((40, 28) ∷ (42, 1) ∷ (43, 1) ∷ (44, 0) ∷ []) ++
+    table-words
+    ((0, 2) ∷ (1, 28) ∷ (2, 11) ∷ (2, 13) ∷ (3, 11) ∷ (3, 13) ∷ (4, 28) ∷ (5, 11) ∷ (6, 13) ∷ (7, 11) ∷ (7, 13) ∷
+    (8, 11) ∷ (8, 13) ∷ (9, 11) ∷ (9, 13) ∷ [])
+    ((28, 11) ∷ (28, 13) ∷ [])
+    ((28, 6) ∷ (28, 9) ∷ (28, 10) ∷ (28, 11) ∷ (28, 13) ∷ (28, 15) ∷ (28, 20) ∷ (28, 25) ∷ (28, 27) ∷ []) ++
+    bound-words 1
+    ((0, 65535) ∷ (1, 65535) ∷ (2, 65535) ∷ (3, 65535) ∷ (4, 65535) ∷ (5, 65535) ∷ (6, 65535) ∷ (7, 65535) ∷
+    (8, 65535) ∷ (9, 65535) ∷ (10, 0) ∷ [])
+
+unfoldable pub one-letter-listing : List ℕ
+one-letter-listing =
+    (9 ∷ 1 ∷ 9 ∷ 20 ∷ []) ++
+    (50 ∷ 51 ∷ 53 ∷ 50 ∷ 51 ∷ 50 ∷ 51 ∷ 50 ∷ 51 ∷ 50 ∷ 51 ∷ 50 ∷ 51 ∷ 50 ∷ 51 ∷ 50 ∷ 51 ∷ 50 ∷ 51 ∷ 52 ∷ []) ++
+    (0 ∷ 1 ∷ 9 ∷ 1 ∷ 6 ∷ 1 ∷ 7 ∷ 2 ∷ 3 ∷ 3 ∷ 4 ∷ 4 ∷ 5 ∷ 5 ∷ 0 ∷ 6 ∷ 0 ∷ 7 ∷ 8 ∷ 9 ∷ [])
+
+-- Letter counters by class first: the spawned process is sent a b, the starting one, whose class is higher, an a.
+--     constructors a/0, b/0.
+--     function child() -> receive X -> X end.
+--     start ->
+--         Me = self(),
+--         P = spawn(child),
+--         P ! b,
+--         Me ! a.
+--     bad none: start holds b >= 1.
+unfoldable pub class-before-letter-program : List ℕ
+class-before-letter-program =
+    program-words 8 2 1
+    ((10, 0) ∷ (10, 0) ∷ (11, 0) ∷ (22, 0) ∷ (9, 1) ∷ (30, 1) ∷ (1, 1) ∷ (7, 2) ∷ (6, 3) ∷ (21, 0) ∷ (2, 4) ∷
+    (20, 1) ∷ (5, 5) ∷ (21, 3) ∷ (21, 4) ∷ (2, 6) ∷ (20, 0) ∷ (5, 7) ∷ (21, 2) ∷ (21, 6) ∷ (1, 7) ∷ [])
+
+unfoldable pub class-before-letter-words : List ℕ
+class-before-letter-words =
+    class-before-letter-program ++
+    bad-words 1
+    ((40, 21) ∷ (42, 1) ∷ (43, 1) ∷ (44, 0) ∷ []) ++
+    table-words
+    ((0, 2) ∷ (1, 10) ∷ (2, 21) ∷ (3, 8) ∷ (4, 10) ∷ (5, 10) ∷ (6, 15) ∷ (7, 15) ∷ [])
+    ((8, 10) ∷ (21, 15) ∷ [])
+    ((8, 4) ∷ (8, 6) ∷ (21, 7) ∷ (21, 8) ∷ (21, 10) ∷ (21, 12) ∷ (21, 15) ∷ (21, 17) ∷ (21, 20) ∷ []) ++
+    bound-words 1
+    ((0, 65535) ∷ (1, 65535) ∷ (2, 65535) ∷ (3, 65535) ∷ (4, 65535) ∷ (5, 65535) ∷ (6, 65535) ∷ (7, 65535) ∷
+    (8, 65535) ∷ (9, 65535) ∷ (10, 65535) ∷ (11, 0) ∷ [])
+
+unfoldable pub class-before-letter-listing : List ℕ
+class-before-letter-listing =
+    (9 ∷ 2 ∷ 7 ∷ 18 ∷ []) ++
+    (50 ∷ 51 ∷ 52 ∷ 50 ∷ 51 ∷ 50 ∷ 51 ∷ 54 ∷ 50 ∷ 51 ∷ 50 ∷ 51 ∷ 53 ∷ 50 ∷ 51 ∷ 50 ∷ 51 ∷ 53 ∷ []) ++
+    (0 ∷ 1 ∷ 9 ∷ 2 ∷ 3 ∷ 3 ∷ 4 ∷ 0 ∷ 4 ∷ 5 ∷ 5 ∷ 6 ∷ 9 ∷ 6 ∷ 7 ∷ 7 ∷ 8 ∷ 10 ∷ [])
+
+-- Tag 11 names that are read in rows before their own.
+--     constructors a/0.
+--     function first() -> second().
+--     function second() -> third.
+--     function third() -> a.
+--     start ->
+--         F = first(),
+--         F().
+--     bad none: start holds a >= 1.
+unfoldable pub read-before-program : List ℕ
+read-before-program =
+    program-words 7 1 3
+    ((10, 0) ∷ (11, 0) ∷ (22, 0) ∷ (4, 1) ∷ (21, 2) ∷ (22, 0) ∷ (1, 1) ∷ (11, 2) ∷ (22, 0) ∷ (1, 3) ∷ (11, 3) ∷
+    (22, 0) ∷ (2, 4) ∷ (20, 0) ∷ (1, 4) ∷ (4, 5) ∷ (21, 0) ∷ (22, 0) ∷ (4, 6) ∷ (21, 5) ∷ (22, 0) ∷ (1, 6) ∷ [])
+
+unfoldable pub read-before-words : List ℕ
+read-before-words =
+    read-before-program ++
+    bad-words 1
+    ((40, 22) ∷ (42, 0) ∷ (43, 1) ∷ (44, 0) ∷ []) ++
+    table-words
+    ((0, 1) ∷ (1, 10) ∷ (2, 7) ∷ (3, 10) ∷ (4, 12) ∷ (5, 10) ∷ (6, 12) ∷ [])
+    []
+    ((22, 3) ∷ (22, 6) ∷ (22, 9) ∷ (22, 12) ∷ (22, 14) ∷ (22, 15) ∷ (22, 18) ∷ (22, 21) ∷ []) ++
+    bound-words 1
+    ((0, 65535) ∷ (1, 65535) ∷ (2, 65535) ∷ (3, 65535) ∷ (4, 65535) ∷ (5, 65535) ∷ (6, 65535) ∷ (7, 65535) ∷ (8, 0) ∷
+    [])
+
+unfoldable pub read-before-listing : List ℕ
+read-before-listing =
+    (8 ∷ 0 ∷ 7 ∷ 14 ∷ []) ++
+    (50 ∷ 51 ∷ 50 ∷ 51 ∷ 50 ∷ 51 ∷ 50 ∷ 51 ∷ 50 ∷ 51 ∷ 50 ∷ 51 ∷ 50 ∷ 51 ∷ []) ++
+    (0 ∷ 2 ∷ 1 ∷ 6 ∷ 2 ∷ 1 ∷ 3 ∷ 4 ∷ 4 ∷ 7 ∷ 5 ∷ 0 ∷ 6 ∷ 3 ∷ [])
+
+unfoldable pub verdict-cases : List Verdict-case
+verdict-cases =
+    -- R 0: too few rows.
+    at 2 0 (to-bytes (0 ∷ 1 ∷ 0 ∷ 0 ∷ [])) ∷
+    -- R 1, its least: the sizes are within limits, and the rows are missing.
+    at 1 0 (to-bytes (1 ∷ 1 ∷ 0 ∷ 0 ∷ [])) ∷
+    -- R 1,024, its most.
+    at 1 0 (to-bytes (1024 ∷ 1 ∷ 0 ∷ 0 ∷ [])) ∷
+    -- R 1,025.
+    at 2 0 (to-bytes (1025 ∷ 1 ∷ 0 ∷ 0 ∷ [])) ∷
+    -- V 0: too few names.
+    at 2 1 (to-bytes (1 ∷ 0 ∷ 0 ∷ 0 ∷ [])) ∷
+    -- V 512, its most.
+    at 1 0 (to-bytes (1 ∷ 512 ∷ 0 ∷ 0 ∷ [])) ∷
+    -- V 513.
+    at 2 1 (to-bytes (1 ∷ 513 ∷ 0 ∷ 0 ∷ [])) ∷
+    -- C 64, its most.
+    at 1 0 (to-bytes (1 ∷ 1 ∷ 64 ∷ 0 ∷ [])) ∷
+    -- C 65.
+    at 2 2 (to-bytes (1 ∷ 1 ∷ 65 ∷ 0 ∷ [])) ∷
+    -- G 64, its most.
+    at 1 0 (to-bytes (1 ∷ 1 ∷ 0 ∷ 64 ∷ [])) ∷
+    -- G 65.
+    at 2 3 (to-bytes (1 ∷ 1 ∷ 0 ∷ 65 ∷ [])) ∷
+    -- All four at their most.
+    at 1 0 (to-bytes (1024 ∷ 512 ∷ 64 ∷ 64 ∷ [])) ∷
+    -- Three sizes outside their limits: the first is told.
+    at 2 1 (to-bytes (1 ∷ 0 ∷ 65 ∷ 65 ∷ [])) ∷
+    -- A size outside its limits, but the sizes are not whole.
+    at 1 0 (to-bytes (1 ∷ 1 ∷ 65 ∷ [])) ∷
+    -- Nothing behind the program: the bads are not whole.
+    at 1 6 (to-bytes (bads-sizes-words ++ [])) ∷
+    -- One size alone: the sizes are not whole, whatever it says.
+    at 1 6 (to-bytes (bads-sizes-words ++ (0 ∷ []))) ∷
+    -- B 0: too few bads.
+    at 2 6 (to-bytes (bads-sizes-words ++ (0 ∷ 4 ∷ []))) ∷
+    -- B 1 and four rows, their least: the rows are missing.
+    at 1 6 (to-bytes (bads-sizes-words ++ (1 ∷ 4 ∷ []))) ∷
+    -- B 16, its most.
+    at 1 6 (to-bytes (bads-sizes-words ++ (16 ∷ 4 ∷ []))) ∷
+    -- B 17.
+    at 2 6 (to-bytes (bads-sizes-words ++ (17 ∷ 4 ∷ []))) ∷
+    -- Three rows of bads: too few.
+    at 2 7 (to-bytes (bads-sizes-words ++ (1 ∷ 3 ∷ []))) ∷
+    -- 256 rows of bads, the most.
+    at 1 6 (to-bytes (bads-sizes-words ++ (1 ∷ 256 ∷ []))) ∷
+    -- 257 rows of bads.
+    at 2 7 (to-bytes (bads-sizes-words ++ (1 ∷ 257 ∷ []))) ∷
+    -- Both outside their limits: the first is told.
+    at 2 6 (to-bytes (bads-sizes-words ++ (17 ∷ 257 ∷ []))) ∷
+    -- Two sizes alone: not whole.
+    at 1 16 (to-bytes (tables-sizes-words ++ (0 ∷ 0 ∷ []))) ∷
+    -- F 4,096, its most.
+    at 1 16 (to-bytes (tables-sizes-words ++ (4096 ∷ 0 ∷ 0 ∷ []))) ∷
+    -- F 4,097.
+    at 2 16 (to-bytes (tables-sizes-words ++ (4097 ∷ 0 ∷ 0 ∷ []))) ∷
+    -- M 512, its most.
+    at 1 16 (to-bytes (tables-sizes-words ++ (0 ∷ 512 ∷ 0 ∷ []))) ∷
+    -- M 513.
+    at 2 17 (to-bytes (tables-sizes-words ++ (0 ∷ 513 ∷ 0 ∷ []))) ∷
+    -- S 512, its most.
+    at 1 16 (to-bytes (tables-sizes-words ++ (0 ∷ 0 ∷ 512 ∷ []))) ∷
+    -- S 513.
+    at 2 18 (to-bytes (tables-sizes-words ++ (0 ∷ 0 ∷ 513 ∷ []))) ∷
+    -- All three at their most.
+    at 1 16 (to-bytes (tables-sizes-words ++ (4096 ∷ 512 ∷ 512 ∷ []))) ∷
+    -- Two outside their limits: the first is told.
+    at 2 17 (to-bytes (tables-sizes-words ++ (4096 ∷ 513 ∷ 513 ∷ []))) ∷
+    -- One size alone: not whole.
+    at 1 19 (to-bytes (ceilings-sizes-words ++ (0 ∷ []))) ∷
+    -- K 256, its most.
+    at 1 19 (to-bytes (ceilings-sizes-words ++ (256 ∷ 1 ∷ []))) ∷
+    -- K 257.
+    at 2 19 (to-bytes (ceilings-sizes-words ++ (257 ∷ 1 ∷ []))) ∷
+    -- 8,192 entries, the most.
+    at 1 19 (to-bytes (ceilings-sizes-words ++ (0 ∷ 8192 ∷ []))) ∷
+    -- 8,193 entries.
+    at 2 20 (to-bytes (ceilings-sizes-words ++ (0 ∷ 8193 ∷ []))) ∷
+    -- No ceilings, no entries: all parts are whole. Name 0 is never bound.
+    at 4 1 (to-bytes (ceilings-sizes-words ++ (0 ∷ 0 ∷ []))) ∷
+    -- A word more: bytes remain.
+    at 1 21 (to-bytes (ceilings-sizes-words ++ (0 ∷ 0 ∷ 0 ∷ []))) ∷
+    -- 3, a tag: the first row is to have tag 10.
+    at 3 4 (to-bytes (changed station-a-words ((4, 11) ∷ []))) ∷
+    -- 3: no expression begins with tag 12.
+    at 3 8 (to-bytes (changed station-a-words ((8, 12) ∷ []))) ∷
+    -- 3: with C 0 the first row is to begin the start expression.
+    at 3 4 (to-bytes (changed station-a-words ((2, 0) ∷ []))) ∷
+    -- 3: with C 2 the second row is to be a constructor's.
+    at 3 5 (to-bytes (changed station-a-words ((2, 2) ∷ []))) ∷
+    -- 3: with G 1 the second row is to be a function's.
+    at 3 5 (to-bytes (changed station-a-words ((3, 1) ∷ []))) ∷
+    -- 3, a number: there are names 0 to 2.
+    at 3 5 (to-bytes (changed station-a-words ((15, 3) ∷ []))) ∷
+    -- 3: there is constructor 0 alone.
+    at 3 7 (to-bytes (changed station-a-words ((17, 1) ∷ []))) ∷
+    -- 3: the target of a send has tag 21.
+    at 3 9 (to-bytes (changed station-a-words ((9, 22) ∷ []))) ∷
+    -- 3: a name read is below V.
+    at 3 9 (to-bytes (changed station-a-words ((19, 3) ∷ []))) ∷
+    -- 3: the any-pattern has number 0.
+    at 3 12 (to-bytes (changed station-a-words ((12, 32) ∷ (22, 1) ∷ []))) ∷
+    -- 3: a pattern's name is below V.
+    at 3 12 (to-bytes (changed station-a-words ((12, 30) ∷ (22, 3) ∷ []))) ∷
+    -- 3: a pattern's constructor is below C.
+    at 3 12 (to-bytes (changed station-a-words ((22, 1) ∷ []))) ∷
+    -- 3: the rows end early, at 4 + R.
+    at 3 14 (to-bytes (changed station-a-words ((13, 7) ∷ []))) ∷
+    -- 3: a row behind the end of the start expression.
+    at 3 12 (to-bytes (changed station-a-words ((11, 1) ∷ (21, 0) ∷ []))) ∷
+    -- 3: the first wrong row, not the first wrong word.
+    at 3 5 (to-bytes (changed station-a-words ((8, 12) ∷ (15, 3) ∷ []))) ∷
+    -- 4: name 3 is never bound.
+    at 4 1 (to-bytes (changed station-a-words ((1, 4) ∷ []))) ∷
+    -- 4: bound again comes before never bound.
+    at 4 8 (to-bytes (changed station-a-words ((1, 4) ∷ (18, 1) ∷ []))) ∷
+    -- 4 comes before 5.
+    at 4 8 (to-bytes (changed station-a-words ((18, 1) ∷ (19, 2) ∷ []))) ∷
+    -- 5: the first row that reads a name outside its scope; row 6 reads the send's own name.
+    at 5 10 (to-bytes (changed station-a-words ((19, 1) ∷ (20, 2) ∷ []))) ∷
+    -- 5: a send's name holds in its rest, not in its own rows.
+    at 5 10 (to-bytes (changed station-a-words ((20, 2) ∷ []))) ∷
+    -- 6, form: a bad begins with tag 40.
+    at 6 26 (to-bytes (changed station-a-words ((26, 41) ∷ []))) ∷
+    -- 6, class: row 9 is no spawn, nor is it R.
+    at 6 26 (to-bytes (changed station-a-words ((30, 9) ∷ []))) ∷
+    -- 6: a row past R is no class.
+    at 6 26 (to-bytes (changed station-a-words ((30, 11) ∷ []))) ∷
+    -- 6, form: a head or a letter is to follow the class.
+    at 6 27 (to-bytes (changed station-a-words ((27, 43) ∷ []))) ∷
+    -- 6 does not say: letter 1 is C, a function. The bad is not met.
+    at 0 0 (to-bytes (changed station-a-words ((31, 1) ∷ []))) ∷
+    -- 6 does not say: letter 2 is C + 1, an address. The bad is not met.
+    at 0 0 (to-bytes (changed station-a-words ((31, 2) ∷ []))) ∷
+    -- 6, letter: there are letters 0 to C + 1.
+    at 6 27 (to-bytes (changed station-a-words ((31, 3) ∷ []))) ∷
+    -- 6 does not say: row 9 is a head.
+    at 0 0 (to-bytes (changed station-a-words ((27, 41) ∷ (31, 9) ∷ []))) ∷
+    -- 6, head: row 8 is a pattern.
+    at 6 27 (to-bytes (changed station-a-words ((27, 41) ∷ (31, 8) ∷ []))) ∷
+    -- 6: there is no row R.
+    at 6 27 (to-bytes (changed station-a-words ((27, 41) ∷ (31, 10) ∷ []))) ∷
+    -- 6, form: a minimum is to follow.
+    at 6 28 (to-bytes (changed station-a-words ((28, 44) ∷ []))) ∷
+    -- 6: a minimum is from 1.
+    at 6 28 (to-bytes (changed station-a-words ((32, 0) ∷ []))) ∷
+    -- 6 does not say: the highest minimum.
+    at 0 0 (to-bytes (changed station-a-words ((32, 65535) ∷ []))) ∷
+    -- 6, form: another item or the end is to follow.
+    at 6 29 (to-bytes (changed station-a-words ((29, 43) ∷ []))) ∷
+    -- 6: the end has number 0.
+    at 6 29 (to-bytes (changed station-a-words ((33, 1) ∷ []))) ∷
+    -- 6: a bad without an item.
+    at 6 26 (to-bytes (changed station-a-words ((26, 44) ∷ (30, 0) ∷ []))) ∷
+    -- 6: not B bads, one is missing: the word past the tags.
+    at 6 30 (to-bytes (changed station-a-words ((24, 2) ∷ []))) ∷
+    -- 6: the rows end early, in an item.
+    at 6 30 (to-bytes (changed station-a-words ((29, 40) ∷ (33, 10) ∷ []))) ∷
+    -- 6 comes before 7.
+    at 6 26 (to-bytes (changed station-a-words ((26, 41) ∷ (37, 3) ∷ []))) ∷
+    -- 7: there are names 0 to 2.
+    at 7 39 (to-bytes (changed station-a-words ((39, 3) ∷ []))) ∷
+    -- 7: row 1 is no value.
+    at 7 37 (to-bytes (changed station-a-words ((46, 1) ∷ []))) ∷
+    -- 7: a row past R is no value.
+    at 7 37 (to-bytes (changed station-a-words ((46, 11) ∷ []))) ∷
+    -- 7: a constructor's row is no value.
+    at 7 38 (to-bytes (changed station-a-words ((47, 0) ∷ []))) ∷
+    -- 7: (0, 2) behind (0, 10): not above in the second column.
+    at 7 38 (to-bytes (changed station-a-words ((38, 0) ∷ []))) ∷
+    -- 7: the same entry twice.
+    at 7 38 (to-bytes (changed station-a-words ((38, 0) ∷ (47, 10) ∷ []))) ∷
+    -- 7: (1, 10) before (1, 2): the entry that is not above is told.
+    at 7 38 (to-bytes (changed station-a-words ((37, 1) ∷ []))) ∷
+    -- 7: (2, 10) before (1, 2): not above in the first column.
+    at 7 38 (to-bytes (changed station-a-words ((37, 2) ∷ []))) ∷
+    -- 7, mail: row 9 is no class.
+    at 7 40 (to-bytes (changed station-a-words ((40, 9) ∷ []))) ∷
+    -- 7, mail: 0 is a name and not a class.
+    at 7 40 (to-bytes (changed station-a-words ((40, 0) ∷ (49, 10) ∷ []))) ∷
+    -- 7, mail: row 3 is no value.
+    at 7 40 (to-bytes (changed station-a-words ((49, 3) ∷ []))) ∷
+    -- 7, states: row 9 is no class.
+    at 7 41 (to-bytes (changed station-a-words ((41, 9) ∷ []))) ∷
+    -- 7, states: row 0 is no head.
+    at 7 41 (to-bytes (changed station-a-words ((50, 0) ∷ []))) ∷
+    -- 7, states: there is no row R.
+    at 7 41 (to-bytes (changed station-a-words ((50, 10) ∷ []))) ∷
+    -- 7, states: the same state twice.
+    at 7 42 (to-bytes (changed station-a-words ((51, 1) ∷ []))) ∷
+    -- 7, states: below the one before.
+    at 7 45 (to-bytes (changed station-a-words ((54, 4) ∷ []))) ∷
+    -- 7: the lists in their order.
+    at 7 40 (to-bytes (changed station-a-words ((40, 9) ∷ (41, 9) ∷ []))) ∷
+    -- 7: the first in its list.
+    at 7 37 (to-bytes (changed station-a-words ((46, 1) ∷ (47, 0) ∷ []))) ∷
+    -- 7: the first over all lists.
+    at 7 39 (to-bytes (changed station-a-words ((39, 3) ∷ (40, 9) ∷ []))) ∷
+    -- 7 comes before 8.
+    at 7 42 (to-bytes (changed station-a-words ((50, 7) ∷ (51, 7) ∷ (52, 9) ∷ []))) ∷
+    -- 7: a pattern's row is no head.
+    at 7 45 (to-bytes (changed station-a-words ((54, 8) ∷ []))) ∷
+    -- 8: x does not hold its class, so state 0 lacks it.
+    at 8 41 (to-bytes (changed station-a-words ((37, 1) ∷ (46, 2) ∷ (38, 2) ∷ (47, 2) ∷ (39, 2) ∷ (48, 10) ∷ []))) ∷
+    -- 10: a limit is at least 1.
+    at 10 57 (to-bytes (changed station-a-words ((68, 0) ∷ []))) ∷
+    -- 10: the closing entry has limit 0.
+    at 10 58 (to-bytes (changed station-a-words ((69, 1) ∷ []))) ∷
+    -- 10: there are counters 0 to 5, and 6 closes.
+    at 10 57 (to-bytes (changed station-a-words ((57, 7) ∷ []))) ∷
+    -- 10: a counter number again.
+    at 10 64 (to-bytes (changed station-a-words ((64, 3) ∷ []))) ∷
+    -- 10: a counter number that falls.
+    at 10 64 (to-bytes (changed station-a-words ((64, 2) ∷ []))) ∷
+    -- 10: not K ceilings, one is missing: the word past the counter numbers.
+    at 10 68 (to-bytes (changed station-a-words ((55, 6) ∷ []))) ∷
+    -- 10: an entry behind K ceilings.
+    at 10 66 (to-bytes (changed station-a-words ((55, 4) ∷ []))) ∷
+    -- 10: the entries end early, in a ceiling.
+    at 10 68 (to-bytes (changed station-a-words ((67, 5) ∷ (78, 1) ∷ []))) ∷
+    -- 10 comes before 12.
+    at 10 57 (to-bytes (changed station-a-words ((68, 0) ∷ (32, 1) ∷ []))) ∷
+    -- 11: the first ceiling holds another state: the start is under none.
+    at 11 55 (to-bytes (changed station-a-words ((57, 1) ∷ []))) ∷
+    -- 11 comes before 12.
+    at 11 55 (to-bytes (changed station-a-words ((57, 1) ∷ (32, 1) ∷ []))) ∷
+    -- 12 comes before 13: the ceiling with the message allows the bad.
+    at 12 26 (to-bytes (changed station-a-words ((32, 1) ∷ (75, 65535) ∷ []))) ∷
+    -- 13: an unbounded start, of which one leads to two at the second state.
+    at 13 57 (to-bytes (changed station-a-words ((68, 65535) ∷ []))) ∷
+    -- 13: two processes at the receive, and each goes on alone.
+    at 13 63 (to-bytes (changed station-a-words ((74, 2) ∷ []))) ∷
+    -- 12: an unbounded letter allows every minimum.
+    at 12 26 (to-bytes (changed station-a-words ((75, 65535) ∷ []))) ∷
+    -- A message and a process at the receive: both items are met, and the bad's first tag is told.
+    at 12 30 (to-bytes (changed two-bads-words ((45, 7) ∷ []))) ∷
+    -- Of its two items one is not met: two processes at the receive.
+    at 0 0 (to-bytes (changed two-bads-words ((45, 7) ∷ (46, 2) ∷ []))) ∷
+    -- A process at row 2 never meets a message.
+    at 0 0 (to-bytes (changed two-bads-words ((45, 2) ∷ []))) ∷
+    -- The first bad is met: it is told, not the second.
+    at 12 26 (to-bytes (changed two-bads-words ((39, 1) ∷ []))) ∷
+    -- Both are met: the first is told.
+    at 12 26 (to-bytes (changed two-bads-words ((39, 1) ∷ (45, 7) ∷ []))) ∷
+    -- 6: a row behind B bads.
+    at 6 30 (to-bytes (changed two-bads-words ((24, 1) ∷ []))) ∷
+    -- 6: the rows end before B bads.
+    at 6 37 (to-bytes (changed two-bads-words ((24, 3) ∷ []))) ∷
+    -- 6: a bad of no item behind a whole one.
+    at 6 30 (to-bytes (changed two-bads-words ((30, 44) ∷ (41, 0) ∷ []))) ∷
+    -- 6: an item is to have its minimum.
+    at 6 32 (to-bytes (changed two-bads-words ((32, 44) ∷ (43, 0) ∷ []))) ∷
+    -- 6: the bad ends, and a row behind B bads is a head's.
+    at 6 34 (to-bytes (changed two-bads-words ((33, 44) ∷ (44, 0) ∷ []))) ∷
+    -- 6: a second item's class is looked at too.
+    at 6 33 (to-bytes (changed two-bads-words ((44, 9) ∷ []))) ∷
+    -- 6: a second item's head is looked at too.
+    at 6 34 (to-bytes (changed two-bads-words ((45, 3) ∷ []))) ∷
+    -- 6: a second item's minimum is from 1.
+    at 6 35 (to-bytes (changed two-bads-words ((46, 0) ∷ []))) ∷
+    -- 65,535 means unbounded: nothing leads out.
+    at 0 0 (to-bytes (changed unbounded-words ((32, 65535) ∷ []))) ∷
+    -- 65,534 is a limit: one more message leads out of it.
+    at 13 57 (to-bytes (changed unbounded-words ((69, 65534) ∷ []))) ∷
+    -- A limit on a state that nothing leads to.
+    at 0 0 (to-bytes (changed unbounded-words ((64, 65534) ∷ []))) ∷
+    -- An unbounded letter meets the highest minimum.
+    at 12 26 (to-bytes (changed unbounded-words ((31, 0) ∷ (32, 65535) ∷ []))) ∷
+    -- Its limit is one below the minimum: the bad is not met, and 13 tells the leak.
+    at 13 57 (to-bytes (changed unbounded-words ((31, 0) ∷ (32, 65535) ∷ (69, 65534) ∷ []))) ∷
+    -- Its limit is the minimum.
+    at 12 26 (to-bytes (changed unbounded-words ((31, 0) ∷ (32, 65534) ∷ (69, 65534) ∷ []))) ∷
+    -- When one has gone on, any number is still at the start, and so more than 65,534: 13 at the first ceiling.
+    at 13 57 (to-bytes one-taken-words) ∷
+    -- With a second ceiling that is unbounded there too nothing leads out.
+    at 0 0 (to-bytes (changed one-taken-words ((68, 65535) ∷ []))) ∷
+    -- Arity 8, the most: the rows are a program, and the first state is missing: 8 at size F.
+    at 8 40 (to-bytes arity-of-eight-words) ∷
+    -- Arity 9: 3 at the constructor's row.
+    at 3 4 (to-bytes (changed arity-of-eight-words ((17, 9) ∷ []))) ∷
+    -- Arity 7: the eighth argument is a row too many, and no expression.
+    at 3 15 (to-bytes (changed arity-of-eight-words ((17, 7) ∷ []))) ∷
+    -- 8 parameters, the most: the function's own row is missing in the flow: 8 at size F.
+    at 8 38 (to-bytes eight-parameters-words) ∷
+    -- 9 parameters: 3 at their count.
+    at 3 5 (to-bytes (changed eight-parameters-words ((17, 9) ∷ []))) ∷
+    -- 9 arguments: 3 at their count.
+    at 3 10 (to-bytes (changed eight-arguments-words ((26, 9) ∷ []))) ∷
+    -- 16 branches of either, the most.
+    at 8 148 (to-bytes sixteen-branches-words) ∷
+    -- 17 branches of a case: 3 at their count.
+    at 3 6 (to-bytes (changed sixteen-branches-words ((73, 17) ∷ []))) ∷
+    -- 17 branches of a receive: 3 at the receive.
+    at 3 8 (to-bytes (changed sixteen-branches-words ((75, 17) ∷ []))) ∷
+    -- A case without branches: 3 at their count.
+    at 3 6 (to-bytes (changed sixteen-branches-words ((73, 0) ∷ []))) ∷
+    -- A receive without branches: 3 at the receive.
+    at 3 8 (to-bytes (changed sixteen-branches-words ((75, 0) ∷ []))) ∷
+    -- One branch, the least: the row behind it is too many.
+    at 3 41 (to-bytes (changed sixteen-branches-words ((73, 1) ∷ []))) ∷
+    -- Depth 4, the most, by a name.
+    at 8 34 (to-bytes depth-four-words) ∷
+    -- Depth 4 by the any-pattern: then name 1 is never bound.
+    at 4 1 (to-bytes (changed depth-four-words ((12, 32) ∷ (22, 0) ∷ []))) ∷
+    -- Depth 4 by a constructor without arguments: then name 1 is never bound.
+    at 4 1 (to-bytes (changed depth-four-words ((12, 31) ∷ (22, 1) ∷ []))) ∷
+    -- Depth 5 would follow: 3 at the row where it begins.
+    at 3 13 (to-bytes (changed depth-four-words ((12, 31) ∷ (22, 0) ∷ []))) ∷
+    -- Depth 5 by a name: 3 at its row.
+    at 3 13 (to-bytes depth-five-words) ∷
+    -- Depth 5 by the any-pattern.
+    at 3 13 (to-bytes (changed depth-five-words ((13, 32) ∷ (24, 0) ∷ []))) ∷
+    -- Depth 5 by a constructor without arguments.
+    at 3 13 (to-bytes (changed depth-five-words ((13, 31) ∷ (24, 1) ∷ []))) ∷
+    -- A parameter of the outer function holds in the inner one too.
+    at 0 0 (to-bytes (changed scopes-words ((25, 1) ∷ []))) ∷
+    -- 5: a function's name does not hold in its own body.
+    at 5 10 (to-bytes (changed scopes-words ((25, 2) ∷ []))) ∷
+    -- 5: a parameter does not hold behind its body.
+    at 5 11 (to-bytes (changed scopes-words ((26, 3) ∷ []))) ∷
+    -- A function's name holds in its rest.
+    at 0 0 (to-bytes (changed scopes-words ((26, 2) ∷ []))) ∷
+    -- A tag 11 name holds in its own body.
+    at 0 0 (to-bytes (changed scopes-words ((26, 0) ∷ []))) ∷
+    -- 5: a pattern's name does not hold in the next branch.
+    at 5 18 (to-bytes (changed scopes-words ((33, 5) ∷ []))) ∷
+    -- 5: nor in the case's own row.
+    at 5 13 (to-bytes (changed scopes-words ((28, 5) ∷ []))) ∷
+    -- 5: a parameter does not hold in the start expression.
+    at 5 18 (to-bytes (changed scopes-words ((33, 1) ∷ []))) ∷
+    -- A tag 11 name holds in the start expression; but then the name of the first branch is to hold its row, which 8
+    -- tells.
+    at 8 51 (to-bytes (changed scopes-words ((28, 0) ∷ []))) ∷
+    -- 4: a parameter binds a tag 11 name again.
+    at 4 9 (to-bytes (changed scopes-words ((24, 0) ∷ []))) ∷
+    []
+
+unfoldable pub listing-cases : List Case
+listing-cases =
+    -- The second bad asks for a message and a process at the send: each can be, but not both under one ceiling.
+    safe 2 two-bads-program (to-bytes two-bads-words) two-bads-listing ∷
+    -- 8 arguments, the most; and a call with a wrong count has no rule.
+    safe 2 eight-arguments-program (to-bytes eight-arguments-words) eight-arguments-listing ∷
+    -- As it is; f is never called.
+    safe 2 scopes-program (to-bytes scopes-words) scopes-listing ∷
+    -- The two functions share a letter and a counter, the address has its own.
+    safe 2 values-program (to-bytes values-words) values-listing ∷
+    -- Functions and addresses have counters of their own, in that order.
+    safe 2 letters-program (to-bytes letters-words) letters-listing ∷
+    -- No address is ever sent.
+    safe 2 function-letter-program (to-bytes function-letter-words) function-letter-listing ∷
+    -- No function is ever sent.
+    safe 2 address-letter-program (to-bytes address-letter-words) address-letter-listing ∷
+    -- The callee may be two functions, of which one can't be called with that count: one rule.
+    safe 2 wrong-counts-program (to-bytes wrong-counts-words) wrong-counts-listing ∷
+    -- One rule for each function, in the order of their rows.
+    safe 2 two-callees-program (to-bytes two-callees-words) two-callees-listing ∷
+    -- One rule for each function, each with its own new state.
+    safe 2 two-spawned-program (to-bytes two-spawned-words) two-spawned-listing ∷
+    -- A rule for the first and the third branch.
+    safe 2 two-branches-program (to-bytes two-branches-words) two-branches-listing ∷
+    -- One rule for each letter, ascending by letter and not by the values' rows; the receive reads one by its first
+    -- branch, both by its second.
+    safe 2 two-letters-program (to-bytes two-letters-words) two-letters-listing ∷
+    -- The two values share one counter and one rule.
+    safe 2 one-letter-program (to-bytes one-letter-words) one-letter-listing ∷
+    -- Counter (child, b) before counter (start, a): by letter first it would be the other way round.
+    safe 2 class-before-letter-program (to-bytes class-before-letter-words) class-before-letter-listing ∷
+    -- The first function calls the second, which gives back the third.
+    safe 2 read-before-program (to-bytes read-before-words) read-before-listing ∷
+    []
+
+-- the definitions above opened at once, for the theorems that compute the table
+unfoldable pub verdict-cases-opens : Unit {0}
+unfolding bads-sizes-program bads-sizes-words tables-sizes-program tables-sizes-words ceilings-sizes-program ceilings-sizes-words station-a-program station-a-words two-bads-program two-bads-words two-bads-listing unbounded-program unbounded-words one-taken-program one-taken-words arity-of-eight-program arity-of-eight-words eight-parameters-program eight-parameters-words eight-arguments-program eight-arguments-words eight-arguments-listing sixteen-branches-program sixteen-branches-words depth-four-program depth-four-words depth-five-program depth-five-words scopes-program scopes-words scopes-listing values-program values-words values-listing letters-program letters-words letters-listing function-letter-program function-letter-words function-letter-listing address-letter-program address-letter-words address-letter-listing wrong-counts-program wrong-counts-words wrong-counts-listing two-callees-program two-callees-words two-callees-listing two-spawned-program two-spawned-words two-spawned-listing two-branches-program two-branches-words two-branches-listing two-letters-program two-letters-words two-letters-listing one-letter-program one-letter-words one-letter-listing class-before-letter-program class-before-letter-words class-before-letter-listing read-before-program read-before-words read-before-listing verdict-cases listing-cases
+verdict-cases-opens = tt

@@ -1,0 +1,145 @@
+//! The parts of a message, as a section of the table's source gives them: a station's text, or the parts row by row.
+
+use super::antt;
+use super::source::Section;
+use crate::message::{self, Message, to_bytes};
+use crate::text::assemble::assemble;
+use crate::verify::verify;
+
+type Pairs = Vec<(usize, usize)>;
+
+/// The parts that are there; a section may end with any of them, or have none.
+#[derive(Default)]
+pub struct Parts {
+    /// Names, constructors, functions and the rows.
+    program: Option<([usize; 3], Pairs)>,
+    bads: Option<(usize, Pairs)>,
+    /// Flow, mail, states.
+    tables: Option<[Pairs; 3]>,
+    bounds: Option<(usize, Pairs)>,
+}
+
+/// `(10, 0) (7,0)`
+fn pairs(text: &str) -> Result<Pairs, String> {
+    let wrong = || format!("{text}: not pairs of numbers");
+    let numbers: Result<Vec<usize>, _> =
+        text.split(['(', ')', ',', ' ']).filter(|word| !word.is_empty()).map(|word| word.parse::<usize>()).collect();
+    let numbers = numbers.map_err(|_| wrong())?;
+    match numbers.len() % 2 {
+        0 => Ok(numbers.chunks(2).map(|pair| (pair[0], pair[1])).collect()),
+        _ => Err(wrong()),
+    }
+}
+
+impl Parts {
+    /// Of a station's text, or of lines `rows V C G: ...`, `bads B: ...`, `flow: ...`, `mail: ...`, `states: ...`, `ceilings K: ...`.
+    pub fn of(section: &Section) -> Result<Parts, String> {
+        let told = |e: String| format!("{}: {e}", section.name);
+        if section.is_text() {
+            let assembled = assemble(&section.station.join("\n")).map_err(told)?;
+            let refused = |_| told("the assembled message is not whole".to_string());
+            return Ok(Parts::of_message(&message::read(&assembled.message).map_err(refused)?).with_one_ceiling());
+        }
+        let mut parts = Parts::default();
+        for line in section.station.iter().filter(|line| !line.starts_with('%') && !line.is_empty()) {
+            parts.take(line).map_err(told)?;
+        }
+        Ok(parts)
+    }
+
+    fn of_message(m: &Message) -> Parts {
+        let column =
+            |c: &message::Columns, from: usize, n: usize| (from..from + n).map(|i| c.pair(i)).collect::<Pairs>();
+        Parts {
+            program: Some(([m.names, m.constructors, m.functions], column(&m.program, 0, m.program.len()))),
+            bads: Some((m.bads, column(&m.bad_rows, 0, m.bad_rows.len()))),
+            tables: Some([
+                column(&m.tables, 0, m.flow),
+                column(&m.tables, m.flow, m.mail),
+                column(&m.tables, m.flow + m.mail, m.states),
+            ]),
+            bounds: Some((m.bounds, column(&m.entries, 0, m.entries.len()))),
+        }
+    }
+
+    /// With one ceiling that leaves every counter unbounded, where that allows no bad: the model computes a short message sooner.
+    fn with_one_ceiling(mut self) -> Parts {
+        let mut lent = vec![0; 16_384];
+        verify(&to_bytes(&self.words()), &mut lent);
+        let counters = (lent[0] + lent[1]) as usize;
+        let mut entries: Pairs = (0..counters).map(|counter| (counter, 65_535)).collect();
+        entries.push((counters, 0));
+        let found = self.bounds.replace((1, entries));
+        if verify(&to_bytes(&self.words()), &mut lent).number != 0 {
+            self.bounds = found;
+        }
+        self
+    }
+
+    fn take(&mut self, line: &str) -> Result<(), String> {
+        let (word, rest) = line.split_once(':').ok_or(format!("{line}: a colon is missing"))?;
+        let words: Vec<&str> = word.split_whitespace().collect();
+        let size = |i: usize| -> Result<usize, String> {
+            words.get(i).and_then(|w| w.parse().ok()).ok_or(format!("{line}: a size is missing"))
+        };
+        let list = pairs(rest)?;
+        match words[0] {
+            "rows" => self.program = Some(([size(1)?, size(2)?, size(3)?], list)),
+            "bads" => self.bads = Some((size(1)?, list)),
+            "flow" => self.tables.get_or_insert_default()[0] = list,
+            "mail" => self.tables.get_or_insert_default()[1] = list,
+            "states" => self.tables.get_or_insert_default()[2] = list,
+            "ceilings" => self.bounds = Some((size(1)?, list)),
+            _ => return Err(format!("{line}: no part of a message")),
+        }
+        Ok(())
+    }
+
+    pub fn is_empty(&self) -> bool {
+        self.program.is_none()
+    }
+
+    /// The words of the parts that are there.
+    pub fn words(&self) -> Vec<u16> {
+        let mut words = Vec::new();
+        let mut put = |sizes: &[usize], pairs: &[(usize, usize)]| {
+            words.extend(sizes);
+            words.extend(pairs.iter().map(|pair| pair.0));
+            words.extend(pairs.iter().map(|pair| pair.1));
+        };
+        if let Some(([names, constructors, functions], rows)) = &self.program {
+            put(&[rows.len(), *names, *constructors, *functions], rows);
+        }
+        if let Some((bads, rows)) = &self.bads {
+            put(&[*bads, rows.len()], rows);
+        }
+        if let Some(lists) = &self.tables {
+            put(&lists.each_ref().map(Vec::len), &lists.concat());
+        }
+        if let Some((bounds, entries)) = &self.bounds {
+            put(&[*bounds, entries.len()], entries);
+        }
+        words.iter().map(|&word| word as u16).collect()
+    }
+
+    /// The program part and all words in the model's language, below the section's text.
+    pub fn definitions(&self, section: &Section) -> String {
+        let Some(([names, constructors, functions], rows)) = &self.program else { return String::new() };
+        let mut words = vec![vec![format!("{}-program", section.name)]];
+        words.extend(self.bads.iter().map(|(bads, rows)| vec![format!("bad-words {bads}"), antt::pairs(rows)]));
+        let tables = |t: &[Pairs; 3]| {
+            [vec!["table-words".to_string()], t.iter().map(|list| antt::pairs(list)).collect()].concat()
+        };
+        words.extend(self.tables.iter().map(tables));
+        words.extend(
+            self.bounds.iter().map(|(bounds, entries)| vec![format!("bound-words {bounds}"), antt::pairs(entries)]),
+        );
+        let last = words.len() - 1;
+        for part in &mut words[..last] {
+            part.last_mut().expect("no part is empty").push_str(" ++");
+        }
+        let program = [format!("program-words {names} {constructors} {functions}"), antt::pairs(rows)];
+        antt::definition(&section.comment(), &format!("{}-program", section.name), "List ℕ", &program)
+            + &antt::definition("", &format!("{}-words", section.name), "List ℕ", &words.concat())
+    }
+}

@@ -1,0 +1,55 @@
+//! The model's tables of cases are what this implementation writes.
+
+mod common;
+
+use common::{bytes, path, verdict};
+use oracle::cases::{runs, verdicts};
+use std::fs::read_to_string;
+
+fn stands(table: Result<String, String>, file: &str) {
+    let stored = read_to_string(path(&format!("crates/model/specs/{file}"))).expect(file);
+    assert!(table.expect("a table") == stored, "{file} is not what its source gives: write it anew (oracle/README.md)");
+}
+
+fn source(name: &str) -> String {
+    read_to_string(path(&format!("oracle/tests/cases/{name}"))).expect(name)
+}
+
+#[test]
+fn the_table_of_runs() {
+    stands(runs::table(&source("runs.txt")), "RunCases.antt");
+}
+
+#[test]
+fn the_table_of_verdicts() {
+    stands(verdicts::table(&source("verdicts.txt")), "VerdictCases.antt");
+}
+
+/// The message of CounterCases.antt with these states.
+fn crowd(states: &[(u16, u16)]) -> Vec<u8> {
+    let mut rows = vec![(10, 0), (9, 1), (30, 0)];
+    rows.extend((1..16).flat_map(|name| [(6, name), (21, 0)]));
+    rows.extend([(8, 0), (25, 15)]);
+    rows.extend([(31, 0), (1, 0)].repeat(15));
+    let mut tables = vec![(0, 65), (65, 65)];
+    tables.extend(states);
+    let bads = [(40, 65), (41, 1), (43, 2), (44, 0)];
+    let parts: [(&[u16], &[(u16, u16)]); 4] =
+        [(&[65, 16, 1, 0], &rows), (&[1, 4], &bads), (&[1, 1, states.len() as u16], &tables), (&[0, 0], &[])];
+    let columns = |pairs: &[(u16, u16)]| {
+        [pairs.iter().map(|p| p.0).collect(), pairs.iter().map(|p| p.1).collect::<Vec<_>>()].concat()
+    };
+    let words: Vec<u16> = parts.iter().flat_map(|(sizes, pairs)| [sizes.to_vec(), columns(pairs)].concat()).collect();
+    bytes(&words)
+}
+
+#[test]
+fn over_512_counters() {
+    let classes = (0..15).map(|i| 3 + 2 * i).chain([65]);
+    let heads: Vec<u16> =
+        [1].into_iter().chain((0..16).map(|i| 3 + 2 * i)).chain((0..15).map(|i| 36 + 2 * i)).collect();
+    let states: Vec<(u16, u16)> = classes.flat_map(|class| heads.iter().map(move |&head| (class, head))).collect();
+    assert_eq!(states.len(), 512);
+    assert_eq!(verdict(&crowd(&states)), (9, 146));
+    assert_eq!(verdict(&crowd(&states[1..])), (11, 1173));
+}
