@@ -9,7 +9,7 @@ use crate::text::assemble::assemble;
 use crate::{names, reader};
 
 /// The front of the table.
-const FRONT: &str = include_str!("runs_front.antt");
+const FRONT: &str = include_str!("runs_front.txt");
 /// Every station needs a bad; this one says nothing, and runs do not look at it.
 const NO_BAD: &str = "bad none: start holds address >= 65535.";
 

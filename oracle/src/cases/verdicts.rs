@@ -7,7 +7,7 @@ use crate::message::to_bytes;
 use crate::verify::verify;
 
 /// The front of the table.
-const FRONT: &str = include_str!("verdicts_front.antt");
+const FRONT: &str = include_str!("verdicts_front.txt");
 /// Words lent beyond those needed where it is safe.
 const BEYOND: usize = 2;
 

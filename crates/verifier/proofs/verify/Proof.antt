@@ -20,14 +20,15 @@ same-length c = search needs
 
 returns : tie.Need-returns
 returns c =
-    let o = c .before .before .before .before .before .before .before .before .before .before in
+    let o = c .before .before .before .before .before .before .before .before .before in
     let b = o .args .message .now in
     let l = o .args .lent .now in
-    let bytes : Bytes b = λ i. c .before .before .before .before .before .before .before .before .before .shared-slice-known .given i .fits in
-    let v = c .before .before .before .before .before .before .verdict-of .ensures in
+    let bytes : Bytes b = λ i. c .before .before .before .before .before .before .before .before .shared-slice-known .given i .fits in
+    let v = c .before .before .before .before .before .verdict-of .ensures in
+    let told = c .before .before .told-of .ensures in
     let part = c .part-of .ensures in
-    let n = c .before .before .before .number-of .ensures ∙ ap number (v .0) in
-    let p = c .before .before .place-of .ensures ∙ ap place (v .0) in
+    let n = told .0 ∙ ap number (v .0) in
+    let p = told .1 ∙ ap place (v .0) in
     (both _ _ _ _ n p, (part, (v .1, promised b l _ _ _ _ n p bytes (v .1) part)))
 
 pub verify-spec : {M : Type 1} → statement M
