@@ -24,15 +24,24 @@ pub record Flow-sets (p : Program) (t : Tables) (w : ℕ) (flows : List ℕ) : T
   pub room : p .names * w ≤ length flows
   pub has : (n v : ℕ) → n < p .names → v ≤ size p → member flows w n v ≡ has (t .flow) n v
 
--- The states of a class stand from `from` up to `to`; word r of `at` is the number of the state at row r, and S where the class has none there.
-pub record Entered (p : Program) (t : Tables) (k : Class) (at : List ℕ) : Type 0 where
-  pub room : size p ≤ length at
+-- the states of a class stand from `from` up to `to`
+pub record Class-range (t : Tables) (k : Class) : Type 0 where
   pub order : k .from ≤ k .to
   pub upto : k .to ≤ t .states .size
   pub inside : (j : ℕ) → k .from ≤ j → j < k .to → left (t .states) j ≡ k .number
   pub before : (j : ℕ) → j < k .from → ¬ (left (t .states) j ≡ k .number)
   pub behind : (j : ℕ) → k .to ≤ j → j < t .states .size → ¬ (left (t .states) j ≡ k .number)
+
+-- word r of `at` is the number of the state at row r of the class, and S where it has none there
+pub record Entered (p : Program) (t : Tables) (k : Class) (at : List ℕ) : Type 0 where
+  pub range : Class-range t k
+  pub room : size p ≤ length at
   pub index : (r : ℕ) → r < size p → getD at r 0 ≡ state-index t (state (k .number) r)
+
+-- no class is entered
+pub record No-class (p : Program) (t : Tables) (at : List ℕ) : Type 0 where
+  pub room : size p ≤ length at
+  pub index : (r : ℕ) → r < size p → getD at r 0 ≡ t .states .size
 
 -- No state has more rules: a call or spawn has one for each value of a name, a send one for each letter counter, a receive one for each branch and letter.
 pub record Rule-room (s : Sizes) (tos others : List ℕ) : Type 0 where
