@@ -15,7 +15,7 @@ leave-requires c κs = search needs
 
 class-range-requires : tie.Need-class-range-requires
 class-range-requires c κs =
-    let a = c .before .before .before .before .before .before in
+    let a = c .before .before .before .before .before .before .before .before .before in
     (a .pre .0, omega (arith, class-low (a .pre .0) (a .args .i) (a .pre .1 .1), a .pre .0 .limits .rows))
 
 enter-requires : tie.Need-enter-requires
