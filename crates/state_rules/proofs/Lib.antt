@@ -1,1 +1,4 @@
 mod Heads
+mod Letters
+mod Branches
+mod Sends
