@@ -1,5 +1,6 @@
 -- The rules of a case and of a receive, branch by branch.
 use Prim.Native.Nat.{ℕ, zero, suc, _+_, _*_, _-_, _≤_, _<_}
+use native.Mathlib.Nat.{suc-mul}
 use native.Mathlib.Numerals.{add-one}
 use native.Mathlib.Omega.{arith}
 use mathlib.Core.Path.{_≡_, refl, sym, _∙_, ap}
@@ -22,6 +23,7 @@ use Rattle.model.specs.Counters.{letter-key, has-letter, letter-index}
 use Rattle.model.specs.Rules.{quiet, reads, Rule, rule, from-letters, letter-of-some, state-rules}
 use Rattle.model.proofs.Logic.{test, true-false, and-left, and-right}
 use Rattle.model.proofs.Heads.{head-case, head-receive}
+use Rattle.model.proofs.Numbering.Letters.{key-room}
 use Rattle.model.proofs.Parse.Grammar.{fits-some}
 use Rattle.model.proofs.Parse.Reached.{stands-only}
 use Rattle.model.proofs.Parse.Locations.{Location, location-follows}
@@ -31,9 +33,11 @@ use Rattle.positions.specs.Branches.{Branch-bits}
 use Rattle.positions.proofs.Standing.{run-first, run-prefix, run-last, run-body, case-run, receive-run}
 use Rattle.system_letters.specs.Letters.{Class-letters}
 use Rattle.rules.specs.declared.Class.{Class}
-use Rattle.rules.specs.Derived.{Entered}
+use Rattle.system_letters.proofs.Pairs.{pairs-told}
+use Rattle.rules.specs.Derived.{Entered, Rule-room}
+use Rattle.rules.proofs.Classes.{class-low}
 use Rattle.rules.proofs.Gather.{gather-same, gather-none, rows-range}
-use Rattle.state_rules.specs.Heads.{case-turn, class-turn, receive-turn, takes-letter}
+use Rattle.state_rules.specs.Heads.{Pair-room, case-turn, class-turn, receive-turn, takes-letter}
 use Rattle.state_rules.proofs.Heads.{only-both, only-no, skipped, kept, tag-head, here}
 use Rattle.state_rules.proofs.Letters.{letters-paired, taken-letter, taken-there, taken-some}
 
@@ -170,3 +174,24 @@ module _ {ws : List ℕ} {s : Sizes} (h : Ready ws s) where
     pub receive-skipped : not y ≡ true → receive-turn p t at starts ls c (getD bits x 0) q₀ i b ≡ []
     unfolding receive-turn
     receive-skipped n = rw (sym f ∙ not-true y n, receive-turn)
+
+  -- the room for a branch's letters
+  next-most : (L b : ℕ) → (b + 1) * L ≡ b * L + L
+  next-most L b = let z : b + 1 ≡ suc b = omega arith in rw z (suc-mul b L)
+
+  pub receive-room : (starts ls : List ℕ) → Class-letters p t starts ls → (tos₀ others₀ tos others : List ℕ) → Rule-room s tos₀ others₀ → length tos ≡ length tos₀ → length others ≡ length others₀ → (n b m c : ℕ) → c ≤ s .rows → b < m → m ≤ maxBranches → n ≤ b * (s .constructors + 2) → Pair-room starts tos others n c
+  receive-room starts ls g tos₀ others₀ tos others room e f n b m c low l k most =
+      let (x, y, z, w, v) = pairs-told h starts ls g c _ _ low refl refl in
+      let all = key-room (s .constructors + 2) b maxBranches (omega arith) in
+      record { tos-room = omega (arith, room .letters); others-room = omega (arith, room .alike); low = omega (arith, h .limits .constructors) }
+
+  pub receive-most : (starts ls : List ℕ) → Class-letters p t starts ls → (n n′ b c : ℕ) → c ≤ s .rows → n ≤ b * (s .constructors + 2) → n′ + getD starts c 0 ≤ n + getD starts (c + 1) 0 → n′ ≤ (b + 1) * (s .constructors + 2)
+  receive-most starts ls g n n′ b c low most more =
+      let (x, y, z, w, v) = pairs-told h starts ls g c _ _ low refl refl in
+      omega (arith, next-most (s .constructors + 2) b)
+
+  pub most-kept : (n b : ℕ) → n ≤ b * (s .constructors + 2) → n ≤ (b + 1) * (s .constructors + 2)
+  most-kept n b most = omega (arith, next-most (s .constructors + 2) b)
+
+  pub receive-class : (i c : ℕ) → i < s .states → c ≡ left (t .states) i → c ≤ s .rows
+  receive-class i c l e = omega (arith, class-low h i l)
