@@ -2,3 +2,4 @@ mod Heads
 mod Letters
 mod Branches
 mod Sends
+mod Done

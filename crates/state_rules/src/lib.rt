@@ -41,6 +41,7 @@ ghost use Rattle.system_letters.specs.Letters.{Starts, Name-letters, Class-lett
 ghost use Rattle.system_letters.specs.Letters.{Starts, Name-letters, Class-letters};
 ghost use Rattle.system_letters.specs.Letters.{Starts, Name-letters, Class-letters};
 ghost use Rattle.system_letters.specs.Letters.{Starts, Name-letters, Class-letters};
+ghost use Rattle.system_letters.specs.Letters.{Starts, Name-letters, Class-letters};
 ghost use Rattle.lists.specs.Ready.{Ready};
 ghost use Rattle.state_rules.specs.Heads.{Led, Plain, Pair-room, class-turn, takes-letter};
 
@@ -407,3 +408,40 @@ fn receive_rules(
     n
 }
 
+// The rules of state i, of the class entered: how many there are.
+pub fn state_rules(
+    ws: &[u16],
+    s: Sizes,
+    afters: &[u16],
+    inners: &[u16],
+    flow_at: &[u16],
+    w: usize,
+    flows: &[u64],
+    names: &[u64],
+    letter_at: &[u16],
+    letters: &[u16],
+    branches: &[u16],
+    k: Class,
+    at: &[u16],
+    i: usize,
+    tos: &mut [u16],
+    others: &mut [u16],
+) -> usize
+    requires { ⌜ Rule-tables (now ws) s (now afters) (now inners) (now «flow_at») w (now flows) (now names) (now «letter_at») (now letters) (now branches) ⌝ }
+    requires { ⌜ Entered (program (now ws) s) (tables (now ws) s) k (now at) ⌝ }
+    requires { ⌜ (i < s .states) × (k .number ≡ left (tables (now ws) s .states) i) ⌝ }
+    requires { ⌜ Rule-room s (now tos) (now others) ⌝ }
+    ensures { λ n. ⌜ State-rules (program (now (ws .entry)) s) (tables (now (ws .entry)) s) i (now (tos .exit)) (now (others .exit)) n ⌝ }
+{
+    let r = state_location(ws, s, i);
+    match tag(ws, s, r) {
+        1 => give_rules(ws, s, afters, inners, w, flows, k, at, r, tos),
+        4 => call_rules(ws, s, flow_at, k, at, r, tos),
+        5 => send_rules(ws, s, afters, flow_at, names, letter_at, letters, k, at, r, tos, others),
+        6 => spawn_rules(ws, s, afters, flow_at, k, at, r, tos, others),
+        8 => case_rules(ws, s, afters, branches, i, k, at, r, tos),
+        9 => receive_rules(ws, s, afters, letter_at, letters, branches, i, k, at, r, tos, others),
+        // build, function and self
+        _ => rest_rules(ws, s, afters, k, at, r, tos),
+    }
+}
