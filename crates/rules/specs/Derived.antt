@@ -52,7 +52,7 @@ pub record Rule-room (s : Sizes) (tos others : List ℕ) : Type 0 where
 
 -- The checks up to refusal 9 found nothing, and the tables are those of the message.
 pub record Rule-tables (ws : List ℕ) (s : Sizes) (afters inners flow-at : List ℕ) (w : ℕ)
-  (flows names letter-at letters branches : List ℕ) : Type 0 where
+    (flows names letter-at letters branches : List ℕ) : Type 0 where
   pub ready : Ready ws s
   pub closed : open-check s (program ws s) (tables ws s) ≡ none
   pub few : counter-count (program ws s) (tables ws s) ≤ maxCounters

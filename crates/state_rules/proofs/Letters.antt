@@ -64,14 +64,14 @@ module _ {ws : List ℕ} {s : Sizes} (h : Ready ws s) where
         let one : gather 0 (letters p) (λ l. only (T l) (rule i to (effect (s .states + count 0 (letter-key p d l) f)))) ≡ gather 0 (letters p) (λ l. F (a + l)) = gather-same 0 (letters p) _ _ (λ l x y. let z : a + l - a ≡ l = omega arith in rw (z, key-is l)) in
         let two = gather-from a (letters p) F in
         let three = gather-counted f F G a (a + letters p) (omega arith)
-            (λ k x y has. let l = k - a in
-            let e : a + l ≡ k = omega arith in
-            let e′ : letter-key p d l ≡ k = sym (key-is l) ∙ e in
-            let there′ = ap f e′ ∙ has in
-            only-both _ _ _ _ (same l (omega arith) there′ ∙ ap T′ (sym (g .letter d l class (omega arith) there′) ∙ ap (λ m. getD ls (count 0 m f) 0) e′)) (λ z. refl))
-            (λ k x y miss. let l = k - a in
-            let e′ : letter-key p d l ≡ k = sym (key-is l) ∙ (omega arith) in
-            test (T l) (λ z. true-false (there l (omega arith) z) (ap f e′ ∙ miss)) (λ z. only-no _ _ z)) in
+        (λ k x y has. let l = k - a in
+        let e : a + l ≡ k = omega arith in
+        let e′ : letter-key p d l ≡ k = sym (key-is l) ∙ e in
+        let there′ = ap f e′ ∙ has in
+        only-both _ _ _ _ (same l (omega arith) there′ ∙ ap T′ (sym (g .letter d l class (omega arith) there′) ∙ ap (λ m. getD ls (count 0 m f) 0) e′)) (λ z. refl))
+        (λ k x y miss. let l = k - a in
+        let e′ : letter-key p d l ≡ k = sym (key-is l) ∙ (omega arith) in
+        test (T l) (λ z. true-false (there l (omega arith) z) (ap f e′ ∙ miss)) (λ z. only-no _ _ z)) in
         let begin : getD starts d 0 ≡ count 0 a f = g .start d (omega arith) in
         let end : getD starts (d + 1) 0 ≡ count 0 (a + letters p) f = g .start (d + 1) (omega arith) ∙ ap (λ m. count 0 m f) (next-key h starts ls g d) in
         rw (begin, end) (one ∙ (two ∙ three))

@@ -58,7 +58,11 @@ fn returns_to(ws: &[u16], s: Sizes, w: usize, flows: &[u64], f: usize, j: usize)
     }
     let callee = num(ws, s, r + 1);
     let count = num(ws, s, r + 2);
-    if takes(ws, s, f, count) { holds(flows, w, callee, f) } else { false }
+    if takes(ws, s, f, count) {
+        holds(flows, w, callee, f)
+    } else {
+        false
+    }
 }
 
 // The state of the class at the rest of the head at row r.
@@ -184,7 +188,15 @@ fn spawn_rules(
 }
 
 // A build, a function or self: the state behind.
-fn rest_rules(ws: &[u16], s: Sizes, afters: &[u16], k: Class, at: &[u16], r: usize, tos: &mut [u16]) -> usize
+fn rest_rules(
+    ws: &[u16],
+    s: Sizes,
+    afters: &[u16],
+    k: Class,
+    at: &[u16],
+    r: usize,
+    tos: &mut [u16],
+) -> usize
     requires { ⌜ Ready (now ws) s ⌝ }
     requires { ⌜ Ends (program (now ws) s) (now afters) ⌝ }
     requires { ⌜ Entered (program (now ws) s) (tables (now ws) s) k (now at) ⌝ }
@@ -272,7 +284,19 @@ fn send_rules(
         if !is_class(ws, s, d) {
             continue;
         }
-        n = put_letters(ws, s, names, letter_at, letters, message, d, next, n, tos, others);
+        n = put_letters(
+            ws,
+            s,
+            names,
+            letter_at,
+            letters,
+            message,
+            d,
+            next,
+            n,
+            tos,
+            others,
+        );
     }
     n
 }
@@ -328,7 +352,11 @@ fn takes_letter(ws: &[u16], s: Sizes, q: usize, l: usize) -> bool
     requires { ⌜ Whole (now ws) s ⌝ }
     ensures { λ b. ⌜ b ≡ takes-letter (program (now (ws .entry)) s) q l ⌝ }
 {
-    if tag(ws, s, q) == 31 { l == num(ws, s, q) } else { true }
+    if tag(ws, s, q) == 31 {
+        l == num(ws, s, q)
+    } else {
+        true
+    }
 }
 
 // The letters of class d that the pattern at row q takes; n rules stand in the lists.
@@ -403,7 +431,18 @@ fn receive_rules(
         if !may_match(branches, i, b) {
             continue;
         }
-        n = take_letters(ws, s, letter_at, letters, row, k.number, here, n, tos, others);
+        n = take_letters(
+            ws,
+            s,
+            letter_at,
+            letters,
+            row,
+            k.number,
+            here,
+            n,
+            tos,
+            others,
+        );
     }
     n
 }
@@ -437,10 +476,36 @@ pub fn state_rules(
     match tag(ws, s, r) {
         1 => give_rules(ws, s, afters, inners, w, flows, k, at, r, tos),
         4 => call_rules(ws, s, flow_at, k, at, r, tos),
-        5 => send_rules(ws, s, afters, flow_at, names, letter_at, letters, k, at, r, tos, others),
+        5 => send_rules(
+            ws,
+            s,
+            afters,
+            flow_at,
+            names,
+            letter_at,
+            letters,
+            k,
+            at,
+            r,
+            tos,
+            others,
+        ),
         6 => spawn_rules(ws, s, afters, flow_at, k, at, r, tos, others),
         8 => case_rules(ws, s, afters, branches, i, k, at, r, tos),
-        9 => receive_rules(ws, s, afters, letter_at, letters, branches, i, k, at, r, tos, others),
+        9 => receive_rules(
+            ws,
+            s,
+            afters,
+            letter_at,
+            letters,
+            branches,
+            i,
+            k,
+            at,
+            r,
+            tos,
+            others,
+        ),
         // build, function and self
         _ => rest_rules(ws, s, afters, k, at, r, tos),
     }

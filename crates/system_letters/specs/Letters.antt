@@ -35,4 +35,4 @@ pub record Class-letters (p : Program) (t : Tables) (starts ls : List ℕ) : Typ
   pub room : letter-count p t ≤ length ls
   pub start : (c : ℕ) → c ≤ size p + 1 → getD starts c 0 ≡ letters-before p t c 0
   pub letter : (c l : ℕ) → c ≤ size p → l < letters p → has-letter p t (letter-key p c l) ≡ true →
-    getD ls (letters-before p t c l) 0 ≡ l
+      getD ls (letters-before p t c l) 0 ≡ l
