@@ -1,0 +1,117 @@
+// The letters of values, and the tables that the counters and rules are read from.
+use lists::Span;
+use lists::flow;
+use lists::left;
+use lists::right;
+use lists::tables_at;
+use lists::word;
+use model::MAX_COUNTERS;
+use model::Sizes;
+use model::Verdict;
+use program::rows::num;
+use program::rows::tag;
+use sets::put;
+ghost use mathlib.Core.Path.{_≡_};
+ghost use Prim.Native.Nat.{ℕ, _*_, _≤_, _<_};
+ghost use lib.ListN.{length, getD};
+ghost use Rattle.model.specs.Rows.{program};
+ghost use Rattle.model.specs.Letters.{row-letter};
+ghost use Rattle.model.specs.Tables.{tables};
+ghost use Rattle.model.specs.Counters.{counter-count, counter-check};
+ghost use Rattle.model.specs.Verify.{answer};
+ghost use Rattle.program.specs.Rows.{Whole};
+ghost use Rattle.lists.specs.Lists.{Ascending, listed, Held, range-from};
+ghost use Rattle.lists.specs.Ready.{Ready};
+ghost use Rattle.system_letters.specs.Letters.{Starts, Name-letters, Class-letters};
+
+// The letter of a value of the tables: a constructor's number, C for a function, C + 1 for an address.
+pub fn row_letter(ws: &[u16], s: Sizes, v: usize) -> usize
+    requires { ⌜ Whole (now ws) s ⌝ }
+    ensures { λ l. ⌜ l ≡ row-letter (program (now (ws .entry)) s) v ⌝ }
+{
+    match tag(ws, s, v) {
+        2 => num(ws, s, v + 1),
+        3 | 11 => s.constructors,
+        _ => s.constructors + 1,
+    }
+}
+
+// Where the entries that begin with a stand, from entry j on, before which none does.
+fn start_from(ws: &[u16], l: Span, a: usize, j: usize) -> usize
+    requires { ⌜ Held (now ws) l ⌝ }
+    requires { ⌜ Ascending (listed (now ws) l) ⌝ }
+    requires { ⌜ j ≤ range-from (listed (now ws) l) a ⌝ }
+    ensures { λ e. ⌜ e ≡ range-from (listed (now (ws .entry)) l) a ⌝ }
+{
+    let mut e = j;
+    while e < l.size {
+        if left(ws, l, e) >= a {
+            return e;
+        }
+        e += 1;
+    }
+    e
+}
+
+// Where the entries of each number up to n begin.
+pub fn fill_starts(ws: &[u16], l: Span, n: usize, starts: &mut [u16])
+    requires { ⌜ Held (now ws) l ⌝ }
+    requires { ⌜ Ascending (listed (now ws) l) ⌝ }
+    requires { ⌜ l .size < 65536 ⌝ }
+    requires { ⌜ (n < 65536) × (n < length (now starts)) ⌝ }
+    ensures { λ _. ⌜ Starts (listed (now (ws .entry)) l) n (now (starts .exit)) ⌝ }
+{
+    let mut e = 0;
+    for a in 0..n + 1 {
+        e = start_from(ws, l, a, e);
+        starts[a] = e as u16;
+    }
+}
+
+// The first n words are 0.
+fn clear(words: &mut [u64], n: usize)
+    requires { ⌜ n ≤ length (now words) ⌝ }
+    requires { ⌜ n ≤ 65536 ⌝ }
+    ensures { λ _. ⌜ ((k : ℕ) → k < n → getD (now (words .exit)) k 0 ≡ 0) ⌝ }
+{
+    for k in 0..n {
+        words[k] = 0;
+    }
+}
+
+// Which letters the values of each name have.
+pub fn fill_names(ws: &[u16], s: Sizes, names: &mut [u64])
+    requires { ⌜ Ready (now ws) s ⌝ }
+    requires { ⌜ s .names * 2 ≤ length (now names) ⌝ }
+    ensures { λ _. ⌜ Name-letters (program (now (ws .entry)) s) (tables (now (ws .entry)) s) (now (names .exit)) ⌝ }
+{
+    clear(names, s.names * 2);
+    let list = flow(s);
+    for i in 0..s.flows {
+        let n = left(ws, list, i);
+        let l = row_letter(ws, s, right(ws, list, i));
+        put(names, 2, n, l);
+    }
+}
+
+// How many counters there are: the states, then the letters of mail.
+pub fn counter_count(ws: &[u16], s: Sizes, letter_at: &[u16], letters: &[u16]) -> usize
+    requires { ⌜ Ready (now ws) s ⌝ }
+    requires { ⌜ Class-letters (program (now ws) s) (tables (now ws) s) (now «letter_at») (now letters) ⌝ }
+    ensures { λ n. ⌜ n ≡ counter-count (program (now (ws .entry)) s) (tables (now (ws .entry)) s) ⌝ }
+{
+    s.states + word(letter_at, s.rows + 1)
+}
+
+// Refusal 9: more counters than 512.
+pub fn counter_check(ws: &[u16], s: Sizes, letter_at: &[u16], letters: &[u16]) -> Verdict
+    requires { ⌜ Ready (now ws) s ⌝ }
+    requires { ⌜ Class-letters (program (now ws) s) (tables (now ws) s) (now «letter_at») (now letters) ⌝ }
+    ensures { λ v. ⌜ v ≡ answer (counter-check s (program (now (ws .entry)) s) (tables (now (ws .entry)) s)) ⌝ }
+{
+    if counter_count(ws, s, letter_at, letters) <= MAX_COUNTERS {
+        Verdict::Safe
+    } else {
+        Verdict::Counters(tables_at(s) + 2)
+    }
+}
