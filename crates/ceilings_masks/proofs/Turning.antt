@@ -59,7 +59,7 @@ thrice-more (suc (suc zero)) true = refl
 thrice-more (suc (suc zero)) false = refl
 thrice-more (suc (suc (suc c))) b = rw (le-leb 3 (suc (suc (suc c))) (omega arith)) (sym (le-leb 3 (suc (suc (suc c)) + (elim b [ true ↦ 1 | false ↦ 0 ])) (omega arith)))
 
-count-more : (e : ℕ) (f : ℕ → Bool) → count 0 (e + 1) f ≡ count 0 e f + (elim (f e) [ true ↦ 1 | false ↦ 0 ])
+pub count-more : (e : ℕ) (f : ℕ → Bool) → count 0 (e + 1) f ≡ count 0 e f + (elim (f e) [ true ↦ 1 | false ↦ 0 ])
 count-more e f = test (f e) (λ t. count-last 0 e f (omega arith) t ∙ rw t) (λ t. count-last-miss 0 e f (omega arith) t ∙ let z : count 0 e f ≡ count 0 e f + 0 = omega arith in rw t z)
 
 and-not-and : (p q : Bool) → (p && not (p && q)) ≡ (p && not q)

@@ -140,6 +140,30 @@ fire-less σ m y h once =
         (λ e. let z = less-if-range (takes-other σ y) first in let w = less-fail (eqb y (σ .from)) (m y) e in omega arith) in
     omega (arith, fire-stages σ m y h)
 
+-- a counter from which the step does not take does not fall
+pub fire-held : (σ : Step) (m : Marking) (y : ℕ) → σ .kind ≤ 3 → (y ≡ σ .from → ⊥) → takes-other σ y ≡ false → m y ≤ fire (rule-of-step σ) m y
+fire-held σ m y h a b =
+    let first : ℕ = less-if (eqb y (σ .from)) (m y) in
+    let left : ℕ = less-if (takes-other σ y) first in
+    let u = less-fail (eqb y (σ .from)) (m y) (ne-eqb y (σ .from) a) in
+    let w = less-fail (takes-other σ y) first b in
+    let (to, top) = more-if-range (eqb y (σ .to)) left in
+    let (other, top′) = more-if-range (adds-other σ y) (more-if (eqb y (σ .to)) left) in
+    omega (arith, fire-stages σ m y h)
+
+-- only a step that reads takes from its other counter
+pub takes-none : (σ : Step) (y : ℕ) → (σ .kind ≡ 1 → ⊥) → takes-other σ y ≡ false
+unfolding takes-other
+takes-none σ y h = rw (ne-eqb (σ .kind) 1 h)
+
+pub takes-apart : (σ : Step) (y : ℕ) → (y ≡ σ .other → ⊥) → takes-other σ y ≡ false
+unfolding takes-other
+takes-apart σ y h = rw (ne-eqb y (σ .other) h) (and-false (eqb (σ .kind) 1))
+
+pub takes-it : (σ : Step) (y : ℕ) → σ .kind ≡ 1 → y ≡ σ .other → takes-other σ y ≡ true
+unfolding takes-other
+takes-it σ y h e = rw (h, e) (eq-eqb (σ .other) (σ .other) refl)
+
 -- a counter to which the step adds, and from which it does not take, has one more
 pub fire-raised : (σ : Step) (m : Marking) (y : ℕ) → σ .kind ≤ 3 → eqb y (σ .from) ≡ false → takes-other σ y ≡ false → (eqb y (σ .to) || adds-other σ y) ≡ true → m y + 1 ≤ fire (rule-of-step σ) m y
 fire-raised σ m y h a b d =
