@@ -82,7 +82,7 @@ module _ {p : Program} where
   spawn-end {r} s = ends-at operand (operand-one p) 1 r (s .spans)
 
   -- the lead of a head, and its rest
-  lead-stands : {r : ℕ} (k : Kind) (l : Location p r) → kind (tag p r) ≡ k → follows k (num p r) ≡ lead k ++ expression ∷ [] → Stands p (lead k) (expression ∷ l .below) (r + 1) (rest p r) × (rest p r < size p)
+  pub lead-stands : {r : ℕ} (k : Kind) (l : Location p r) → kind (tag p r) ≡ k → follows k (num p r) ≡ lead k ++ expression ∷ [] → Stands p (lead k) (expression ∷ l .below) (r + 1) (rest p r) × (rest p r < size p)
   unfolding rest
   lead-stands {r} k l e f =
       let (m, front, others) = stands-split (lead k) (rw (e, f) at (location-follows l)) in

@@ -1,1 +1,3 @@
 pub mod Listed
+pub mod Added
+pub mod Derived

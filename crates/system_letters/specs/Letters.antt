@@ -1,0 +1,38 @@
+-- Tables made once from the lists: where the entries of a name or class begin, the letters of a name's values, the letters of a class's mail.
+use Prim.Native.Nat.{ℕ, _+_, _*_, _≤_, _<_}
+use mathlib.Core.Path.{_≡_}
+use mathlib.Core.Bool.{true}
+use mathlib.Core.List.{List}
+use lib.ListN.{length, getD}
+use Rattle.bits.specs.Bits.{member}
+use Rattle.model.specs.Index.{count}
+use Rattle.model.specs.Words.{Columns}
+use Rattle.model.specs.Rows.{Program, size}
+use Rattle.model.specs.Letters.{letters}
+use Rattle.model.specs.Tables.{Tables}
+use Rattle.model.specs.Counters.{letter-key, has-letter, letter-count}
+use Rattle.model.specs.Rules.{letter-of-some}
+use Rattle.lists.specs.Lists.{range-from}
+
+-- word a is where the entries that begin with a stand, for a up to n
+pub record Starts (c : Columns) (n : ℕ) (starts : List ℕ) : Type 0 where
+  pub room : n < length starts
+  pub start : (a : ℕ) → a ≤ n → getD starts a 0 ≡ range-from c a
+
+-- set n, of two words, has the letters of the values of the name n
+pub record Name-letters (p : Program) (t : Tables) (names : List ℕ) : Type 0 where
+  pub room : p .names * 2 ≤ length names
+  pub has : (n l : ℕ) → n < p .names → l < letters p → member names 2 n l ≡ letter-of-some p (t .flow) n (λ v. true) l
+
+-- how many (class, letter) pairs of mail stand before this one
+unfoldable pub letters-before : Program → Tables → ℕ → ℕ → ℕ
+letters-before p t c l = count 0 (letter-key p c l) (has-letter p t)
+
+-- The (class, letter) pairs of mail in order: word y of `ls` is the letter of pair y, and word c of `starts` is the first pair of class c.
+-- The counter of pair y is S + y.
+pub record Class-letters (p : Program) (t : Tables) (starts ls : List ℕ) : Type 0 where
+  pub starts-room : size p + 1 < length starts
+  pub room : letter-count p t ≤ length ls
+  pub start : (c : ℕ) → c ≤ size p + 1 → getD starts c 0 ≡ letters-before p t c 0
+  pub letter : (c l : ℕ) → c ≤ size p → l < letters p → has-letter p t (letter-key p c l) ≡ true →
+    getD ls (letters-before p t c l) 0 ≡ l

@@ -1,0 +1,1 @@
+// The letters of values, and the tables that the counters and rules are read from.
