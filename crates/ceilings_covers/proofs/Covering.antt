@@ -47,7 +47,7 @@ module _ (limits : List ℕ) (ceilings n k : ℕ) where
   abbrev E : ℕ → ℕ → Bool
   E j y = exceeds limits ceilings k j y
 
-  fits-not : (j y : ℕ) → E j y ≡ false → allowed (held limits ceilings j y) (most limits ceilings k y) ≡ true
+  pub fits-not : (j y : ℕ) → E j y ≡ false → allowed (held limits ceilings j y) (most limits ceilings k y) ≡ true
   unfolding exceeds
   fits-not j y h = not-false _ h
 
