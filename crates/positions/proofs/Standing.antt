@@ -168,7 +168,7 @@ module _ {p : Program} (fit : Rows-fit p) (w : Columns-whole p) where
 -- The branches that stand from a row
 module _ {p : Program} where
   -- the first of them, and the others
-  run-first : (q n : ℕ) → Run p q (suc n) → (e : ℕ) × Spans p (pattern maxDepth ∷ []) q (branch-body p q) × Spans p (expression ∷ []) (branch-body p q) e × (past-items p branch q ≡ e) × Run p e n
+  pub run-first : (q n : ℕ) → Run p q (suc n) → (e : ℕ) × Spans p (pattern maxDepth ∷ []) q (branch-body p q) × Spans p (expression ∷ []) (branch-body p q) e × (past-items p branch q ≡ e) × Run p e n
   unfolding branch-items branch-body
   run-first q n h =
       let whole : Spans p (branch ++ branch-items n) q (h .end) = record { reads = h .reads } in

@@ -101,6 +101,20 @@ module _ (h : Kind) where
         others-long = refl;
       })
 
+-- rules without another counter are alike for all kinds
+listed-alike : (h h′ : Kind) (i n : ℕ) (tos others : List ℕ) → ((y : ℕ) → kind-effect h y ≡ quiet) → ((y : ℕ) → kind-effect h′ y ≡ quiet) → listed-rules h i tos others n ≡ listed-rules h′ i tos others n
+unfolding listed-rules listed-rule
+listed-alike h h′ i n tos others q q′ =
+    gather-same 0 n (λ k. listed-rule h i tos others k ∷ []) (λ k. listed-rule h′ i tos others k ∷ []) (λ k a b. rw (q (getD others k 0), q′ (getD others k 0)))
+
+pub added-alike : (h h′ : Kind) (tos others : List ℕ) (n : ℕ) (tos′ others′ : List ℕ) (m : ℕ) (g : ℕ → List Rule) → ((y : ℕ) → kind-effect h y ≡ quiet) → ((y : ℕ) → kind-effect h′ y ≡ quiet) → Added h tos others n tos′ others′ m g → Added h′ tos others n tos′ others′ m g
+added-alike h h′ tos others n tos′ others′ m g q q′ d = record {
+  rules = λ i. sym (listed-alike h h′ i m tos′ others′ q q′) ∙ (d .rules i ∙ ap (λ xs. xs ++ g i) (listed-alike h h′ i n tos others q q′));
+  low = d .low;
+  tos-long = d .tos-long;
+  others-long = d .others-long;
+}
+
 one : (xs : List Rule) → gather 0 1 (λ k. xs) ≡ xs
 unfolding gather gatherIn
 one xs = append-nil xs

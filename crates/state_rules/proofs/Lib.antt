@@ -1,1 +1,5 @@
 mod Heads
+mod Letters
+mod Branches
+mod Sends
+mod Done

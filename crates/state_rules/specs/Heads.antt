@@ -1,9 +1,9 @@
 -- What each turn of the loops over the rules of a head gives, by the tables that the code reads. i is the number of the state.
-use Prim.Native.Nat.{ℕ, _+_, _<_}
+use Prim.Native.Nat.{ℕ, _+_, _≤_, _<_}
 use mathlib.Core.Path.{_≡_}
 use mathlib.Core.Bool.{Bool, true, false}
 use mathlib.Core.List.{List, []}
-use lib.ListN.{getD}
+use lib.ListN.{length, getD}
 use lib.Dec.{eqb}
 use Rattle.bits.specs.Bits.{bit, member}
 use Rattle.model.specs.Index.{gather, only}
@@ -43,17 +43,20 @@ call-turn p t at n i j = only (takes p (right (t .flow) j) n) (rule i (getD at (
 unfoldable pub spawn-turn : Program → Tables → ℕ → ℕ → ℕ → ℕ → List Rule
 spawn-turn p t to r i j = only (takes p (right (t .flow) j) 0) (rule i to (starts (state-index t (state r (body p (right (t .flow) j))))))
 
--- pair y of a class's letters, where its letter passes
-unfoldable pub letter-turn : Tables → List ℕ → (ℕ → Bool) → (ℕ → Effect) → ℕ → ℕ → ℕ → List Rule
-letter-turn t letters test effect to i y = only (test (getD letters y 0)) (rule i to (effect (t .states .size + y)))
+-- pair y of a class's letters, where its letter passes; there are so many states
+unfoldable pub letter-turn : ℕ → List ℕ → (ℕ → Bool) → (ℕ → Effect) → ℕ → ℕ → ℕ → List Rule
+letter-turn states letters test effect to i y = only (test (getD letters y 0)) (rule i to (effect (states + y)))
+
+-- the pairs of class d that pass
+unfoldable pub class-turn : ℕ → List ℕ → List ℕ → (ℕ → Bool) → (ℕ → Effect) → ℕ → ℕ → ℕ → List Rule
+class-turn states letter-at letters test effect to d i =
+    gather (getD letter-at d 0) (getD letter-at (d + 1) 0) (letter-turn states letters test effect to i)
 
 -- the letters of the name m put into the mail of the class of flow entry j
 unfoldable pub send-turn : Program → Tables → List ℕ → List ℕ → List ℕ → ℕ → ℕ → ℕ → ℕ → List Rule
 send-turn p t names letter-at letters m to i j =
     elim (is-class p (right (t .flow) j)) [
-      | true ↦
-          gather (getD letter-at (right (t .flow) j) 0) (getD letter-at (right (t .flow) j + 1) 0)
-          (letter-turn t letters (member names 2 m) puts to i)
+      | true ↦ class-turn (t .states .size) letter-at letters (member names 2 m) puts to (right (t .flow) j) i
       | false ↦ []
     ]
 
@@ -61,16 +64,22 @@ send-turn p t names letter-at letters m to i j =
 unfoldable pub case-turn : Program → List ℕ → ℕ → ℕ → ℕ → ℕ → List Rule
 case-turn p at bits q i b = only (bit bits b) (rule i (getD at (branch-body p (branch-row p q b)) 0) quiet)
 
--- the letter that a pattern takes: a constructor pattern its constructor's, any other pattern every letter
+-- "A constructor pattern" takes one letter, its constructor's; any other pattern takes every letter
 unfoldable pub takes-letter : Program → ℕ → ℕ → Bool
 takes-letter p q l = elim (eqb (tag p q) 31) [ true ↦ eqb l (num p q) | false ↦ true ]
 
--- branch b of a receive whose branches stand from row q, for the letters of a class that stand from `from` up to `to`
-unfoldable pub receive-turn : Program → Tables → List ℕ → List ℕ → ℕ → ℕ → ℕ → ℕ → ℕ → ℕ → List Rule
-receive-turn p t at letters from to bits q i b =
+-- branch b of a receive of class c whose branches stand from row q
+unfoldable pub receive-turn : Program → Tables → List ℕ → List ℕ → List ℕ → ℕ → ℕ → ℕ → ℕ → ℕ → List Rule
+receive-turn p t at letter-at letters c bits q i b =
     elim (bit bits b) [
       | true ↦
-          gather from to
-          (letter-turn t letters (takes-letter p (branch-row p q b)) reads (getD at (branch-body p (branch-row p q b)) 0) i)
+          class-turn (t .states .size) letter-at letters (takes-letter p (branch-row p q b)) reads
+          (getD at (branch-body p (branch-row p q b)) 0) c i
       | false ↦ []
     ]
+
+-- There is room for the rules of so many pairs behind n rules.
+pub record Pair-room (letter-at tos others : List ℕ) (n d : ℕ) : Type 0 where
+  pub tos-room : n + getD letter-at (d + 1) 0 ≤ length tos + getD letter-at d 0
+  pub others-room : length others ≡ length tos
+  pub low : n ≤ 65536

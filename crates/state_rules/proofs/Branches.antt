@@ -1,0 +1,197 @@
+-- The rules of a case and of a receive, branch by branch.
+use Prim.Native.Nat.{ℕ, zero, suc, _+_, _*_, _-_, _≤_, _<_}
+use native.Mathlib.Nat.{suc-mul}
+use native.Mathlib.Numerals.{add-one}
+use native.Mathlib.Omega.{arith}
+use mathlib.Core.Path.{_≡_, refl, sym, _∙_, ap}
+use mathlib.Core.Bool.{Bool, true, false, not}
+use mathlib.Core.List.{List, [], _∷_}
+use lib.ListN.{length, getD}
+use lib.Dec.{eqb, leb}
+use borrow.Author.Tests.{leb-true, not-true, not-false}
+use Rattle.bits.specs.Bits.{bit}
+use Rattle.model.specs.declared.Sizes.{Sizes}
+use Rattle.model.specs.Index.{gather, only}
+use Rattle.model.specs.Limits.{maxBranches}
+use Rattle.model.specs.Words.{left, right, columns}
+use Rattle.model.specs.Rows.{Program, program, size, tag, num, kind, branch, step, expression-step, is-branch-count, past-items, case, receive}
+use Rattle.model.specs.Heads.{branch-rows, branch-body, head-at, cases, receives}
+use Rattle.model.specs.Letters.{letters}
+use Rattle.model.specs.Tables.{Tables, tables, entries, some-of, state, state-index}
+use Rattle.model.specs.Closed.{may-take}
+use Rattle.model.specs.Counters.{letter-key, has-letter, letter-index}
+use Rattle.model.specs.Rules.{quiet, reads, Rule, rule, from-letters, letter-of-some, state-rules}
+use Rattle.model.proofs.Logic.{test, true-false, and-left, and-right}
+use Rattle.model.proofs.Heads.{head-case, head-receive}
+use Rattle.model.proofs.Numbering.Letters.{key-room}
+use Rattle.model.proofs.Parse.Grammar.{fits-some}
+use Rattle.model.proofs.Parse.Reached.{stands-only}
+use Rattle.model.proofs.Parse.Locations.{Location, location-follows}
+use Rattle.lists.specs.Ready.{Ready}
+use Rattle.positions.specs.Positions.{branch-row, Run, Ends}
+use Rattle.positions.specs.Branches.{Branch-bits}
+use Rattle.positions.proofs.Standing.{run-first, run-prefix, run-last, run-body, case-run, receive-run}
+use Rattle.system_letters.specs.Letters.{Class-letters}
+use Rattle.rules.specs.declared.Class.{Class}
+use Rattle.system_letters.proofs.Pairs.{pairs-told}
+use Rattle.rules.specs.Derived.{Entered, Rule-room}
+use Rattle.rules.proofs.Classes.{class-low}
+use Rattle.rules.proofs.Gather.{gather-same, gather-none, rows-range}
+use Rattle.state_rules.specs.Heads.{Pair-room, case-turn, class-turn, receive-turn, takes-letter}
+use Rattle.state_rules.proofs.Heads.{only-both, only-no, skipped, kept, tag-head, here}
+use Rattle.state_rules.proofs.Letters.{letters-paired, taken-letter, taken-there, taken-some}
+
+-- the rows of branches
+rows-length : (p : Program) (m q : ℕ) → length (branch-rows p m q) ≡ m
+unfolding branch-rows
+rows-length p zero q = refl
+rows-length p (suc m) q = ap suc (rows-length p m (past-items p branch q))
+
+rows-at : (p : Program) (m q b : ℕ) → b < m → getD (branch-rows p m q) b 0 ≡ branch-row p q b
+unfolding branch-rows branch-row
+rows-at p zero q b l = absurd (omega arith)
+rows-at p (suc m) q zero l = refl
+rows-at p (suc m) q (suc b) l = rows-at p m (past-items p branch q) b (omega arith)
+
+row-next : (p : Program) (q b : ℕ) → branch-row p q (suc b) ≡ past-items p branch (branch-row p q b)
+unfolding branch-row
+row-next p q zero = refl
+row-next p q (suc b) = row-next p (past-items p branch q) b
+
+-- Branch b of those that stand from row q₀ stands at row q, and so many are left
+pub record Branch-at (p : Program) (q₀ m b q : ℕ) : Type 0 where
+  pub at : branch-row p q₀ b ≡ q
+  pub run : Run p q (m - b)
+
+pub branch-begin : (p : Program) (q m : ℕ) → Run p q m → Branch-at p q m 0 q
+unfolding branch-row
+branch-begin p q m r = record { at = refl; run = let z : m - 0 ≡ m = omega arith in rw z r }
+
+pub one-run : (p : Program) (q₀ m b q : ℕ) → Branch-at p q₀ m b q → b < m → Run p q 1
+one-run p q₀ m b q a low = run-prefix 1 (m - b) q (omega arith) (a .run)
+
+module _ (p : Program) (afters : List ℕ) (ends : Ends p afters) (q₀ m b q : ℕ) (a : Branch-at p q₀ m b q) (low : b < m) where
+  some-left : Run p q (suc (m - (b + 1)))
+  some-left = let z : m - b ≡ suc (m - (b + 1)) = omega arith in rw z at (a .run)
+
+  pub branch-here : (q < size p) × (getD afters q 0 ≡ branch-body p q) × (branch-body p q < size p)
+  branch-here = run-body p afters q ends (run-prefix 1 (m - b) q (omega arith) (a .run))
+
+  pub branch-next : (e q′ : ℕ) → e ≡ getD afters q 0 → q′ ≡ getD afters e 0 → Branch-at p q₀ m (b + 1) q′
+  branch-next e q′ f g =
+      let (x, front, tail, same, next) = run-first q (m - (b + 1)) some-left in
+      let z : q′ ≡ x = g ∙ (ap (λ k. getD afters k 0) (f ∙ branch-here .1) ∙ ends .after-expression (branch-body p q) x (tail .reads)) in
+      record {
+        at = ap (branch-row p q₀) (add-one b) ∙ (row-next p q₀ b ∙ (ap (past-items p branch) (a .at) ∙ (same ∙ sym z)));
+        run = rw z next;
+      }
+
+module _ {ws : List ℕ} {s : Sizes} (h : Ready ws s) where
+  abbrev p : Program
+  p = program ws s
+
+  abbrev t : Tables
+  t = tables ws s
+
+  -- "branches 1 to 16"
+  counted : (n : ℕ) → is-branch-count n ≡ true → n ≤ maxBranches
+  unfolding is-branch-count
+  counted n e = leb-true n maxBranches (and-right (leb 1 n) (leb n maxBranches) e)
+
+  module _ (r : ℕ) (e : tag p r ≡ 8) where
+    case-here : Location p r
+    case-here = here h r (tag-head (tag p r) 8 e (omega arith) (omega arith))
+
+    pub case-count : num p (r + 1) ≤ maxBranches
+    unfolding step kind
+    case-count =
+        let k : kind (tag p r) ≡ case = rw e in
+        let (more, says, others) = stands-only (rw k at (location-follows case-here)) in
+        counted (num p (r + 1)) (and-right (eqb (tag p (r + 1)) 25) _ (fits-some _ _ more says .0))
+
+    pub case-rows : Run p (r + 2) (num p (r + 1))
+    unfolding kind
+    case-rows = case-run case-here (rw e)
+
+  module _ (r : ℕ) (e : tag p r ≡ 9) where
+    receive-here : Location p r
+    receive-here = here h r (tag-head (tag p r) 9 e (omega arith) (omega arith))
+
+    pub receive-count : num p r ≤ maxBranches
+    unfolding step expression-step kind
+    receive-count =
+        let (more, says, others) = stands-only (receive-here .stands) in
+        counted (num p r) (fits-some _ _ more (rw e at says) .0)
+
+    pub receive-rows : Run p (r + 1) (num p r)
+    unfolding kind
+    receive-rows = receive-run receive-here (rw e)
+
+  -- the rules of a case
+  pub case-gathered : (afters branches : List ℕ) → Ends p afters → Branch-bits p t branches → (x r m : ℕ) (k : Class) (at : List ℕ) (i : ℕ) → Entered p t k at → tag p r ≡ 8 → x < s .states → r ≡ right (t .states) x → m ≡ num p (r + 1) → gather 0 m (case-turn p at (getD branches x 0) (r + 2) i) ≡ state-rules p t i (state (k .number) r)
+  unfolding state-rules kind case-turn tables entries columns
+  case-gathered afters branches ends bits x r m k at i d e low same u =
+      let head : head-at p r ≡ cases (num p r) (branch-rows p m (r + 2)) = head-case p r (rw e) ∙ ap (λ n. cases (num p r) (branch-rows p n (r + 2))) (sym u) in
+      rw (head, state-rules)
+      (gather-same 0 m _ _ (λ b y z.
+      let run : Run p (branch-row p (r + 2) b) 1 = run-last b (r + 2) (run-prefix (suc b) m (r + 2) (omega arith) (rw u (case-rows r e))) in
+      let bit′ : bit (getD branches x 0) b ≡ some-of (t .flow) (num p r) (may-take p t (branch-row p (r + 2) b)) = bits .case-bit x (num p r) b (branch-rows p m (r + 2)) low (rw (← same) head) (omega (arith, rows-length p m (r + 2))) ∙ ap (λ q. some-of (t .flow) (num p r) (may-take p t q)) (rows-at p m (r + 2) b z) in
+      only-both _ _ _ _ bit′ (λ w. ap (λ q. rule i q quiet) (d .index (branch-body p (branch-row p (r + 2) b)) (run-body p afters (branch-row p (r + 2) b) ends run .2)))) ∙
+      sym (rows-range p m (r + 2) (λ q. only (some-of (t .flow) (num p r) (may-take p t q)) (rule i (state-index t (state (k .number) (branch-body p q))) quiet))))
+
+  pub case-kept : (branches at : List ℕ) (x q₀ m b q e here i : ℕ) (y : Bool) → Branch-at p q₀ m b q → y ≡ bit (getD branches x 0) b → not y ≡ false → e ≡ branch-body p q → here ≡ getD at e 0 → case-turn p at (getD branches x 0) q₀ i b ≡ rule i here quiet ∷ []
+  unfolding case-turn
+  case-kept branches at x q₀ m b q e here i y a f n u v = kept y _ _ _ f n (λ z. ap (λ k. rule i k quiet) (ap (λ k. getD at (branch-body p k) 0) (a .at) ∙ (ap (λ k. getD at k 0) (sym u) ∙ sym v)))
+
+  -- the rules of a receive
+  receive-turned : (starts ls : List ℕ) → Class-letters p t starts ls → (k : Class) (at : List ℕ) (q to i : ℕ) (b : Bool) → k .number ≤ size p → b ≡ some-of (t .mail) (k .number) (may-take p t q) → elim b [ true ↦ class-turn (s .states) starts ls (takes-letter p q) reads to (k .number) i | false ↦ [] ] ≡ from-letters p (letter-of-some p (t .mail) (k .number) (may-take p t q)) (λ l. rule i to (reads (letter-index p t (k .number) l)))
+  unfolding from-letters
+  receive-turned starts ls g k at q to i true low e =
+      sym (letters-paired h starts ls g (k .number) low (letter-of-some p (t .mail) (k .number) (may-take p t q)) (takes-letter p q) reads to i
+      (λ l o w. taken-there h (k .number) q l w)
+      (λ l o w. taken-letter h (k .number) q (sym e) l o w))
+  receive-turned starts ls g k at q to i false low e =
+      sym (gather-none 0 (letters p) _ (λ l x y. only-no _ _ (test (letter-of-some p (t .mail) (k .number) (may-take p t q) l) (λ z. true-false (taken-some h (k .number) q l z) (sym e)) (λ z. z))))
+
+  pub receive-gathered : (afters bits starts ls : List ℕ) → Ends p afters → Branch-bits p t bits → Class-letters p t starts ls → (x r m : ℕ) (k : Class) (at : List ℕ) (i : ℕ) → Entered p t k at → tag p r ≡ 9 → x < s .states → r ≡ right (t .states) x → k .number ≡ left (t .states) x → k .number ≤ size p → m ≡ num p r → gather 0 m (receive-turn p t at starts ls (k .number) (getD bits x 0) (r + 1) i) ≡ state-rules p t i (state (k .number) r)
+  unfolding state-rules kind receive-turn tables entries columns
+  receive-gathered afters bits starts ls ends g n x r m k at i d e low same class row u =
+      let head : head-at p r ≡ receives (branch-rows p m (r + 1)) = head-receive p r (rw e) ∙ ap (λ n. receives (branch-rows p n (r + 1))) (sym u) in
+      rw (head, state-rules)
+      (gather-same 0 m _ _ (λ b y z.
+      let q = branch-row p (r + 1) b in
+      let run : Run p q 1 = run-last b (r + 1) (run-prefix (suc b) m (r + 1) (omega arith) (rw u (receive-rows r e))) in
+      let bit′ : bit (getD bits x 0) b ≡ some-of (t .mail) (k .number) (may-take p t q) = g .receive-bit x b (branch-rows p m (r + 1)) low (rw (← same) head) (omega (arith, rows-length p m (r + 1))) ∙ (ap (λ q. some-of (t .mail) (left (t .states) x) (may-take p t q)) (rows-at p m (r + 1) b z) ∙ ap (λ c. some-of (t .mail) c (may-take p t q)) (sym class)) in
+      ap (λ to. elim (bit (getD bits x 0) b) [ true ↦ class-turn (s .states) starts ls (takes-letter p q) reads to (k .number) i | false ↦ [] ]) (d .index (branch-body p q) (run-body p afters q ends run .2)) ∙
+      receive-turned starts ls n k at q (state-index t (state (k .number) (branch-body p q))) i (bit (getD bits x 0) b) row bit′) ∙
+      sym (rows-range p m (r + 1) (λ q. from-letters p (letter-of-some p (t .mail) (k .number) (may-take p t q)) (λ l. rule i (state-index t (state (k .number) (branch-body p q))) (reads (letter-index p t (k .number) l))))))
+
+  module _ (at starts ls bits : List ℕ) (c x q₀ m b q i : ℕ) (y : Bool) (a : Branch-at p q₀ m b q) (f : y ≡ bit (getD bits x 0) b) where
+    pub receive-kept : (e to : ℕ) → not y ≡ false → e ≡ branch-body p q → to ≡ getD at e 0 → class-turn (s .states) starts ls (takes-letter p q) reads to c i ≡ receive-turn p t at starts ls c (getD bits x 0) q₀ i b
+    unfolding receive-turn tables entries columns
+    receive-kept e to n u v = rw (sym f ∙ not-false y n, receive-turn, a .at, ← u, ← v)
+
+    pub receive-skipped : not y ≡ true → receive-turn p t at starts ls c (getD bits x 0) q₀ i b ≡ []
+    unfolding receive-turn
+    receive-skipped n = rw (sym f ∙ not-true y n, receive-turn)
+
+  -- the room for a branch's letters
+  next-most : (L b : ℕ) → (b + 1) * L ≡ b * L + L
+  next-most L b = let z : b + 1 ≡ suc b = omega arith in rw z (suc-mul b L)
+
+  pub receive-room : (starts ls : List ℕ) → Class-letters p t starts ls → (tos₀ others₀ tos others : List ℕ) → Rule-room s tos₀ others₀ → length tos ≡ length tos₀ → length others ≡ length others₀ → (n b m c : ℕ) → c ≤ s .rows → b < m → m ≤ maxBranches → n ≤ b * (s .constructors + 2) → Pair-room starts tos others n c
+  receive-room starts ls g tos₀ others₀ tos others room e f n b m c low l k most =
+      let (x, y, z, w, v) = pairs-told h starts ls g c _ _ low refl refl in
+      let all = key-room (s .constructors + 2) b maxBranches (omega arith) in
+      record { tos-room = omega (arith, room .letters); others-room = omega (arith, room .alike); low = omega (arith, h .limits .constructors) }
+
+  pub receive-most : (starts ls : List ℕ) → Class-letters p t starts ls → (n n′ b c : ℕ) → c ≤ s .rows → n ≤ b * (s .constructors + 2) → n′ + getD starts c 0 ≤ n + getD starts (c + 1) 0 → n′ ≤ (b + 1) * (s .constructors + 2)
+  receive-most starts ls g n n′ b c low most more =
+      let (x, y, z, w, v) = pairs-told h starts ls g c _ _ low refl refl in
+      omega (arith, next-most (s .constructors + 2) b)
+
+  pub most-kept : (n b : ℕ) → n ≤ b * (s .constructors + 2) → n ≤ (b + 1) * (s .constructors + 2)
+  most-kept n b most = omega (arith, next-most (s .constructors + 2) b)
+
+  pub receive-class : (i c : ℕ) → i < s .states → c ≡ left (t .states) i → c ≤ s .rows
+  receive-class i c l e = omega (arith, class-low h i l)

@@ -1,0 +1,231 @@
+-- The rules that go by letters: what the pairs of a class give is what the model's letters give.
+use Prim.Native.Nat.{ℕ, _+_, _*_, _-_, _≤_, _<_}
+use native.Mathlib.Decide.{ℕ-discrete}
+use native.Mathlib.Omega.{arith}
+use mathlib.Core.Path.{_≡_, refl, sym, _∙_, ap}
+use mathlib.Core.Bool.{Bool, true, false, not, _&&_}
+use mathlib.Core.List.{List, [], _∷_}
+use mathlib.Core.Option.{none}
+use mathlib.Core.Logic.{⊎-elim}
+use lib.ListN.{length, getD}
+use lib.Dec.{eqb}
+use borrow.Author.Tests.{eqb-true, eq-eqb, ne-eqb, not-true, not-false}
+use Rattle.bits.specs.Bits.{member, Row}
+use Rattle.model.specs.declared.Sizes.{Sizes}
+use Rattle.model.specs.Index.{gather, only, any, count, implies}
+use Rattle.model.specs.Limits.{maxCounters, maxDepth}
+use Rattle.model.specs.Words.{Columns, left, right, columns}
+use Rattle.model.specs.Rows.{Program, program, size, tag, num, kind, send}
+use Rattle.model.specs.Scopes.{rest}
+use Rattle.model.specs.Heads.{is-class}
+use Rattle.model.specs.Letters.{letters, letter, row-shape, row-letter}
+use Rattle.model.specs.Tables.{Tables, tables, entries, some-of, each, has, state, state-index, has-state}
+use Rattle.model.specs.Closed.{same-constructor, may-match, may-take, send-closed, state-closed}
+use Rattle.model.specs.Counters.{letter-key, has-letter, letter-count, counter-count, letter-index}
+use Rattle.model.specs.Rules.{Effect, puts, reads, Rule, rule, from-each, from-letters, letter-of-some, state-rules}
+use Rattle.model.proofs.Logic.{test, true-false, and-left, and-right, and-intro}
+use Rattle.model.proofs.Index.{any-intro, any-elim, all-elim}
+use Rattle.model.proofs.Heads.{head-send}
+use Rattle.bits.proofs.Loops.{both}
+use Rattle.model.proofs.Numbering.Letters.{letter-entry, letter-key-injective}
+use Rattle.model.proofs.Numbering.Counters.{class-at-most, tag-inside}
+use Rattle.lists.specs.Lists.{place, range-from, range-to}
+use Rattle.lists.proofs.Rising.{begins-within, place-upto}
+use Rattle.lists.specs.Ready.{Ready}
+use Rattle.positions.specs.Positions.{Ends}
+use Rattle.system_letters.specs.Letters.{letters-before, Class-letters, Name-letters}
+use Rattle.system_letters.proofs.Pairs.{next-key, letter-low, start-order, start-later}
+use Rattle.rules.specs.declared.Class.{Class}
+use Rattle.rules.specs.Derived.{Entered}
+use Rattle.rules.proofs.Gather.{gather-same, gather-counted, gather-from, each-range}
+use Rattle.state_rules.specs.Heads.{letter-turn, class-turn, send-turn, takes-letter}
+use Rattle.state_rules.proofs.Heads.{only-same, only-no, only-both, led-send, rising, set-room, skipped, kept, value-from}
+
+module _ {ws : List ℕ} {s : Sizes} (h : Ready ws s) where
+  abbrev p : Program
+  p = program ws s
+
+  abbrev t : Tables
+  t = tables ws s
+
+  module _ (starts ls : List ℕ) (g : Class-letters p t starts ls) (d : ℕ) (class : d ≤ size p) where
+    key-is : (l : ℕ) → letter-key p d 0 + l ≡ letter-key p d l
+    unfolding letter-key
+    key-is l = omega arith
+
+    -- the letters that pass, by the pairs of the class: all that pass are there, and a pair passes where its letter does
+    pub letters-paired : (T T′ : ℕ → Bool) (effect : ℕ → Effect) (to i : ℕ) → ((l : ℕ) → l < letters p → T l ≡ true → has-letter p t (letter-key p d l) ≡ true) → ((l : ℕ) → l < letters p → has-letter p t (letter-key p d l) ≡ true → T l ≡ T′ l) → from-letters p T (λ l. rule i to (effect (letter-index p t d l))) ≡ class-turn (s .states) starts ls T′ effect to d i
+    unfolding from-letters class-turn letter-turn letter-index letters-before tables entries columns
+    letters-paired T T′ effect to i there same =
+        let f : ℕ → Bool = has-letter p t in
+        let a = letter-key p d 0 in
+        let F : ℕ → List Rule = λ k. only (T (k - a)) (rule i to (effect (s .states + count 0 k f))) in
+        let G : ℕ → List Rule = λ y. only (T′ (getD ls y 0)) (rule i to (effect (s .states + y))) in
+        let one : gather 0 (letters p) (λ l. only (T l) (rule i to (effect (s .states + count 0 (letter-key p d l) f)))) ≡ gather 0 (letters p) (λ l. F (a + l)) = gather-same 0 (letters p) _ _ (λ l x y. let z : a + l - a ≡ l = omega arith in rw (z, key-is l)) in
+        let two = gather-from a (letters p) F in
+        let three = gather-counted f F G a (a + letters p) (omega arith)
+            (λ k x y has. let l = k - a in
+            let e : a + l ≡ k = omega arith in
+            let e′ : letter-key p d l ≡ k = sym (key-is l) ∙ e in
+            let there′ = ap f e′ ∙ has in
+            only-both _ _ _ _ (same l (omega arith) there′ ∙ ap T′ (sym (g .letter d l class (omega arith) there′) ∙ ap (λ m. getD ls (count 0 m f) 0) e′)) (λ z. refl))
+            (λ k x y miss. let l = k - a in
+            let e′ : letter-key p d l ≡ k = sym (key-is l) ∙ (omega arith) in
+            test (T l) (λ z. true-false (there l (omega arith) z) (ap f e′ ∙ miss)) (λ z. only-no _ _ z)) in
+        let begin : getD starts d 0 ≡ count 0 a f = g .start d (omega arith) in
+        let end : getD starts (d + 1) 0 ≡ count 0 (a + letters p) f = g .start (d + 1) (omega arith) ∙ ap (λ m. count 0 m f) (next-key h starts ls g d) in
+        rw (begin, end) (one ∙ (two ∙ three))
+
+  -- what a name's set of letters tells
+  pub name-set : (names : List ℕ) (m l : ℕ) → Name-letters p t names → m < s .names → l < s .constructors + 2 → (l < 64 * 2) × Row names 2 m
+  unfolding program
+  name-set names m l n low b = (omega (arith, h .limits .constructors), set-room 2 m (s .names) names low (n .room))
+
+-- the turns of the pairs
+pub pair-skipped : (states : ℕ) (ls : List ℕ) (T : ℕ → Bool) (effect : ℕ → Effect) (to i y l : ℕ) (b : Bool) → l ≡ getD ls y 0 → b ≡ T l → not b ≡ true → letter-turn states ls T effect to i y ≡ []
+unfolding letter-turn
+pair-skipped states ls T effect to i y l b same e n = rw (← same) (skipped b _ _ e n)
+
+pub pair-kept : (states : ℕ) (ls : List ℕ) (T : ℕ → Bool) (effect : ℕ → Effect) (to i y l x : ℕ) (b : Bool) → l ≡ getD ls y 0 → b ≡ T l → not b ≡ false → x ≡ states + y → letter-turn states ls T effect to i y ≡ rule i to (effect x) ∷ []
+unfolding letter-turn
+pair-kept states ls T effect to i y l x b same e n u = rw (← same) (kept b _ _ _ e n (λ z. ap (λ k. rule i to (effect k)) (sym u)))
+
+-- the letter that a pattern takes, by its tag
+pub pattern-built : (p : Program) (q l x k : ℕ) → x ≡ tag p q → x ≡ 31 → k ≡ num p q → eqb l k ≡ takes-letter p q l
+unfolding takes-letter
+pattern-built p q l x k same e u = rw (eq-eqb (tag p q) 31 (sym same ∙ e), takes-letter, u)
+
+pub pattern-any : (p : Program) (q l x : ℕ) → x ≡ tag p q → (x ≡ 31 → ⊥) → true ≡ takes-letter p q l
+unfolding takes-letter
+pattern-any p q l x same ne = rw (ne-eqb (tag p q) 31 (λ z. ne (same ∙ z)), takes-letter)
+
+implies-elim : (a b : Bool) → implies a b ≡ true → a ≡ true → b ≡ true
+unfolding implies
+implies-elim true b e f = e
+implies-elim false b e f = absurd (true-false f refl)
+
+module _ {ws : List ℕ} {s : Sizes} (h : Ready ws s) where
+  -- a list's values that pass
+  each-elim : (c : Columns) (a j : ℕ) (f : ℕ → Bool) → each c a f ≡ true → j < c .size → left c j ≡ a → f (right c j) ≡ true
+  unfolding each
+  each-elim c a j f e l same = implies-elim (eqb (left c j) a) (f (right c j)) (all-elim 0 (c .size) j _ e (omega arith) l) (eq-eqb (left c j) a same)
+
+  some-elim : (c : Columns) (a : ℕ) (f : ℕ → Bool) → some-of c a f ≡ true → (j : ℕ) × (j < c .size) × (left c j ≡ a) × (f (right c j) ≡ true)
+  unfolding some-of
+  some-elim c a f e =
+      let (j, w, z) = any-elim 0 (c .size) _ e in
+      (j, w .1, eqb-true (left c j) a (and-left (eqb (left c j) a) (f (right c j)) z), and-right (eqb (left c j) a) (f (right c j)) z)
+
+  some-intro : (c : Columns) (a j : ℕ) (f : ℕ → Bool) → j < c .size → left c j ≡ a → f (right c j) ≡ true → some-of c a f ≡ true
+  unfolding some-of
+  some-intro c a j f l same e = any-intro 0 (c .size) j _ (omega arith) l (and-intro (eqb (left c j) a) (f (right c j)) (eq-eqb (left c j) a same) e)
+
+  mail-letter : (c j l : ℕ) → j < t h .mail .size → left (t h .mail) j ≡ c → row-letter (p h) (right (t h .mail) j) ≡ l → has-letter (p h) (t h) (letter-key (p h) c l) ≡ true
+  unfolding has-letter
+  mail-letter c j l b e f = any-intro 0 (t h .mail .size) j _ (omega arith) b (eq-eqb (letter-key (p h) (left (t h .mail) j) (row-letter (p h) (right (t h .mail) j))) (letter-key (p h) c l) (rw (e, f)))
+
+  letter-mail : (c l : ℕ) → l < letters (p h) → has-letter (p h) (t h) (letter-key (p h) c l) ≡ true → (j : ℕ) × (j < t h .mail .size) × (left (t h .mail) j ≡ c) × (row-letter (p h) (right (t h .mail) j) ≡ l)
+  letter-mail c l b e =
+      let (j, m, z) = letter-entry (p h) (t h) (letter-key (p h) c l) e in
+      let (u, v) = letter-key-injective (p h) (left (t h .mail) j) (row-letter (p h) (right (t h .mail) j)) c l (letter-low h (right (t h .mail) j)) b z in
+      (j, m, u, v)
+
+  -- "mail (d, v)": the letters of a message are letters of each class that the target may be
+  pub send-there : (c r j l : ℕ) → state-closed (p h) (t h) (state c r) ≡ true → tag (p h) r ≡ 5 → j < t h .flow .size → left (t h .flow) j ≡ num (p h) (r + 1) → is-class (p h) (right (t h .flow) j) ≡ true → letter-of-some (p h) (t h .flow) (num (p h) (r + 2)) (λ v. true) l ≡ true → has-letter (p h) (t h) (letter-key (p h) (right (t h .flow) j) l) ≡ true
+  unfolding state-closed send-closed kind letter-of-some has
+  send-there c r j l closed e b target class some =
+      let (i, m, u, v) = some-elim (t h .flow) (num (p h) (r + 2)) _ some in
+      let all : send-closed (p h) (t h) c (num (p h) r) (num (p h) (r + 1)) (num (p h) (r + 2)) (rest (p h) r) ≡ true = rw (head-send (p h) r (rw e), state-closed) at closed in
+      let one = each-elim (t h .flow) (num (p h) (r + 1)) j _ all b target in
+      let two = implies-elim (is-class (p h) (right (t h .flow) j)) _ one class in
+      let three = and-left (has (t h .mail) (right (t h .flow) j) (right (t h .flow) i)) _ (each-elim (t h .flow) (num (p h) (r + 2)) i _ two m u) in
+      let (k, w, z) = any-elim 0 (t h .mail .size) _ three in
+      let x = eqb-true (left (t h .mail) k) (right (t h .flow) j) (and-left (eqb (left (t h .mail) k) (right (t h .flow) j)) _ z) in
+      let y = eqb-true (right (t h .mail) k) (right (t h .flow) i) (and-right (eqb (left (t h .mail) k) (right (t h .flow) j)) _ z) in
+      mail-letter (right (t h .flow) j) k l (w .1) x (ap (row-letter (p h)) y ∙ eqb-true (row-letter (p h) (right (t h .flow) i)) l (and-left (eqb (row-letter (p h) (right (t h .flow) i)) l) true v))
+
+  class-rows : (d : ℕ) → is-class (p h) d ≡ true → d ≤ size (p h)
+  class-rows d e = class-at-most (p h) (λ r u. tag-inside ws s r (omega arith)) d e
+
+  -- an entry of a name
+  pub entry-in : (a j : ℕ) → range-from (t h .flow) a ≤ j → j < range-to (t h .flow) a → (left (t h .flow) j ≡ a) × (j < t h .flow .size)
+  unfolding range-from range-to
+  entry-in a j b c = let upto = place-upto (t h .flow) (a + 1) 0 in (begins-within (t h .flow) a (rising h) j b c, omega arith)
+
+  send-turned : (names starts ls : List ℕ) → Name-letters (p h) (t h) names → Class-letters (p h) (t h) starts ls → (r a m next : ℕ) (k : Class) (i : ℕ) → tag (p h) r ≡ 5 → state-closed (p h) (t h) (state (k .number) r) ≡ true → a ≡ num (p h) (r + 1) → m ≡ num (p h) (r + 2) → m < s .names → (j : ℕ) → range-from (t h .flow) a ≤ j → j < range-to (t h .flow) a → send-turn (p h) (t h) names starts ls m next i j ≡ elim (is-class (p h) (right (t h .flow) j)) [ true ↦ from-letters (p h) (letter-of-some (p h) (t h .flow) m (λ v. true)) (λ l. rule i next (puts (letter-index (p h) (t h) (right (t h .flow) j) l))) | false ↦ [] ]
+  unfolding send-turn program tables entries columns
+  send-turned names starts ls n g r a m next k i e closed u v low j b c =
+      let (same, inside) = entry-in a j b c in
+      test (is-class (p h) (right (t h .flow) j))
+      (λ f. rw (f, send-turn) (sym (letters-paired h starts ls g (right (t h .flow) j) (class-rows (right (t h .flow) j) f) (letter-of-some (p h) (t h .flow) m (λ v. true)) (member names 2 m) puts next i
+      (λ l o w. send-there (k .number) r j l closed e inside (same ∙ u) f (rw v at w))
+      (λ l o w. sym (n .has m l low o)))))
+      (λ f. rw (f, send-turn))
+
+  -- the rules of a send
+  pub send-gathered : (names starts ls : List ℕ) → Name-letters (p h) (t h) names → Class-letters (p h) (t h) starts ls → (r a m next from to : ℕ) (k : Class) (at : List ℕ) (i : ℕ) → Entered (p h) (t h) k at → tag (p h) r ≡ 5 → state-closed (p h) (t h) (state (k .number) r) ≡ true → a ≡ num (p h) (r + 1) → m ≡ num (p h) (r + 2) → m < s .names → next ≡ getD at (rest (p h) r) 0 → from ≡ range-from (t h .flow) a → to ≡ range-to (t h .flow) a → gather from to (send-turn (p h) (t h) names starts ls m next i) ≡ state-rules (p h) (t h) i (state (k .number) r)
+  unfolding state-rules kind
+  send-gathered names starts ls n g r a m next from to k at i d e closed u v low q x y =
+      let z : next ≡ state-index (t h) (state (k .number) (rest (p h) r)) = q ∙ d .index (rest (p h) r) (led-send h r e .low) in
+      let a′ = num (p h) (r + 1) in
+      let m′ = num (p h) (r + 2) in
+      let next′ = state-index (t h) (state (k .number) (rest (p h) r)) in
+      rw (head-send (p h) r (rw e), state-rules, x, y, z, u, v)
+      (gather-same (range-from (t h .flow) a′) (range-to (t h .flow) a′) _ _ (λ j b c. send-turned names starts ls n g r a′ m′ next′ k i e closed refl refl (omega arith) j b c) ∙
+      sym (each-range (t h .flow) a′ (λ f. elim (is-class (p h) f) [ true ↦ from-letters (p h) (letter-of-some (p h) (t h .flow) m′ (λ v. true)) (λ l. rule i next′ (puts (letter-index (p h) (t h) f l))) | false ↦ [] ]) (rising h)))
+
+  -- the letters that a pattern takes are those of the values that it may match
+  module _ (c q : ℕ) (some : some-of (t h .mail) c (may-take (p h) (t h) q) ≡ true) where
+    built-letter : (v : ℕ) → tag (p h) q ≡ 31 → may-take (p h) (t h) q v ≡ true → row-letter (p h) v ≡ num (p h) q
+    unfolding may-take may-match same-constructor row-letter row-shape letter
+    built-letter v e f =
+        let same = and-left (eqb (tag (p h) v) 2 && eqb (num (p h) (v + 1)) (num (p h) q)) _ (rw (eq-eqb (tag (p h) q) 31 e, may-match) at f) in
+        let two = and-left (eqb (tag (p h) v) 2) (eqb (num (p h) (v + 1)) (num (p h) q)) same in
+        rw (two, row-shape) (eqb-true (num (p h) (v + 1)) (num (p h) q) (and-right (eqb (tag (p h) v) 2) (eqb (num (p h) (v + 1)) (num (p h) q)) same))
+
+    any-may : (v : ℕ) → (tag (p h) q ≡ 31 → ⊥) → may-take (p h) (t h) q v ≡ true
+    unfolding may-take may-match
+    any-may v ne = rw (ne-eqb (tag (p h) q) 31 ne, may-match)
+
+    pub taken-letter : (l : ℕ) → l < letters (p h) → has-letter (p h) (t h) (letter-key (p h) c l) ≡ true → letter-of-some (p h) (t h .mail) c (may-take (p h) (t h) q) l ≡ takes-letter (p h) q l
+    unfolding letter-of-some
+    taken-letter l low there = elim (ℕ-discrete (tag (p h) q) 31) [
+      | yes e ↦
+          let (j, b, u, v) = some-elim (t h .mail) c _ some in
+          let k = built-letter (right (t h .mail) j) e v in
+          both _ _
+          (λ z. let (i, m, x, y) = some-elim (t h .mail) c _ z in
+          let w = built-letter (right (t h .mail) i) e (and-right (eqb (row-letter (p h) (right (t h .mail) i)) l) _ y) in
+          let o = eqb-true (row-letter (p h) (right (t h .mail) i)) l (and-left (eqb (row-letter (p h) (right (t h .mail) i)) l) _ y) in
+          sym (pattern-built (p h) q l (tag (p h) q) (num (p h) q) refl e refl) ∙ eq-eqb l (num (p h) q) (omega arith))
+          (λ z. let o = eqb-true l (num (p h) q) (pattern-built (p h) q l (tag (p h) q) (num (p h) q) refl e refl ∙ z) in
+          some-intro (t h .mail) c j _ b u (and-intro (eqb (row-letter (p h) (right (t h .mail) j)) l) _ (eq-eqb _ l (omega arith)) v))
+      | no ne ↦
+          let (j, b, u, v) = letter-mail c l low there in
+          some-intro (t h .mail) c j _ b u (and-intro (eqb (row-letter (p h) (right (t h .mail) j)) l) _ (eq-eqb _ l v) (any-may (right (t h .mail) j) ne)) ∙
+          pattern-any (p h) q l (tag (p h) q) refl ne
+    ]
+
+  pub taken-there : (c q l : ℕ) → letter-of-some (p h) (t h .mail) c (may-take (p h) (t h) q) l ≡ true → has-letter (p h) (t h) (letter-key (p h) c l) ≡ true
+  unfolding letter-of-some
+  taken-there c q l e =
+      let (j, b, u, v) = some-elim (t h .mail) c _ e in
+      mail-letter c j l b u (eqb-true (row-letter (p h) (right (t h .mail) j)) l (and-left (eqb (row-letter (p h) (right (t h .mail) j)) l) _ v))
+
+  pub taken-some : (c q l : ℕ) → letter-of-some (p h) (t h .mail) c (may-take (p h) (t h) q) l ≡ true → some-of (t h .mail) c (may-take (p h) (t h) q) ≡ true
+  unfolding letter-of-some
+  taken-some c q l e =
+      let (j, b, u, v) = some-elim (t h .mail) c _ e in
+      some-intro (t h .mail) c j _ b u (and-right (eqb (row-letter (p h) (right (t h .mail) j)) l) _ v)
+
+  -- later entries of a name have later classes
+  pub later-value : (starts ls : List ℕ) → Class-letters (p h) (t h) starts ls → (a j : ℕ) → range-from (t h .flow) a ≤ j → j + 1 < range-to (t h .flow) a → (getD starts (right (t h .flow) j + 1) 0 ≤ getD starts (right (t h .flow) (j + 1)) 0) × (getD starts (right (t h .flow) j) 0 ≤ getD starts (right (t h .flow) (j + 1)) 0)
+  unfolding program columns
+  later-value starts ls g a j b c =
+      let (u, v) = entry-in a j b (omega arith) in
+      let (x, y) = entry-in a (j + 1) (omega arith) c in
+      let low = value-from h a (range-from (t h .flow) a) (j + 1) refl (omega arith) c .1 in
+      let up : right (t h .flow) j < right (t h .flow) (j + 1) = ⊎-elim (λ z. absurd (omega arith)) (λ z. z .1) (rising h j (j + 1) (omega arith) y) in
+      let one = start-later h starts ls g (right (t h .flow) j) (right (t h .flow) (j + 1)) up low in
+      let two = start-order h starts ls g (right (t h .flow) j) (omega arith) in
+      (one, omega (arith, two .0))
