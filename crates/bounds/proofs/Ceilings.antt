@@ -22,10 +22,10 @@ use Rattle.bounds.specs.Limits.{limit-cells, In-form, cell, Limits-table
 
 module _ (n : ℕ) (entries : Columns) (ceilings : ℕ) where
   -- k ceilings end before entry e, and the others stand from there to the end
-  abbrev Walks : ℕ → ℕ → Type 0
+  abbrev pub Walks : ℕ → ℕ → Type 0
   Walks = Walked (bound-step n) entries (from-counter 0) ceilings
 
-  entry-of : (k e : ℕ) → Walks k e → bound-entry n entries k ≡ e
+  pub entry-of : (k e : ℕ) → Walks k e → bound-entry n entries k ≡ e
   unfolding bound-entry
   entry-of k e w = walked-row (bound-step n) entries (from-counter 0) ceilings k e w
 
@@ -33,7 +33,7 @@ module _ (n : ℕ) (entries : Columns) (ceilings : ℕ) where
   unfolding bound-end
   stands k e w below = walked-stands (bound-step n) entries (from-counter 0) ceilings k e w below
 
-  next-one : (k e : ℕ) → Walks k e → k < ceilings → Walks (k + 1) (bound-end n entries e)
+  pub next-one : (k e : ℕ) → Walks k e → k < ceilings → Walks (k + 1) (bound-end n entries e)
   unfolding bound-end
   next-one k e w below = walked-next (bound-step n) entries (from-counter 0) ceilings k e w below
 

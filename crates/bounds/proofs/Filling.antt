@@ -20,38 +20,38 @@ use Rattle.bounds.proofs.Reading.{entry-closes, entry-open, entry-fits,
 
 module _ (n : ℕ) (entries : Columns) where
   -- a ceiling is open at entry i, of m that are left; its counters are not below `least`, and it ends before entry q
-  abbrev Open : ℕ → ℕ → ℕ → ℕ → Type 0
+  abbrev pub Open : ℕ → ℕ → ℕ → ℕ → Type 0
   Open m i least q = read (bound-step n) entries m (from-counter least ∷ []) i ≡ past q
 
   -- an entry that goes on: it is one of the ceiling, which stays open behind it
-  open-next : (m i least q : ℕ) → Open (suc m) i least q → (left entries i ≡ n → ⊥) → (in-ceiling n least (left entries i) (right entries i) ≡ true) × Open m (i + 1) (left entries i + 1) q
+  pub open-next : (m i least q : ℕ) → Open (suc m) i least q → (left entries i ≡ n → ⊥) → (in-ceiling n least (left entries i) (right entries i) ≡ true) × Open m (i + 1) (left entries i + 1) q
   open-next m i least q h x =
       test (in-ceiling n least (left entries i) (right entries i))
       (λ t. (t, sym (read-go (bound-step n) entries m i (from-counter least) [] _ (entry-fits n least _ _ x t)) ∙ h))
       (λ f. past-wrong q i (sym h ∙ read-stop (bound-step n) entries m i (from-counter least) [] (entry-wrong n least _ _ x f)))
 
   -- an entry that closes the ceiling is its last
-  open-end : (m i least q : ℕ) → Open (suc m) i least q → left entries i ≡ n → q ≡ i + 1
+  pub open-end : (m i least q : ℕ) → Open (suc m) i least q → left entries i ≡ n → q ≡ i + 1
   open-end m i least q h x = elim (ℕ-discrete (right entries i) 0) [
     | yes z ↦ sym (past-row (i + 1) q (sym (read-go (bound-step n) entries m i (from-counter least) [] [] (entry-closes n least _ _ x z) ∙ read-none (bound-step n) entries m (i + 1)) ∙ h))
     | no z ↦ past-wrong q i (sym h ∙ read-stop (bound-step n) entries m i (from-counter least) [] (entry-open n least _ _ x z))
   ]
 
   -- the limit of counter x, by the entry that stands next
-  limit-end : (m i x : ℕ) → left entries i ≡ n → limit-from n entries (suc m) i x ≡ 0
+  pub limit-end : (m i x : ℕ) → left entries i ≡ n → limit-from n entries (suc m) i x ≡ 0
   unfolding limit-from
   limit-end m i x h = rw (eq-eqb _ _ h, limit-from)
 
-  limit-here : (m i x : ℕ) → (left entries i ≡ n → ⊥) → left entries i ≡ x → limit-from n entries (suc m) i x ≡ right entries i
+  pub limit-here : (m i x : ℕ) → (left entries i ≡ n → ⊥) → left entries i ≡ x → limit-from n entries (suc m) i x ≡ right entries i
   unfolding limit-from
   limit-here m i x h e = rw (ne-eqb _ _ h, limit-from) (rw (eq-eqb (left entries i) x e))
 
-  limit-skip : (m i x : ℕ) → (left entries i ≡ n → ⊥) → (left entries i ≡ x → ⊥) → limit-from n entries (suc m) i x ≡ limit-from n entries m (i + 1) x
+  pub limit-skip : (m i x : ℕ) → (left entries i ≡ n → ⊥) → (left entries i ≡ x → ⊥) → limit-from n entries (suc m) i x ≡ limit-from n entries m (i + 1) x
   unfolding limit-from
   limit-skip m i x h e = rw (ne-eqb _ _ h, limit-from) (rw (ne-eqb (left entries i) x e))
 
   -- no counter below the least has a limit to come
-  limit-below : (m i least q x : ℕ) → Open m i least q → x < least → limit-from n entries m i x ≡ 0
+  pub limit-below : (m i least q x : ℕ) → Open m i least q → x < least → limit-from n entries m i x ≡ 0
   limit-below zero i least q x h b = past-wrong q i (sym h ∙ read-end (bound-step n) entries (from-counter least) [] i)
   limit-below (suc m) i least q x h b = elim (ℕ-discrete (left entries i) n) [
     | yes e ↦ limit-end m i x e

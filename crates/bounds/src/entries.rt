@@ -35,7 +35,7 @@ pub fn bounds_at(s: Sizes) -> usize
 }
 
 // The counter number of entry e, and 0 past the last entry.
-fn counter_at(ws: &[u16], s: Sizes, e: usize) -> usize
+pub fn counter_at(ws: &[u16], s: Sizes, e: usize) -> usize
     requires { ⌜ Whole (now ws) s ⌝ }
     ensures { λ r. ⌜ r ≡ left (bound-entries (now (ws .entry)) s) e ⌝ }
 {
@@ -43,7 +43,7 @@ fn counter_at(ws: &[u16], s: Sizes, e: usize) -> usize
 }
 
 // The limit of entry e, and 0 past the last entry.
-fn limit_at(ws: &[u16], s: Sizes, e: usize) -> u16
+pub fn limit_at(ws: &[u16], s: Sizes, e: usize) -> u16
     requires { ⌜ Whole (now ws) s ⌝ }
     ensures { λ r. ⌜ r ≡ right (bound-entries (now (ws .entry)) s) e ⌝ }
 {

@@ -1,0 +1,4 @@
+pub mod Ahead
+pub mod Cells
+pub mod Filling
+pub mod Begun

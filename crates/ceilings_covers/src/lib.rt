@@ -1,0 +1,219 @@
+// Which ceilings may cover the counts after a step from the highest counts of a ceiling, as a mask; and the test of one of them.
+use bounds::limits::is_allowed;
+use ceilings::highest;
+use ceilings::limit;
+use ceilings_masks::Over;
+use masks::Mask;
+use masks::and;
+use masks::below;
+use masks::load;
+use masks::or;
+use masks::without;
+use steps::Step;
+use steps::count_after;
+use steps::takes_other;
+ghost use mathlib.Core.Path.{_≡_};
+ghost use mathlib.Core.Bool.{true, false, _||_};
+ghost use Prim.Native.Nat.{ℕ, _+_, _*_, _≤_, _<_};
+ghost use lib.Dec.{eqb};
+ghost use lib.ListN.{length};
+ghost use Rattle.bits.specs.Bits.{member, Row};
+ghost use Rattle.masks.specs.Masks.{has};
+ghost use Rattle.model.specs.Markings.{usable};
+ghost use Rattle.model.specs.Bounds.{highest};
+ghost use Rattle.steps.specs.Steps.{rule-of-step, adds-other};
+ghost use Rattle.ceilings.specs.Table.{held};
+ghost use Rattle.ceilings_masks.specs.Compared.{takes-more};
+ghost use Rattle.ceilings_covers.specs.Covers.{Beside, Left, Candidates, Step-apart, passes, named, reading};
+
+// So many counters are named by a step.
+pub const NAMED: usize = 3;
+
+// The ceilings that hold the highest counts of ceiling k with one less at counter i.
+pub fn left_after(
+    limits: &[u16],
+    ceilings: usize,
+    n: usize,
+    holders: &[u64],
+    unbounded: &[u64],
+    over: Over,
+    short: &[u64],
+    more: &[u64],
+    k: usize,
+    i: usize,
+) -> Mask
+    requires { ⌜ Beside (now limits) ceilings n k (now holders) (now unbounded) over (now short) (now more) ⌝ }
+    requires { ⌜ (i < n) × (1 ≤ held (now limits) ceilings k i) ⌝ }
+    ensures { λ r. ⌜ Left (now (limits .entry)) ceilings n k i r ⌝ }
+{
+    let whole = without(below(ceilings), over.once);
+    let by_one = without(load(short, i), over.twice);
+    or(whole, by_one)
+}
+
+// The same with one less at counter x too.
+fn left_reading(
+    over: Over,
+    short: &[u64],
+    left: Mask,
+    i: usize,
+    x: usize,
+) -> Mask
+    requires { ⌜ Row (now short) 4 i × Row (now short) 4 x ⌝ }
+    ensures { λ r. ⌜ ((j : ℕ) → j < 256 → has r j ≡ reading (has left) (has (over .twice)) (has (over .thrice)) (member (now (short .entry)) 4 i) (member (now (short .entry)) 4 x) j) ⌝ }
+{
+    let near = load(short, x);
+    let once = without(near, over.twice);
+    let twice = without(and(load(short, i), near), over.thrice);
+    or(or(left, once), twice)
+}
+
+// The ceilings that hold one more than ceiling k at counter y.
+fn one_more_at(
+    limits: &[u16],
+    ceilings: usize,
+    n: usize,
+    holders: &[u64],
+    unbounded: &[u64],
+    over: Over,
+    short: &[u64],
+    more: &[u64],
+    k: usize,
+    y: usize,
+) -> Mask
+    requires { ⌜ Beside (now limits) ceilings n k (now holders) (now unbounded) over (now short) (now more) ⌝ }
+    requires { ⌜ y < n ⌝ }
+    ensures { λ r. ⌜ ((j : ℕ) → j < 256 → has r j ≡ takes-more (now (limits .entry)) ceilings k y j) ⌝ }
+{
+    if limit(limits, ceilings, k, y) == 0 {
+        return load(holders, y);
+    }
+    load(more, y)
+}
+
+// The candidates for a step, by the counters that it takes from.
+fn by_taken(
+    limits: &[u16],
+    ceilings: usize,
+    n: usize,
+    holders: &[u64],
+    unbounded: &[u64],
+    over: Over,
+    short: &[u64],
+    more: &[u64],
+    k: usize,
+    left: Mask,
+    step: Step,
+) -> Mask
+    requires { ⌜ Beside (now limits) ceilings n k (now holders) (now unbounded) over (now short) (now more) ⌝ }
+    requires { ⌜ Step-apart n step ⌝ }
+    requires { ⌜ Left (now limits) ceilings n k (step .from) left ⌝ }
+    requires { ⌜ usable (rule-of-step step) (highest (held (now limits) ceilings k)) ≡ true ⌝ }
+    ensures { λ r. ⌜ Candidates (now (limits .entry)) ceilings n k step r ⌝ }
+{
+    if step.kind == 1 {
+        return left_reading(over, short, left, step.from, step.other);
+    }
+    left
+}
+
+// Of these candidates, those that hold one more at a counter to which the step adds.
+fn by_added(
+    limits: &[u16],
+    ceilings: usize,
+    n: usize,
+    holders: &[u64],
+    unbounded: &[u64],
+    over: Over,
+    short: &[u64],
+    more: &[u64],
+    k: usize,
+    step: Step,
+    y: usize,
+    m: Mask,
+) -> Mask
+    requires { ⌜ Beside (now limits) ceilings n k (now holders) (now unbounded) over (now short) (now more) ⌝ }
+    requires { ⌜ Step-apart n step ⌝ }
+    requires { ⌜ (eqb y (step .to) || adds-other step y) ≡ true ⌝ }
+    requires { ⌜ Candidates (now limits) ceilings n k step m ⌝ }
+    ensures { λ r. ⌜ Candidates (now (limits .entry)) ceilings n k step r ⌝ }
+{
+    if n <= y {
+        return m;
+    }
+    if y == step.from {
+        return m;
+    }
+    if takes_other(step, y) {
+        return m;
+    }
+    and(m, one_more_at(limits, ceilings, n, holders, unbounded, over, short, more, k, y))
+}
+
+// The candidates for a step that can be used at the highest counts of ceiling k.
+pub fn candidates(
+    limits: &[u16],
+    ceilings: usize,
+    n: usize,
+    holders: &[u64],
+    unbounded: &[u64],
+    over: Over,
+    short: &[u64],
+    more: &[u64],
+    k: usize,
+    left: Mask,
+    step: Step,
+) -> Mask
+    requires { ⌜ Beside (now limits) ceilings n k (now holders) (now unbounded) over (now short) (now more) ⌝ }
+    requires { ⌜ Step-apart n step ⌝ }
+    requires { ⌜ Left (now limits) ceilings n k (step .from) left ⌝ }
+    requires { ⌜ usable (rule-of-step step) (highest (held (now limits) ceilings k)) ≡ true ⌝ }
+    ensures { λ r. ⌜ Candidates (now (limits .entry)) ceilings n k step r ⌝ }
+{
+    let taken = by_taken(limits, ceilings, n, holders, unbounded, over, short, more, k, left, step);
+    let to = by_added(limits, ceilings, n, holders, unbounded, over, short, more, k, step, step.to, taken);
+    if step.kind < 2 {
+        return to;
+    }
+    by_added(limits, ceilings, n, holders, unbounded, over, short, more, k, step, step.other, to)
+}
+
+// The step can be used at the highest counts of ceiling k.
+pub fn is_usable(limits: &[u16], ceilings: usize, n: usize, k: usize, step: Step) -> bool
+    requires { ⌜ (k < ceilings) × (n * ceilings ≤ length (now limits)) ⌝ }
+    requires { ⌜ Step-apart n step ⌝ }
+    ensures { λ r. ⌜ r ≡ usable (rule-of-step step) (highest (held (now (limits .entry)) ceilings k)) ⌝ }
+{
+    if highest(limits, ceilings, k, step.from) == 0 {
+        return false;
+    }
+    if step.kind != 1 {
+        return true;
+    }
+    1 <= highest(limits, ceilings, k, step.other)
+}
+
+// Counter b of the three that a step names.
+pub fn named(step: Step, b: usize) -> usize
+    requires { ⌜ b < 3 ⌝ }
+    ensures { λ r. ⌜ r ≡ named step b ⌝ }
+{
+    if b == 0 {
+        return step.to;
+    }
+    if b == 1 {
+        return step.from;
+    }
+    step.other
+}
+
+// Ceiling k2 allows what counter y has after the step from the highest counts of ceiling k.
+pub fn passes(limits: &[u16], ceilings: usize, k: usize, k2: usize, step: Step, y: usize) -> bool
+    requires { ⌜ (k < ceilings) × (k2 < ceilings) ⌝ }
+    requires { ⌜ Row (now limits) ceilings y ⌝ }
+    requires { ⌜ step .kind ≤ 3 ⌝ }
+    ensures { λ r. ⌜ r ≡ passes (now (limits .entry)) ceilings k k2 step y ⌝ }
+{
+    let count = count_after(highest(limits, ceilings, k, y), step, y);
+    is_allowed(limit(limits, ceilings, k2, y), count)
+}

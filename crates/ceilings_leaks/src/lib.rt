@@ -1,0 +1,182 @@
+// Refusal 13: from counts under a ceiling, a rule leads out of all ceilings.
+use bounds::entries::bounds_at;
+use bounds::entries::counter_at;
+use ceilings_covers::NAMED;
+use ceilings_covers::candidates;
+use ceilings_covers::is_usable;
+use ceilings_covers::left_after;
+use ceilings_covers::named;
+use ceilings_covers::passes;
+use ceilings_groups::open_to_all;
+use ceilings_groups::settled;
+use ceilings_masks::compare;
+use lists::state_location;
+use masks::first_set;
+use masks::next_in;
+use masks::store;
+use model::Sizes;
+use model::Verdict;
+use program::rows::tag;
+use rules::Class;
+use rules::turn_to;
+use state_rules::state_rules;
+use steps::Step;
+use steps::effect_kind;
+ghost use mathlib.Core.Path.{_≡_};
+ghost use Prim.Native.Nat.{_*_, _≤_, _<_};
+ghost use lib.ListN.{length};
+ghost use Rattle.model.specs.Limits.{maxCounters};
+ghost use Rattle.model.specs.Words.{right};
+ghost use Rattle.model.specs.Rows.{program, tag};
+ghost use Rattle.model.specs.Tables.{tables};
+ghost use Rattle.model.specs.Rules.{rules};
+ghost use Rattle.model.specs.Bounds.{bounds, leak-check};
+ghost use Rattle.model.specs.Verify.{answer};
+ghost use Rattle.lists.specs.Ready.{Ready};
+ghost use Rattle.rules.specs.Derived.{Rule-tables, Entered, Rule-room};
+ghost use Rattle.steps.specs.Steps.{effect-kind};
+ghost use Rattle.ceilings_groups.specs.Groups.{Groups-upto};
+ghost use Rattle.ceilings_leaks.specs.Leaks.{Ceilings-ready, Rooms};
+
+// The kind of the rules of state i.
+fn kind_at(ws: &[u16], s: Sizes, i: usize) -> usize
+    requires { ⌜ Ready (now ws) s ⌝ }
+    requires { ⌜ i < s .states ⌝ }
+    ensures { λ r. ⌜ r ≡ effect-kind (tag (program (now (ws .entry)) s) (right (tables (now (ws .entry)) s .states) i)) ⌝ }
+    ensures { λ r. ⌜ r ≤ 3 ⌝ }
+{
+    effect_kind(tag(ws, s, state_location(ws, s, i)))
+}
+
+// For each state the ceilings that have no bound where its rules add; gives the class entered last.
+pub fn fill_groups(
+    ws: &[u16],
+    s: Sizes,
+    afters: &[u16],
+    inners: &[u16],
+    flow_at: &[u16],
+    w: usize,
+    flows: &[u64],
+    names: &[u64],
+    letter_at: &[u16],
+    letters: &[u16],
+    branches: &[u16],
+    n: usize,
+    limits: &[u16],
+    starts: &[u16],
+    holders: &[u64],
+    unbounded: &[u64],
+    k: Class,
+    at: &mut [u16],
+    tos: &mut [u16],
+    others: &mut [u16],
+    group: &mut [u64],
+) -> Class
+    requires { ⌜ Rule-tables (now ws) s (now afters) (now inners) (now «flow_at») w (now flows) (now names) (now «letter_at») (now letters) (now branches) ⌝ }
+    requires { ⌜ Ceilings-ready (now ws) s n (now limits) (now starts) (now holders) (now unbounded) ⌝ }
+    requires { ⌜ Entered (program (now ws) s) (tables (now ws) s) k (now at) ⌝ }
+    requires { ⌜ Rule-room s (now tos) (now others) ⌝ }
+    requires { ⌜ s .states * 4 ≤ length (now group) ⌝ }
+    ensures { λ e. ⌜ Entered (program (now (ws .entry)) s) (tables (now (ws .entry)) s) e (now (at .exit)) ⌝ }
+    ensures { λ _. ⌜ Groups-upto (program (now (ws .entry)) s) (tables (now (ws .entry)) s) (now (limits .entry)) (s .bounds) n (s .states) (now (group .exit)) ⌝ }
+{
+    let mut class = k;
+    for i in 0..s.states {
+        class = turn_to(ws, s, class, at, i);
+        let m = state_rules(ws, s, afters, inners, flow_at, w, flows, names, letter_at, letters, branches, class, at, i, tos, others);
+        let kind = kind_at(ws, s, i);
+        store(group, i, open_to_all(limits, s.bounds, n, holders, unbounded, kind, tos, others, m));
+    }
+    class
+}
+
+// Refusal 13: the first ceiling that leaks, at its first entry. Loops over the ceilings, over each one's states, over the rules of a state, and over the
+// ceilings that may cover the counts after a rule; left from inside at the first limit exceeded, the first ceiling that covers, the first that leaks.
+pub fn leak_check(
+    ws: &[u16],
+    s: Sizes,
+    afters: &[u16],
+    inners: &[u16],
+    flow_at: &[u16],
+    w: usize,
+    flows: &[u64],
+    names: &[u64],
+    letter_at: &[u16],
+    letters: &[u16],
+    branches: &[u16],
+    n: usize,
+    limits: &[u16],
+    starts: &[u16],
+    holders: &[u64],
+    unbounded: &[u64],
+    group: &[u64],
+    first_class: Class,
+    at: &mut [u16],
+    tos: &mut [u16],
+    others: &mut [u16],
+    short: &mut [u64],
+    more: &mut [u64],
+) -> Verdict
+    requires { ⌜ Rule-tables (now ws) s (now afters) (now inners) (now «flow_at») w (now flows) (now names) (now «letter_at») (now letters) (now branches) ⌝ }
+    requires { ⌜ Ceilings-ready (now ws) s n (now limits) (now starts) (now holders) (now unbounded) ⌝ }
+    requires { ⌜ Entered (program (now ws) s) (tables (now ws) s) «first_class» (now at) ⌝ }
+    requires { ⌜ Groups-upto (program (now ws) s) (tables (now ws) s) (now limits) (s .bounds) n (s .states) (now group) ⌝ }
+    requires { ⌜ s .states * 4 ≤ length (now group) ⌝ }
+    requires { ⌜ Rooms s n (now tos) (now others) (now short) (now more) ⌝ }
+    ensures { λ r. ⌜ r ≡ answer (leak-check (now (ws .entry)) s (bounds (now (ws .entry)) s n) (rules (program (now (ws .entry)) s) (tables (now (ws .entry)) s))) ⌝ }
+{
+    let mut class = first_class;
+    'ceilings: for k in 0..s.bounds {
+        let first = starts[k] as usize;
+        let over = compare(ws, s, n, limits, holders, unbounded, k, first, short, more);
+        let mut e = first;
+        'states: loop {
+            let i = counter_at(ws, s, e);
+            if i >= s.states {
+                continue 'ceilings;
+            }
+            e += 1;
+            let left = left_after(limits, s.bounds, n, holders, unbounded, over, short, more, k, i);
+            if settled(left, group, i) {
+                continue 'states;
+            }
+            class = turn_to(ws, s, class, at, i);
+            let m = state_rules(ws, s, afters, inners, flow_at, w, flows, names, letter_at, letters, branches, class, at, i, tos, others);
+            let kind = kind_at(ws, s, i);
+            'rules: for j in 0..m {
+                let to = tos[j] as usize;
+                let other = others[j] as usize;
+                let step = Step {
+                    from: i,
+                    to: to,
+                    kind: kind,
+                    other: other,
+                };
+                if !is_usable(limits, s.bounds, n, k, step) {
+                    continue 'rules;
+                }
+                let mask = candidates(limits, s.bounds, n, holders, unbounded, over, short, more, k, left, step);
+                let mut a = first_set(mask);
+                'candidates: while a < 256 {
+                    let k2 = a;
+                    a = next_in(mask, k2 + 1);
+                    for b in 0..NAMED {
+                        let y = named(step, b);
+                        if y < n {
+                            // the first limit exceeded
+                            if !passes(limits, s.bounds, k, k2, step, y) {
+                                continue 'candidates;
+                            }
+                        }
+                    }
+                    // the first ceiling that covers
+                    continue 'rules;
+                }
+                // the first ceiling that leaks
+                let place = bounds_at(s) + 2 + first;
+                return Verdict::Leak(place);
+            }
+        }
+    }
+    Verdict::Safe
+}

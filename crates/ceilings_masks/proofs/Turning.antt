@@ -1,0 +1,175 @@
+-- One ceiling beside the others, counter by counter.
+use Prim.Native.Nat.{ℕ, zero, suc, _+_, _-_, _≤_, _<_}
+use native.Mathlib.Decide.{ℕ-discrete, decLt}
+use native.Mathlib.Omega.{arith}
+use mathlib.Core.Path.{_≡_, refl, sym, _∙_, ap}
+use mathlib.Core.Bool.{Bool, true, false, not, _&&_, _||_}
+use mathlib.Core.List.{List}
+use lib.Dec.{leb, ltb, eqb}
+use lib.ListN.{length}
+use borrow.Author.Tests.{eq-eqb, ne-eqb, le-leb, lt-leb, lt-ltb}
+use Rattle.model.specs.Limits.{omega-limit}
+use Rattle.model.specs.Index.{count}
+use Rattle.model.specs.Words.{Columns, left}
+use Rattle.model.specs.Bounds.{allowed, highest}
+use Rattle.model.proofs.Logic.{test, not-fails}
+use Rattle.model.proofs.Index.{count-end, count-last, count-last-miss}
+use Rattle.bits.specs.Bits.{member, Set-is}
+use Rattle.masks.specs.declared.Mask.{Mask}
+use Rattle.masks.specs.Masks.{has}
+use Rattle.bounds.proofs.Limited.{highest-limit}
+use Rattle.ceilings.specs.Table.{held}
+use Rattle.ceilings.proofs.Ahead.{Ahead, Counter-here, ahead-counter, ahead-none, ahead-inside}
+use Rattle.ceilings_masks.specs.declared.Over.{Over}
+use Rattle.ceilings_masks.specs.Compared.{allows, most, exceeds, exceeds-by-one, takes-more, exceeded, Counted, Neighbours}
+
+-- a set said in other words
+pub set-as : (x : ℕ) (f g : ℕ → Bool) (u t : List ℕ) → Set-is 4 x f u t → ((k : ℕ) → k < 256 → f k ≡ g k) → Set-is 4 x g u t
+set-as x f g u t is same = record { long = is .long; here = λ v l. is .here v l ∙ same v l; others = is .others }
+
+-- nothing passes from a up to b
+count-gap : (a d : ℕ) (f : ℕ → Bool) → ((y : ℕ) → a ≤ y → y < a + d → f y ≡ false) → count 0 (a + d) f ≡ count 0 a f
+count-gap a zero f h = let z : a + 0 ≡ a = omega arith in rw z
+count-gap a (suc d) f h =
+    let z : a + suc d ≡ (a + d) + 1 = omega arith in
+    rw z (count-last-miss 0 (a + d) f (omega arith) (h (a + d) (omega arith) (omega arith))) ∙ count-gap a d f (λ y l b. h y l (omega arith))
+
+pub counts-same : (a b : ℕ) (f : ℕ → Bool) → a ≤ b → ((y : ℕ) → a ≤ y → y < b → f y ≡ false) → count 0 b f ≡ count 0 a f
+counts-same a b f l h = let z : b ≡ a + (b - a) = omega arith in rw z (count-gap a (b - a) f (λ y p q. h y p (omega arith)))
+
+-- the three counts at one counter more
+once-more : (c : ℕ) (b : Bool) → (leb 1 c || b) ≡ leb 1 (c + (elim b [ true ↦ 1 | false ↦ 0 ]))
+once-more zero true = refl
+once-more zero false = refl
+once-more (suc c) b = rw (le-leb 1 (suc c) (omega arith)) (sym (le-leb 1 (suc c + (elim b [ true ↦ 1 | false ↦ 0 ])) (omega arith)))
+
+twice-more : (c : ℕ) (b : Bool) → (leb 2 c || leb 1 c && b) ≡ leb 2 (c + (elim b [ true ↦ 1 | false ↦ 0 ]))
+twice-more zero true = refl
+twice-more zero false = refl
+twice-more (suc zero) true = refl
+twice-more (suc zero) false = refl
+twice-more (suc (suc c)) b = rw (le-leb 2 (suc (suc c)) (omega arith)) (sym (le-leb 2 (suc (suc c) + (elim b [ true ↦ 1 | false ↦ 0 ])) (omega arith)))
+
+thrice-more : (c : ℕ) (b : Bool) → (leb 3 c || leb 2 c && b) ≡ leb 3 (c + (elim b [ true ↦ 1 | false ↦ 0 ]))
+thrice-more zero true = refl
+thrice-more zero false = refl
+thrice-more (suc zero) true = refl
+thrice-more (suc zero) false = refl
+thrice-more (suc (suc zero)) true = refl
+thrice-more (suc (suc zero)) false = refl
+thrice-more (suc (suc (suc c))) b = rw (le-leb 3 (suc (suc (suc c))) (omega arith)) (sym (le-leb 3 (suc (suc (suc c)) + (elim b [ true ↦ 1 | false ↦ 0 ])) (omega arith)))
+
+pub count-more : (e : ℕ) (f : ℕ → Bool) → count 0 (e + 1) f ≡ count 0 e f + (elim (f e) [ true ↦ 1 | false ↦ 0 ])
+count-more e f = test (f e) (λ t. count-last 0 e f (omega arith) t ∙ rw t) (λ t. count-last-miss 0 e f (omega arith) t ∙ let z : count 0 e f ≡ count 0 e f + 0 = omega arith in rw t z)
+
+and-not-and : (p q : Bool) → (p && not (p && q)) ≡ (p && not q)
+and-not-and true q = refl
+and-not-and false q = refl
+
+module _ (limits : List ℕ) (ceilings k : ℕ) where
+  -- a counter without a limit exceeds nothing
+  pub exceeds-none : (k′ x : ℕ) → held limits ceilings k x ≡ 0 → exceeds limits ceilings k k′ x ≡ false
+  unfolding exceeds allowed
+  exceeds-none k′ x z =
+      let low : highest (held limits ceilings k) x ≡ 0 = sym (highest-limit (held limits ceilings k) x 0 (sym z) (λ w. omega arith)) in
+      let fine : allowed (held limits ceilings k′ x) (highest (held limits ceilings k) x) ≡ true =
+          elim (ℕ-discrete (held limits ceilings k′ x) omega-limit) [
+            | yes e ↦ rw (eq-eqb (held limits ceilings k′ x) omega-limit e)
+            | no e ↦ rw (ne-eqb (held limits ceilings k′ x) omega-limit e, low) (le-leb 0 (held limits ceilings k′ x) (omega arith))
+          ] in
+      not-fails _ fine
+
+  -- by what a counter says of the others
+  module _ (x h : ℕ) (is-most : h ≡ most limits ceilings k x) where
+    pub exceeds-as : (m held-by whole : Mask) → ((j : ℕ) → j < 256 → has whole j ≡ ltb j ceilings) → ((j : ℕ) → j < 256 → has held-by j ≡ allows limits ceilings x h j) → ((j : ℕ) → has m j ≡ (has whole j && not (has held-by j))) → (j : ℕ) → j < 256 → has m j ≡ (ltb j ceilings && exceeds limits ceilings k j x)
+    unfolding exceeds allows
+    exceeds-as m held-by whole a b is j l = is j ∙ rw (a j l, b j l, is-most) (and-not-and (ltb j ceilings) _)
+
+    pub by-one-as : (m fewer held-by : Mask) (low : ℕ) → low ≡ h - 1 → ((j : ℕ) → j < 256 → has fewer j ≡ allows limits ceilings x low j) → ((j : ℕ) → j < 256 → has held-by j ≡ allows limits ceilings x h j) → ((j : ℕ) → has m j ≡ (has fewer j && not (has held-by j))) → (j : ℕ) → j < 256 → has m j ≡ exceeds-by-one limits ceilings k x j
+    unfolding exceeds-by-one
+    by-one-as m fewer held-by low z a b is j l = is j ∙ rw (a j l, b j l, z, is-most)
+
+    pub more-as : (m : Mask) (high : ℕ) → high ≡ h + 1 → ((j : ℕ) → j < 256 → has m j ≡ allows limits ceilings x high j) → (j : ℕ) → j < 256 → has m j ≡ takes-more limits ceilings k x j
+    unfolding takes-more
+    more-as m high z a j l = a j l ∙ rw (z, is-most)
+
+  -- no counter yet
+  pub counted-start : (over : Over) → ((j : ℕ) → has (over .once) j ≡ false) → ((j : ℕ) → has (over .twice) j ≡ false) → ((j : ℕ) → has (over .thrice) j ≡ false) → Counted limits ceilings 0 k over
+  counted-start over a b c =
+      let none : (j m : ℕ) → 1 ≤ m → leb m (exceeded limits ceilings 0 k j) ≡ false = λ j m h. rw (count-end 0 0 (exceeds limits ceilings k j) (omega arith)) (lt-leb m 0 (omega arith)) in
+      record { once = λ j h. a j ∙ sym (none j 1 (omega arith)); twice = λ j h. b j ∙ sym (none j 2 (omega arith)); thrice = λ j h. c j ∙ sym (none j 3 (omega arith)) }
+
+  -- counters without a limit change nothing
+  pub counted-gap : (a b : ℕ) (over : Over) → a ≤ b → ((x : ℕ) → a ≤ x → x < b → held limits ceilings k x ≡ 0) → Counted limits ceilings a k over → Counted limits ceilings b k over
+  counted-gap a b over l gap c =
+      let same : (j : ℕ) → exceeded limits ceilings a k j ≡ exceeded limits ceilings b k j = λ j. sym (counts-same a b (exceeds limits ceilings k j) l (λ y p q. exceeds-none j y (gap y p q))) in
+      record { once = λ j h. c .once j h ∙ ap (leb 1) (same j); twice = λ j h. c .twice j h ∙ ap (leb 2) (same j); thrice = λ j h. c .thrice j h ∙ ap (leb 3) (same j) }
+
+  -- one counter more
+  pub counted-next : (x : ℕ) (o r : Over) (m : Mask) → ceilings ≤ 256 → ((j : ℕ) → j < 256 → has m j ≡ (ltb j ceilings && exceeds limits ceilings k j x)) → ((j : ℕ) → has (r .once) j ≡ (has (o .once) j || has m j)) → ((j : ℕ) → has (r .twice) j ≡ (has (o .twice) j || has (o .once) j && has m j)) → ((j : ℕ) → has (r .thrice) j ≡ (has (o .thrice) j || has (o .twice) j && has m j)) → Counted limits ceilings x k o → Counted limits ceilings (x + 1) k r
+  counted-next x o r m few is a b d c =
+      let here : (j : ℕ) → j < ceilings → has m j ≡ exceeds limits ceilings k j x = λ j h. is j (omega arith) ∙ rw (lt-ltb j ceilings h) in
+      let more : (j : ℕ) → exceeded limits ceilings x k j + (elim (exceeds limits ceilings k j x) [ true ↦ 1 | false ↦ 0 ]) ≡ exceeded limits ceilings (x + 1) k j = λ j. sym (count-more x (exceeds limits ceilings k j)) in
+      record {
+        once = λ j h. a j ∙ (rw (c .once j h, here j h) (once-more (exceeded limits ceilings x k j) (exceeds limits ceilings k j x)) ∙ ap (leb 1) (more j));
+        twice = λ j h. b j ∙ (rw (c .twice j h, c .once j h, here j h) (twice-more (exceeded limits ceilings x k j) (exceeds limits ceilings k j x)) ∙ ap (leb 2) (more j));
+        thrice = λ j h. d j ∙ (rw (c .thrice j h, c .twice j h, here j h) (thrice-more (exceeded limits ceilings x k j) (exceeds limits ceilings k j x)) ∙ ap (leb 3) (more j));
+      }
+
+  pub near-gap : (a b : ℕ) (short more : List ℕ) → ((x : ℕ) → a ≤ x → x < b → held limits ceilings k x ≡ 0) → Neighbours limits ceilings a k short more → Neighbours limits ceilings b k short more
+  near-gap a b short more gap c =
+      record {
+        by-one = λ x j l one. elim (decLt x a) [ yes h ↦ c .by-one x j h one | no h ↦ absurd (let z = gap x (omega arith) l in omega arith) ];
+        one-more = λ x j l one. elim (decLt x a) [ yes h ↦ c .one-more x j h one | no h ↦ absurd (let z = gap x (omega arith) l in omega arith) ];
+      }
+
+  pub near-next : (x : ℕ) (short more short′ more′ : List ℕ) → Set-is 4 x (exceeds-by-one limits ceilings k x) short short′ → Set-is 4 x (takes-more limits ceilings k x) more more′ → Neighbours limits ceilings x k short more → Neighbours limits ceilings (x + 1) k short′ more′
+  near-next x short more short′ more′ s m c =
+      record {
+        by-one = λ y j l one h. elim (ℕ-discrete y x) [ yes z ↦ rw z (s .here j h) | no z ↦ s .others y j h z ∙ c .by-one y j (omega arith) one h ];
+        one-more = λ y j l one h. elim (ℕ-discrete y x) [ yes z ↦ rw z (m .here j h) | no z ↦ m .others y j h z ∙ c .one-more y j (omega arith) one h ];
+      }
+
+-- the counters of the entries before i are done
+pub record Turning (n : ℕ) (entries : Columns) (limits : List ℕ) (ceilings k end i : ℕ) (over : Over) (short more : List ℕ) : Type 0 where
+  pub least : ℕ
+  pub low : least ≤ n
+  pub ahead : Ahead n entries (held limits ceilings k) end i least
+  pub counted : Counted limits ceilings least k over
+  pub near : Neighbours limits ceilings least k short more
+
+module _ (n : ℕ) (entries : Columns) (limits : List ℕ) (ceilings k end i : ℕ) (over : Over) (short more : List ℕ) where
+  pub turning-start : Ahead n entries (held limits ceilings k) end i 0 → Counted limits ceilings 0 k over → Turning n entries limits ceilings k end i over short more
+  turning-start a c =
+      record {
+        least = 0;
+        low = omega arith;
+        ahead = a;
+        counted = c;
+        near = record { by-one = λ x j l. absurd (omega arith); one-more = λ x j l. absurd (omega arith) };
+      }
+
+  module _ (t : Turning n entries limits ceilings k end i over short more) where
+    pub turning-inside : i < entries .size
+    turning-inside = ahead-inside n entries _ end i _ (t .ahead)
+
+    pub turning-counter : (left entries i ≡ n → ⊥) → left entries i < n
+    turning-counter h = ahead-counter n entries _ end i _ (t .ahead) h .below
+
+    pub turning-end : left entries i ≡ n → Counted limits ceilings n k over × Neighbours limits ceilings n k short more
+    turning-end h =
+        let gap = ahead-none n entries _ end i _ (t .ahead) h in
+        (counted-gap limits ceilings k (t .least) n over (t .low) gap (t .counted), near-gap limits ceilings k (t .least) n short more gap (t .near))
+
+    pub turning-next : (r : Over) (m : Mask) (short′ more′ : List ℕ) (x : ℕ) → x ≡ left entries i → (left entries i ≡ n → ⊥) → ceilings ≤ 256 → ((j : ℕ) → j < 256 → has m j ≡ (ltb j ceilings && exceeds limits ceilings k j x)) → ((j : ℕ) → has (r .once) j ≡ (has (over .once) j || has m j)) → ((j : ℕ) → has (r .twice) j ≡ (has (over .twice) j || has (over .once) j && has m j)) → ((j : ℕ) → has (r .thrice) j ≡ (has (over .thrice) j || has (over .twice) j && has m j)) → Set-is 4 x (exceeds-by-one limits ceilings k x) short short′ → Set-is 4 x (takes-more limits ceilings k x) more more′ → Turning n entries limits ceilings k end (i + 1) r short′ more′
+    turning-next r m short′ more′ x z h few is a b d s m′ =
+        let here : Counter-here n entries (held limits ceilings k) end i (t .least) = ahead-counter n entries _ end i _ (t .ahead) h in
+        let gap : (y : ℕ) → t .least ≤ y → y < x → held limits ceilings k y ≡ 0 = λ y l b. here .gap y l (omega arith) in
+        let low : t .least ≤ x = let w = here .low in omega arith in
+        record {
+          least = x + 1;
+          low = let w = here .below in omega arith;
+          ahead = rw z (here .next);
+          counted = counted-next limits ceilings k x over r m few is a b d (counted-gap limits ceilings k (t .least) x over low gap (t .counted));
+          near = near-next limits ceilings k x short more short′ more′ s m′ (near-gap limits ceilings k (t .least) x short more gap (t .near));
+        }

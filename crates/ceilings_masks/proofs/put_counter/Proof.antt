@@ -1,0 +1,73 @@
+use native.Mathlib.Omega.{arith}
+use Rattle.ceilings.proofs.Cells.{row-in}
+use Rattle.ceilings_masks.proofs.Turning.{set-as, exceeds-as, by-one-as, more-as}
+use borrow.Author.Needs.{needs}
+use Rattle.ceilings_masks.proofs.put_counter.Statement.{statement}
+use Rattle.ceilings_masks.proofs.put_counter.Tie as tie
+
+highest-requires : tie.Need-highest-requires
+highest-requires c κs = (search needs, row-in _ (c .before .before .before .before .before .args .n) _ _ (search needs) (search needs))
+
+allowing-requires : tie.Need-allowing-requires
+allowing-requires c κs = search needs
+
+one-less-requires : tie.Need-one-less-requires
+one-less-requires c κs = search needs
+
+allowing-requires-2 : tie.Need-allowing-requires-2
+allowing-requires-2 c κs = search needs
+
+one-more-requires : tie.Need-one-more-requires
+one-more-requires c κs = search needs
+
+allowing-requires-3 : tie.Need-allowing-requires-3
+allowing-requires-3 c κs = (c .before .before .before .before .before .before .before .before .before .before .pre .0, (c .before .before .before .before .before .before .before .before .before .before .pre .1 .1 .0, c .before .before .before .before .before .before .before .before .before .before .pre .1 .1 .1 .0))
+
+without-requires : tie.Need-without-requires
+without-requires c κs = search needs
+
+store-requires : tie.Need-store-requires
+store-requires c κs = record { room = omega (arith, c .before .before .before .before .before .before .before .before .before .before .before .before .before .pre .0 .1, c .before .before .before .before .before .before .before .before .before .before .before .before .before .pre .1 .1 .1 .1 .0) }
+
+store-requires-2 : tie.Need-store-requires-2
+store-requires-2 c κs = record { room = omega (arith, c .before .before .before .before .before .before .before .before .before .before .before .before .before .before .before .before .before .pre .0 .1, c .before .before .before .before .before .before .before .before .before .before .before .before .before .before .before .before .before .pre .1 .1 .1 .1 .1) }
+
+below-requires : tie.Need-below-requires
+below-requires c κs = search needs
+
+without-requires-2 : tie.Need-without-requires-2
+without-requires-2 c κs = search needs
+
+same-length : tie.Need-same-length
+same-length c = search needs
+
+same-length-2 : tie.Need-same-length-2
+same-length-2 c = search needs
+
+returns : tie.Need-returns
+returns c =
+    let a = c .before .before .before .before .before .before .before .before .before .before .before .before .before .before .before .before .before .before .before .before .before .before .args in
+    let most = c .before .before .before .before .before .before .before .before .before .before .before .before .before .before .before .before .highest .ensures .0 in (
+      exceeds-as _ _ _ _ _ most _ _ _ (c .before .below .ensures) (c .before .before .before .before .before .before .before .before .before .before .before .before .before .before .before .allowing .ensures) (c .without2 .ensures),
+      (set-as _ _ _ _ _ (c .before .before .before .before .before .before .before .before .store .ensures) (by-one-as _ _ _ _ _ most _ _ _ _ (c .before .before .before .before .before .before .before .before .before .before .before .before .before .before .one-less .ensures) (c .before .before .before .before .before .before .before .before .before .before .before .before .before .allowing2 .ensures) (c .before .before .before .before .before .before .before .before .before .before .before .before .before .before .before .allowing .ensures) (c .before .before .before .before .before .before .before .before .before .without .ensures)),
+      set-as _ _ _ _ _ (c .before .before .before .before .store2 .ensures) (more-as _ _ _ _ _ most _ _ (c .before .before .before .before .before .before .before .before .before .before .before .before .one-more .ensures) (c .before .before .before .before .before .before .before .before .before .before .before .allowing3 .ensures))),
+    )
+
+pub put-counter-spec : {M : Type 1} → statement M
+put-counter-spec =
+    tie.close
+    (tie.spec
+    highest-requires
+    allowing-requires
+    one-less-requires
+    allowing-requires-2
+    one-more-requires
+    allowing-requires-3
+    without-requires
+    store-requires
+    store-requires-2
+    below-requires
+    without-requires-2
+    same-length
+    same-length-2
+    returns)

@@ -1,0 +1,61 @@
+-- Ceilings compared at a counter, and what the masks of a ceiling say of the others.
+use Prim.Native.Nat.{ℕ, _+_, _*_, _-_, _≤_, _<_}
+use mathlib.Core.Path.{_≡_}
+use mathlib.Core.Bool.{Bool, not, _&&_}
+use mathlib.Core.List.{List}
+use lib.ListN.{length}
+use lib.Dec.{leb, ltb}
+use Rattle.model.specs.Limits.{omega-limit}
+use Rattle.model.specs.Index.{count}
+use Rattle.model.specs.Bounds.{allowed, highest}
+use Rattle.bits.specs.Bits.{member}
+use Rattle.masks.specs.declared.Mask.{Mask}
+use Rattle.masks.specs.Masks.{has}
+use Rattle.ceilings.specs.Table.{held}
+use Rattle.ceilings_masks.specs.declared.Over.{Over}
+
+-- ceiling k is one of so many, and its limit at counter x is `least` or more
+unfoldable pub reaches : List ℕ → ℕ → ℕ → ℕ → ℕ → Bool
+reaches limits ceilings x least k = ltb k ceilings && leb least (held limits ceilings k x)
+
+-- ceiling k is one of so many, and allows this count at counter x
+unfoldable pub allows : List ℕ → ℕ → ℕ → ℕ → ℕ → Bool
+allows limits ceilings x n k = ltb k ceilings && allowed (held limits ceilings k x) n
+
+-- for each of n counters, the ceilings that hold it at all and those where it is unbounded
+pub record Holders (limits : List ℕ) (ceilings n : ℕ) (holders unbounded : List ℕ) : Type 0 where
+  pub holders-room : n * 4 ≤ length holders
+  pub unbounded-room : n * 4 ≤ length unbounded
+  pub holder : (x k : ℕ) → x < n → k < 256 → member holders 4 x k ≡ reaches limits ceilings x 1 k
+  pub no-bound : (x k : ℕ) → x < n → k < 256 → member unbounded 4 x k ≡ reaches limits ceilings x omega-limit k
+
+-- the highest count of counter x under ceiling k
+abbrev pub most : List ℕ → ℕ → ℕ → ℕ → ℕ
+most limits ceilings k x = highest (held limits ceilings k) x
+
+-- at counter x the highest count of ceiling k exceeds the limit of ceiling k′
+unfoldable pub exceeds : List ℕ → ℕ → ℕ → ℕ → ℕ → Bool
+exceeds limits ceilings k k′ x = not (allowed (held limits ceilings k′ x) (most limits ceilings k x))
+
+-- it exceeds that, but one less does not
+unfoldable pub exceeds-by-one : List ℕ → ℕ → ℕ → ℕ → ℕ → Bool
+exceeds-by-one limits ceilings k x k′ = allows limits ceilings x (most limits ceilings k x - 1) k′ && not (allows limits ceilings x (most limits ceilings k x) k′)
+
+-- one more than it does not exceed that
+unfoldable pub takes-more : List ℕ → ℕ → ℕ → ℕ → ℕ → Bool
+takes-more limits ceilings k x k′ = allows limits ceilings x (most limits ceilings k x + 1) k′
+
+-- at how many counters below e the highest counts of ceiling k exceed the limits of ceiling k′
+abbrev pub exceeded : List ℕ → ℕ → ℕ → ℕ → ℕ → ℕ
+exceeded limits ceilings e k k′ = count 0 e (exceeds limits ceilings k k′)
+
+-- the ceilings that ceiling k exceeds at one, two and three counters below e
+pub record Counted (limits : List ℕ) (ceilings e k : ℕ) (over : Over) : Type 0 where
+  pub once : (k′ : ℕ) → k′ < ceilings → has (over .once) k′ ≡ leb 1 (exceeded limits ceilings e k k′)
+  pub twice : (k′ : ℕ) → k′ < ceilings → has (over .twice) k′ ≡ leb 2 (exceeded limits ceilings e k k′)
+  pub thrice : (k′ : ℕ) → k′ < ceilings → has (over .thrice) k′ ≡ leb 3 (exceeded limits ceilings e k k′)
+
+-- the sets of two tables, for each counter below e with a limit from 1 under ceiling k
+pub record Neighbours (limits : List ℕ) (ceilings e k : ℕ) (short more : List ℕ) : Type 0 where
+  pub by-one : (x k′ : ℕ) → x < e → 1 ≤ held limits ceilings k x → k′ < 256 → member short 4 x k′ ≡ exceeds-by-one limits ceilings k x k′
+  pub one-more : (x k′ : ℕ) → x < e → 1 ≤ held limits ceilings k x → k′ < 256 → member more 4 x k′ ≡ takes-more limits ceilings k x k′

@@ -1,0 +1,213 @@
+// Sets of ceilings, for each counter and for one ceiling beside the others.
+use bounds::entries::counter_at;
+use ceilings::highest;
+use ceilings::limit;
+use masks::Mask;
+use masks::and;
+use masks::below;
+use masks::load;
+use masks::none;
+use masks::or;
+use masks::store;
+use masks::without;
+use model::OMEGA;
+use model::Sizes;
+use steps::one_less;
+use steps::one_more;
+ghost use mathlib.Core.Path.{_≡_};
+ghost use mathlib.Core.Bool.{_&&_, _||_};
+ghost use Prim.Native.Nat.{ℕ, _+_, _*_, _≤_, _<_};
+ghost use lib.Dec.{ltb};
+ghost use lib.ListN.{length};
+ghost use Rattle.model.specs.Limits.{maxBounds, maxCounters, omega-limit};
+ghost use Rattle.model.specs.Bounds.{bound-entries, bound-entry, bounds};
+ghost use Rattle.bits.specs.Bits.{bit, Row, Set-is};
+ghost use Rattle.masks.specs.Masks.{has};
+ghost use Rattle.bounds.specs.Limits.{In-form};
+ghost use Rattle.bounds.specs.Parts.{Whole};
+ghost use Rattle.ceilings.specs.Table.{Limits-table};
+ghost use Rattle.ceilings_masks.specs.Compared.{reaches, allows, Holders, exceeds, exceeds-by-one, takes-more, Counted, Neighbours};
+
+// The ceilings that one ceiling exceeds at a counter, at two of them and at three.
+pub struct Over {
+    pub once: Mask,
+    pub twice: Mask,
+    pub thrice: Mask,
+}
+
+// How many of the ceilings stand in word i of a mask.
+fn in_word(ceilings: usize, i: usize) -> usize
+    requires { ⌜ i < 4 ⌝ }
+    ensures { λ r. ⌜ (r ≤ 64) × (64 * i + r ≤ ceilings + 256) ⌝ }
+    ensures { λ r. ⌜ ((j : ℕ) → j < r → 64 * i + j < ceilings) ⌝ }
+    ensures { λ r. ⌜ ((j : ℕ) → r ≤ j → j < 64 → ceilings ≤ 64 * i + j) ⌝ }
+{
+    let from = 64 * i;
+    if ceilings <= from {
+        return 0;
+    }
+    if ceilings - from < 64 { ceilings - from } else { 64 }
+}
+
+// Word i of the ceilings whose limit at counter x is `least` or more.
+fn word_from(limits: &[u16], ceilings: usize, x: usize, least: usize, i: usize) -> u64
+    requires { ⌜ (i < 4) × (ceilings ≤ maxBounds) ⌝ }
+    requires { ⌜ Row (now limits) ceilings x ⌝ }
+    ensures { λ r. ⌜ ((j : ℕ) → j < 64 → bit r j ≡ reaches (now (limits .entry)) ceilings x least (64 * i + j)) ⌝ }
+{
+    let end = in_word(ceilings, i);
+    let mut w = 0u64;
+    for j in 0..end {
+        let k = 64 * i + j;
+        if limit(limits, ceilings, k, x) >= least {
+            w = w | (1u64 << j);
+        }
+    }
+    w
+}
+
+// The ceilings whose limit at counter x is `least` or more.
+fn limits_from(limits: &[u16], ceilings: usize, x: usize, least: usize) -> Mask
+    requires { ⌜ ceilings ≤ maxBounds ⌝ }
+    requires { ⌜ Row (now limits) ceilings x ⌝ }
+    ensures { λ r. ⌜ ((k : ℕ) → k < 256 → has r k ≡ reaches (now (limits .entry)) ceilings x least k) ⌝ }
+{
+    let a = word_from(limits, ceilings, x, least, 0);
+    let b = word_from(limits, ceilings, x, least, 1);
+    let c = word_from(limits, ceilings, x, least, 2);
+    let d = word_from(limits, ceilings, x, least, 3);
+    Mask {
+        a: a,
+        b: b,
+        c: c,
+        d: d,
+    }
+}
+
+// For each of n counters the ceilings that hold it, and those where it is unbounded.
+pub fn fill_holders(
+    limits: &[u16],
+    ceilings: usize,
+    n: usize,
+    holders: &mut [u64],
+    unbounded: &mut [u64],
+)
+    requires { ⌜ (ceilings ≤ maxBounds) × (n ≤ maxCounters) ⌝ }
+    requires { ⌜ n * ceilings ≤ length (now limits) ⌝ }
+    requires { ⌜ (n * 4 ≤ length (now holders)) × (n * 4 ≤ length (now unbounded)) ⌝ }
+    ensures { λ _. ⌜ Holders (now (limits .entry)) ceilings n (now (holders .exit)) (now (unbounded .exit)) ⌝ }
+{
+    for x in 0..n {
+        store(holders, x, limits_from(limits, ceilings, x, 1));
+        store(unbounded, x, limits_from(limits, ceilings, x, OMEGA));
+    }
+}
+
+// The ceilings that allow a count at counter x.
+pub fn allowing(
+    limits: &[u16],
+    ceilings: usize,
+    n: usize,
+    holders: &[u64],
+    unbounded: &[u64],
+    x: usize,
+    count: usize,
+) -> Mask
+    requires { ⌜ (ceilings ≤ maxBounds) × (x < n) ⌝ }
+    requires { ⌜ n * ceilings ≤ length (now limits) ⌝ }
+    requires { ⌜ Holders (now limits) ceilings n (now holders) (now unbounded) ⌝ }
+    ensures { λ r. ⌜ ((k : ℕ) → k < 256 → has r k ≡ allows (now (limits .entry)) ceilings x count k) ⌝ }
+{
+    if count == 0 {
+        return below(ceilings);
+    }
+    if count == 1 {
+        return load(holders, x);
+    }
+    if count >= OMEGA {
+        return load(unbounded, x);
+    }
+    limits_from(limits, ceilings, x, count)
+}
+
+// The ceilings exceeded so far, and those exceeded at one counter more.
+fn over_more(o: Over, m: Mask) -> Over
+    ensures { λ r. ⌜ ((k : ℕ) → has (r .once) k ≡ (has (o .once) k || has m k)) ⌝ }
+    ensures { λ r. ⌜ ((k : ℕ) → has (r .twice) k ≡ (has (o .twice) k || has (o .once) k && has m k)) ⌝ }
+    ensures { λ r. ⌜ ((k : ℕ) → has (r .thrice) k ≡ (has (o .thrice) k || has (o .twice) k && has m k)) ⌝ }
+{
+    Over {
+        once: or(o.once, m),
+        twice: or(o.twice, and(o.once, m)),
+        thrice: or(o.thrice, and(o.twice, m)),
+    }
+}
+
+// The two sets of counter x beside ceiling k; gives the ceilings whose limit there it exceeds.
+fn put_counter(
+    limits: &[u16],
+    ceilings: usize,
+    n: usize,
+    holders: &[u64],
+    unbounded: &[u64],
+    k: usize,
+    x: usize,
+    short: &mut [u64],
+    more: &mut [u64],
+) -> Mask
+    requires { ⌜ (ceilings ≤ maxBounds) × (x < n) ⌝ }
+    requires { ⌜ k < ceilings ⌝ }
+    requires { ⌜ n * ceilings ≤ length (now limits) ⌝ }
+    requires { ⌜ Holders (now limits) ceilings n (now holders) (now unbounded) ⌝ }
+    requires { ⌜ (n * 4 ≤ length (now short)) × (n * 4 ≤ length (now more)) ⌝ }
+    ensures { λ r. ⌜ ((j : ℕ) → j < 256 → has r j ≡ (ltb j ceilings && exceeds (now (limits .entry)) ceilings k j x)) ⌝ }
+    ensures { λ _. ⌜ Set-is 4 x (exceeds-by-one (now (limits .entry)) ceilings k x) (now (short .entry)) (now (short .exit)) ⌝ }
+    ensures { λ _. ⌜ Set-is 4 x (takes-more (now (limits .entry)) ceilings k x) (now (more .entry)) (now (more .exit)) ⌝ }
+{
+    let most = highest(limits, ceilings, k, x);
+    let held = allowing(limits, ceilings, n, holders, unbounded, x, most);
+    let fewer = allowing(limits, ceilings, n, holders, unbounded, x, one_less(most));
+    let next = allowing(limits, ceilings, n, holders, unbounded, x, one_more(most));
+    store(short, x, without(fewer, held));
+    store(more, x, next);
+    without(below(ceilings), held)
+}
+
+// Ceiling k, whose entries stand from e on, beside all others: where it exceeds them, and the two sets of each of its counters.
+pub fn compare(
+    ws: &[u16],
+    s: Sizes,
+    n: usize,
+    limits: &[u16],
+    holders: &[u64],
+    unbounded: &[u64],
+    k: usize,
+    e: usize,
+    short: &mut [u64],
+    more: &mut [u64],
+) -> Over
+    requires { ⌜ Whole (now ws) s ⌝ }
+    requires { ⌜ In-form (now ws) s n ⌝ }
+    requires { ⌜ Limits-table (bounds (now ws) s n) (now limits) ⌝ }
+    requires { ⌜ Holders (now limits) (s .bounds) n (now holders) (now unbounded) ⌝ }
+    requires { ⌜ (k < s .bounds) × (e ≡ bound-entry n (bound-entries (now ws) s) k) ⌝ }
+    requires { ⌜ (n * 4 ≤ length (now short)) × (n * 4 ≤ length (now more)) ⌝ }
+    ensures { λ r. ⌜ Counted (now (limits .entry)) (s .bounds) n k r ⌝ }
+    ensures { λ _. ⌜ Neighbours (now (limits .entry)) (s .bounds) n k (now (short .exit)) (now (more .exit)) ⌝ }
+{
+    let mut over = Over {
+        once: none(),
+        twice: none(),
+        thrice: none(),
+    };
+    let mut i = e;
+    loop {
+        let x = counter_at(ws, s, i);
+        if x == n {
+            return over;
+        }
+        let m = put_counter(limits, s.bounds, n, holders, unbounded, k, x, short, more);
+        over = over_more(over, m);
+        i += 1;
+    }
+}

@@ -1,0 +1,3 @@
+pub mod BadRows
+pub mod Meeting
+pub mod Start

@@ -1,0 +1,66 @@
+-- The loop's invariant: the bad is met exactly where its items from row i on are.
+use Prim.Native.Nat.{_+_, _-_, _≤_}
+use mathlib.Core.Path.{_≡_, refl, sym, _∙_}
+use borrow.Author.Needs.{needs}
+use Rattle.model.specs.Bads.{bad-rows, met}
+use Rattle.ceilings_met.specs.Items.{most}
+use Rattle.ceilings_met.proofs.BadRows.{bad-inside}
+use Rattle.ceilings_met.proofs.Meeting.{meets-end, meets-not, meets-next}
+use Rattle.ceilings_met.proofs.meets.Statement.{statement}
+use Rattle.ceilings_met.proofs.meets.Tie as tie
+
+abbrev Inv-loop : tie.InvT-loop
+Inv-loop ws s n limits items k r i₀ i = (met (most ws s n k) (bad-rows ws s) r ≡ met (most ws s n k) (bad-rows ws s) i) × (i ≤ s .conditions + 3)
+
+abbrev μ-loop : tie.MeasureT-loop
+μ-loop ws s n limits items k r i₀ i = s .conditions + 3 - i
+
+loop-holds : tie.Need-loop-holds Inv-loop μ-loop
+loop-holds c = (refl, search needs)
+
+bad-tag-requires : tie.Need-bad-tag-requires Inv-loop μ-loop
+bad-tag-requires c κs = search needs
+
+returns : tie.Need-returns Inv-loop μ-loop
+returns c = let a = c .before .before .before .before .before .before .args in meets-end (a .ws .now) (a .s) (a .n) (a .k) _ _ _ (c .before .before .loop .inv .0) (c .before .bad-tag .ensures) (c .if1 .taken)
+
+add-bad-number : tie.Need-add-bad-number Inv-loop μ-loop
+add-bad-number c = search needs
+
+bad-number-requires : tie.Need-bad-number-requires Inv-loop μ-loop
+bad-number-requires c κs = search needs
+
+item-count-requires : tie.Need-item-count-requires Inv-loop μ-loop
+item-count-requires c κs = let p = c .before .before .before .before .before .before .before .pre in (p .0, (search needs, sym (c .before .before .bad-tag .ensures) ∙ c .before .if1 .left))
+
+returns-2 : tie.Need-returns-2 Inv-loop μ-loop
+returns-2 c = let a = c .before .before .before .before .before .before .before .before .before .args in meets-not (a .ws .now) (a .s) (a .n) (a .k) _ _ _ (c .before .before .before .before .before .loop .inv .0) (c .before .before .before .before .bad-tag .ensures) (c .before .before .before .if1 .left) _ _ (c .before .before .bad-number .ensures) (c .before .item-count .ensures) (search needs)
+
+add-i : tie.Need-add-i Inv-loop μ-loop
+add-i c = search needs
+
+loop-less : tie.Need-loop-less Inv-loop μ-loop
+loop-less c = let h = bad-inside _ _ _ (sym (c .before .before .before .before .bad-tag .ensures) ∙ c .before .before .before .if1 .left) in search needs
+
+loop-again : tie.Need-loop-again Inv-loop μ-loop
+loop-again c =
+    let a = c .before .before .before .before .before .before .before .before .before .args in
+    let h = bad-inside _ _ _ (sym (c .before .before .before .before .bad-tag .ensures) ∙ c .before .before .before .if1 .left) in
+    (meets-next (a .ws .now) (a .s) (a .n) (a .k) _ _ _ (c .before .before .before .before .before .loop .inv .0) (c .before .before .before .before .bad-tag .ensures) (c .before .before .before .if1 .left) _ _ (c .before .before .bad-number .ensures) (c .before .item-count .ensures) (search needs), search needs)
+
+pub meets-spec : {M : Type 1} → statement M
+meets-spec =
+    tie.close
+    (tie.spec
+    Inv-loop
+    μ-loop
+    loop-holds
+    bad-tag-requires
+    returns
+    add-bad-number
+    bad-number-requires
+    item-count-requires
+    returns-2
+    add-i
+    loop-less
+    loop-again)
