@@ -58,6 +58,7 @@ module _ (c : Columns) (f : ℕ → ℕ) (w : ℕ) where
   pub gathered-values : (t : List ℕ) (i a n : ℕ) → i ≡ c .size → Gathered c f w t i → Row t w n → f a ≡ n → ((k : ℕ) → k < c .size → f (left c k) ≡ n → left c k ≡ a) → Values c a w n t
   gathered-values t i a n e g row same apart = record {
     row = row;
+    below = λ k l. g .small k (omega arith);
     holds = λ v h. both (member t w n v) (has c a v)
         (λ z. let (k, l, x, y) = g .only n v h z in has-iff c a v .1 (record { at = k; below = omega arith; first = apart k (omega arith) x; second = y }))
         (λ z. let m = has-iff c a v .0 z in

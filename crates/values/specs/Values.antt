@@ -5,7 +5,7 @@ use mathlib.Core.Bool.{Bool, true, false}
 use mathlib.Core.List.{List}
 use lib.Dec.{eqb, leb}
 use lib.ListN.{length, getD}
-use Rattle.model.specs.Words.{Columns, left}
+use Rattle.model.specs.Words.{Columns, left, right}
 use Rattle.model.specs.Rows.{Program, size, num}
 use Rattle.model.specs.Heads.{is-class}
 use Rattle.model.specs.Tables.{Tables, has}
@@ -31,6 +31,7 @@ pub record Room (w k : ℕ) (sets : List ℕ) : Type 0 where
 -- set k has the values that the list pairs with a
 pub record Values (c : Columns) (a w k : ℕ) (sets : List ℕ) : Type 0 where
   pub row : Row sets w k
+  pub below : (i : ℕ) → i < c .size → right c i < 64 * w
   pub holds : (v : ℕ) → v < 64 * w → member sets w k v ≡ has c a v
 
 -- set n has the values of the name n
