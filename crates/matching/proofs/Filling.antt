@@ -29,7 +29,7 @@ use Rattle.matching.proofs.Coding.{code-zero, unmade-code}
 use Rattle.matching.proofs.Subpatterns.{pattern-deep}
 
 -- a code that is not 0, and one that is 1
-code-some : (m h : Bool) → not (eqb (code m h) 0) ≡ m
+pub code-some : (m h : Bool) → not (eqb (code m h) 0) ≡ m
 unfolding code
 code-some true true = refl
 code-some true false = refl

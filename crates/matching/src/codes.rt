@@ -20,7 +20,7 @@ ghost use Rattle.values.specs.Values.{width, Flow-sets};
 ghost use Rattle.matching.specs.Patterns.{Standing, Is-code, Is-values-code, Matched, Matches};
 
 // The worse of two codes.
-fn worse(a: usize, b: usize) -> usize
+pub fn worse(a: usize, b: usize) -> usize
     ensures { λ c. ⌜ c ≡ max a b ⌝ }
 {
     if a < b { b } else { a }
