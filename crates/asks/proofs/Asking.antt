@@ -134,7 +134,7 @@ pub there-no : (b : Bool) → b ≡ false → 2 ≡ there-code b
 unfolding there-code
 there-no b e = rw e
 
-there-most : (b : Bool) → there-code b ≤ 2
+pub there-most : (b : Bool) → there-code b ≤ 2
 unfolding there-code
 there-most true = omega arith
 there-most false = omega arith

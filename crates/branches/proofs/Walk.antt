@@ -77,7 +77,7 @@ has-there t {c} of r low b e =
     (λ z. has-iff (t .states) c r .1 (has-state-iff t c r .0 z)))
 
 -- the weights of at most 16 branches
-power-low : (n j : ℕ) → j + n ≡ 16 → 2 ^ j ≤ 65536
+pub power-low : (n j : ℕ) → j + n ≡ 16 → 2 ^ j ≤ 65536
 power-low zero j e = let z : j ≡ 16 = omega arith in rw z (omega arith)
 power-low (suc n) j e = let z = power-low n (suc j) (omega arith) in omega arith
 
