@@ -20,7 +20,7 @@ use Rattle.matching.specs.Patterns.{code, values-code}
 use Rattle.branches.specs.Taken.{branch-code, code-closed, codes-closed}
 
 module _ (l : Columns) (n : ℕ) where
-  each-both : (f g : ℕ → Bool) → each l n (λ v. f v && g v) ≡ each l n f && each l n g
+  pub each-both : (f g : ℕ → Bool) → each l n (λ v. f v && g v) ≡ each l n f && each l n g
   each-both f g =
       both (each l n (λ v. f v && g v)) (each l n f && each l n g)
       (λ h. and-intro (each l n f) (each l n g)
