@@ -1,0 +1,54 @@
+-- What a call, a send and a spawn ask because of one value of the name that they read, whatever the class: as a code.
+use Prim.Native.Nat.{ℕ, _+_}
+use mathlib.Core.Path.{_≡_}
+use mathlib.Core.Bool.{Bool, true, false, _&&_}
+use lib.Dec.{eqb}
+use Rattle.model.specs.Rows.{Program, tag, num}
+use Rattle.model.specs.Heads.{call-at, is-class, parameters, body, takes}
+use Rattle.model.specs.Tables.{Tables, has, each, some-of, state, has-state}
+use Rattle.model.specs.Closed.{passes}
+use Rattle.branches.specs.Taken.{code-closed}
+
+-- 1 where it is there, 2 where it lacks
+unfoldable pub there-code : Bool → ℕ
+there-code true = 1
+there-code false = 2
+
+-- the call at row r, where the callee may be f: its parameters hold the arguments' values. (The body as a state depends on the class.)
+unfoldable pub call-asks : Program → Tables → ℕ → ℕ → ℕ
+call-asks p t r f =
+    elim (takes p f (num p (r + 2))) [
+      | true ↦ elim (passes t (call-at p r) (parameters p f)) [ true ↦ 0 | false ↦ 2 ]
+      | false ↦ 0
+    ]
+
+-- the send at row r, where the target may be d
+unfoldable pub send-asks : Program → Tables → ℕ → ℕ → ℕ
+send-asks p t r d =
+    elim (is-class p d) [
+      | true ↦ elim (some-of (t .flow) (num p (r + 2)) (λ v. true)) [
+        | true ↦ there-code (each (t .flow) (num p (r + 2)) (has (t .mail) d) && each (t .flow) (num p (r + 2)) (has (t .flow) (num p r)))
+        | false ↦ 0
+      ]
+      | false ↦ 0
+    ]
+
+-- the spawn at row r, where the function may be f
+unfoldable pub spawn-asks : Program → Tables → ℕ → ℕ → ℕ
+spawn-asks p t r f =
+    elim (takes p f 0) [
+      | true ↦ there-code (has (t .flow) (num p r) r && has-state t (state r (body p f)))
+      | false ↦ 0
+    ]
+
+-- the head at row r by its tag, with one value of the name that it reads first
+unfoldable pub asks : Program → Tables → ℕ → ℕ → ℕ
+asks p t r x =
+    elim (eqb (tag p r) 4) [
+      | true ↦ call-asks p t r x
+      | false ↦ elim (eqb (tag p r) 5) [ true ↦ send-asks p t r x | false ↦ spawn-asks p t r x ]
+    ]
+
+-- k is the worst of the codes with all values of that name: what they ask together, where the state is there or not
+pub record Asked (p : Program) (t : Tables) (r k : ℕ) : Type 0 where
+  pub together : (there : Bool) → each (t .flow) (num p (r + 1)) (λ x. code-closed (asks p t r x) there) ≡ code-closed k there

@@ -1,0 +1,7 @@
+pub mod Arguments
+pub mod Chains
+pub mod Coding
+pub mod Filling
+pub mod Leaves
+pub mod Subpatterns
+pub mod Valued

@@ -1,0 +1,114 @@
+// The code of a pattern: whether it may match, and whether its names then hold what they are to.
+use lists::word;
+use model::Sizes;
+use program::rows::num;
+use program::rows::tag;
+use sets::common;
+use sets::meets;
+use sets::within;
+use values::width;
+ghost use mathlib.Core.Path.{_≡_};
+ghost use mathlib.Core.Bool.{true};
+ghost use Prim.Native.Nat.{_+_, _<_, max};
+ghost use Rattle.model.specs.Rows.{program, size, tag};
+ghost use Rattle.model.specs.Tables.{tables};
+ghost use Rattle.model.specs.Closed.{same-constructor};
+ghost use Rattle.bits.specs.Bits.{Row};
+ghost use Rattle.lists.specs.Ready.{Ready};
+ghost use Rattle.positions.specs.Positions.{Ends};
+ghost use Rattle.values.specs.Values.{width, Flow-sets};
+ghost use Rattle.matching.specs.Patterns.{Standing, Is-code, Is-values-code, Matched, Matches};
+
+// The worse of two codes.
+pub fn worse(a: usize, b: usize) -> usize
+    ensures { λ c. ⌜ c ≡ max a b ⌝ }
+{
+    if a < b { b } else { a }
+}
+
+// The code of the pattern at row q, which binds no constructor's parts, with the values of set k.
+fn leaf_code(ws: &[u16], s: Sizes, flow: &[u64], sets: &[u64], k: usize, q: usize, kind: usize) -> usize
+    requires { ⌜ Ready (now ws) s ⌝ }
+    requires { ⌜ Flow-sets (program (now ws) s) (tables (now ws) s) (now flow) ⌝ }
+    requires { ⌜ Row (now sets) (width (s .rows)) k ⌝ }
+    requires { ⌜ Standing (program (now ws) s) q ⌝ }
+    requires { ⌜ (kind ≡ tag (program (now ws) s) q) × (kind ≡ 31 → ⊥) ⌝ }
+    ensures { λ c. ⌜ Is-values-code (program (now (ws .entry)) s) (tables (now (ws .entry)) s) (now (sets .entry)) k q c ⌝ }
+{
+    let w = width(s);
+    if !meets(sets, sets, w, k, k) {
+        return 0;
+    }
+    if kind != 30 {
+        return 1;
+    }
+    let name = num(ws, s, q);
+    if within(sets, flow, w, k, name) {
+        1
+    } else {
+        2
+    }
+}
+
+// The code of the pattern at row q with the values of set k.
+pub fn values_code(
+    ws: &[u16],
+    s: Sizes,
+    flow: &[u64],
+    may: &[u64],
+    held: &[u64],
+    sets: &[u64],
+    k: usize,
+    q: usize,
+) -> usize
+    requires { ⌜ Ready (now ws) s ⌝ }
+    requires { ⌜ Flow-sets (program (now ws) s) (tables (now ws) s) (now flow) ⌝ }
+    requires { ⌜ Matched (program (now ws) s) (tables (now ws) s) (now may) (now held) q ⌝ }
+    requires { ⌜ Row (now sets) (width (s .rows)) k ⌝ }
+    requires { ⌜ Standing (program (now ws) s) q ⌝ }
+    ensures { λ c. ⌜ Is-values-code (program (now (ws .entry)) s) (tables (now (ws .entry)) s) (now (sets .entry)) k q c ⌝ }
+{
+    let kind = tag(ws, s, q);
+    if kind == 31 {
+        let w = width(s);
+        return common(sets, may, held, w, k, q);
+    }
+    leaf_code(ws, s, flow, sets, k, q, kind)
+}
+
+// The code of the constructor pattern at row q with the value v of that constructor, by those of its subpatterns with the arguments' values.
+pub fn arguments_code(
+    ws: &[u16],
+    s: Sizes,
+    afters: &[u16],
+    flow: &[u64],
+    may: &[u64],
+    held: &[u64],
+    q: usize,
+    v: usize,
+) -> usize
+    requires { ⌜ Ready (now ws) s ⌝ }
+    requires { ⌜ Ends (program (now ws) s) (now afters) ⌝ }
+    requires { ⌜ Flow-sets (program (now ws) s) (tables (now ws) s) (now flow) ⌝ }
+    requires { ⌜ Matches (program (now ws) s) (tables (now ws) s) (now may) (now held) (q + 1) ⌝ }
+    requires { ⌜ Standing (program (now ws) s) q ⌝ }
+    requires { ⌜ (tag (program (now ws) s) q ≡ 31) × (same-constructor (program (now ws) s) q v ≡ true) ⌝ }
+    ensures { λ c. ⌜ Is-code (program (now (ws .entry)) s) (tables (now (ws .entry)) s) q v c ⌝ }
+{
+    let made = num(ws, s, q);
+    let arity = num(ws, s, made);
+    let mut worst = 1;
+    let mut sub = q + 1;
+    let mut i = 0;
+    while i < arity {
+        let name = num(ws, s, v + 2 + i);
+        let code = values_code(ws, s, flow, may, held, flow, name, sub);
+        if code == 0 {
+            return 0;
+        }
+        worst = worse(worst, code);
+        sub = word(afters, sub);
+        i += 1;
+    }
+    worst
+}

@@ -1,0 +1,65 @@
+// What a head asks whatever the class.
+use asks::asked;
+use branches::taken_bits;
+use model::Sizes;
+use program::rows::num;
+use program::rows::tag;
+use sets::holds;
+use values::width;
+ghost use mathlib.Core.Path.{_≡_};
+ghost use mathlib.Core.Logic.{_⊎_};
+ghost use Rattle.model.specs.Rows.{program, tag, num};
+ghost use Rattle.model.specs.Tables.{tables, has};
+ghost use Rattle.lists.specs.Ready.{Ready};
+ghost use Rattle.positions.specs.Positions.{Ends};
+ghost use Rattle.values.specs.Values.{Flow-sets, Mail-sets, Flow-starts};
+ghost use Rattle.matching.specs.Patterns.{Matches};
+ghost use Rattle.asks.specs.Asks.{there-code};
+ghost use Rattle.settled.specs.Settled.{Settled};
+
+// Whether the name bound at row r holds that row: 1 where it does, 2 where it lacks.
+fn named_code(ws: &[u16], s: Sizes, flow: &[u64], r: usize) -> usize
+    requires { ⌜ Ready (now ws) s ⌝ }
+    requires { ⌜ Flow-sets (program (now ws) s) (tables (now ws) s) (now flow) ⌝ }
+    requires { ⌜ (tag (program (now ws) s) r ≡ 2) ⊎ (tag (program (now ws) s) r ≡ 3) ⌝ }
+    ensures { λ k. ⌜ k ≡ there-code (has (tables (now (ws .entry)) s .flow) (num (program (now (ws .entry)) s) r) r) ⌝ }
+{
+    let name = num(ws, s, r);
+    if holds(flow, width(s), name, r) {
+        1
+    } else {
+        2
+    }
+}
+
+// What the head at row r asks.
+pub fn settle(
+    ws: &[u16],
+    s: Sizes,
+    afters: &[u16],
+    starts: &[u16],
+    flow: &[u64],
+    mail: &[u64],
+    may: &[u64],
+    held: &[u64],
+    r: usize,
+) -> usize
+    requires { ⌜ Ready (now ws) s ⌝ }
+    requires { ⌜ Ends (program (now ws) s) (now afters) ⌝ }
+    requires { ⌜ Flow-starts (program (now ws) s) (tables (now ws) s) (now starts) ⌝ }
+    requires { ⌜ Flow-sets (program (now ws) s) (tables (now ws) s) (now flow) ⌝ }
+    requires { ⌜ Mail-sets (program (now ws) s) (tables (now ws) s) (now mail) ⌝ }
+    requires { ⌜ Matches (program (now ws) s) (tables (now ws) s) (now may) (now held) 0 ⌝ }
+    ensures { λ k. ⌜ Settled (program (now (ws .entry)) s) (tables (now (ws .entry)) s) r k ⌝ }
+{
+    match tag(ws, s, r) {
+        2 | 3 => named_code(ws, s, flow, r),
+        4 | 5 | 6 => asked(ws, s, starts, flow, mail, r),
+        8 => {
+            let name = num(ws, s, r);
+            let count = num(ws, s, r + 1);
+            taken_bits(ws, s, afters, flow, may, held, flow, name, r + 2, count)
+        }
+        _ => 0,
+    }
+}
