@@ -157,7 +157,7 @@ pub asks-most : (p : Program) (t : Tables) (r x : ℕ) → asks p t r x ≤ 2
 unfolding asks call-asks send-asks spawn-asks
 asks-most p t r x = by (eqb (tag p r) 4) (eqb (tag p r) 5) (takes p x (num p (r + 2))) (passes t (call-at p r) (parameters p x)) (is-class p x) (some-of (t .flow) (num p (r + 2)) (λ v. true)) (takes p x 0) _ _
   where
-    by : (a b c d e f g h i : Bool) → elim a [ | true ↦ elim c [ | true ↦ elim d [ true ↦ 0 | false ↦ 2 ] | false ↦ 0 ] | false ↦ elim b [ | true ↦ elim e [ | true ↦ elim f [ | true ↦ there-code h | false ↦ 0 ] | false ↦ 0 ] | false ↦ elim g [ | true ↦ there-code i | false ↦ 0 ] ] ] ≤ 2
+    by : (a b c d e f g h i : Bool) → elim a [ true ↦ elim c [ true ↦ elim d [ true ↦ 0 | false ↦ 2 ] | false ↦ 0 ] | false ↦ elim b [ true ↦ elim e [ true ↦ elim f [ true ↦ there-code h | false ↦ 0 ] | false ↦ 0 ] | false ↦ elim g [ true ↦ there-code i | false ↦ 0 ] ] ] ≤ 2
     by true b true true e f g h i = omega arith
     by true b true false e f g h i = omega arith
     by true b false d e f g h i = omega arith

@@ -14,7 +14,8 @@ unfoldable pub there-code : Bool → ℕ
 there-code true = 1
 there-code false = 2
 
--- the call at row r, where the callee may be f: its parameters hold the arguments' values. (The body as a state depends on the class.)
+-- the call at row r, where the callee may be f: its parameters hold the arguments' values. (The body as a state
+-- depends on the class.)
 unfoldable pub call-asks : Program → Tables → ℕ → ℕ → ℕ
 call-asks p t r f =
     elim (takes p f (num p (r + 2))) [
@@ -27,7 +28,9 @@ unfoldable pub send-asks : Program → Tables → ℕ → ℕ → ℕ
 send-asks p t r d =
     elim (is-class p d) [
       | true ↦ elim (some-of (t .flow) (num p (r + 2)) (λ v. true)) [
-        | true ↦ there-code (each (t .flow) (num p (r + 2)) (has (t .mail) d) && each (t .flow) (num p (r + 2)) (has (t .flow) (num p r)))
+        | true ↦ there-code
+            (each (t .flow) (num p (r + 2)) (has (t .mail) d) &&
+            each (t .flow) (num p (r + 2)) (has (t .flow) (num p r)))
         | false ↦ 0
       ]
       | false ↦ 0
@@ -51,4 +54,5 @@ asks p t r x =
 
 -- k is the worst of the codes with all values of that name: what they ask together, where the state is there or not
 pub record Asked (p : Program) (t : Tables) (r k : ℕ) : Type 0 where
-  pub together : (there : Bool) → each (t .flow) (num p (r + 1)) (λ x. code-closed (asks p t r x) there) ≡ code-closed k there
+  pub together :
+      (there : Bool) → each (t .flow) (num p (r + 1)) (λ x. code-closed (asks p t r x) there) ≡ code-closed k there

@@ -1,4 +1,5 @@
-// What a call, a send and a spawn ask whatever the class, as codes: 0 nothing, 1 the rest as a state, 2 something lacks.
+// What a call, a send and a spawn ask whatever the class, as codes: 0 nothing, 1 the rest as a state, 2 something
+// lacks.
 use lists::flow_value;
 use lists::state_index;
 use lists::word;
@@ -40,7 +41,9 @@ fn passes(ws: &[u16], s: Sizes, flow: &[u64], r: usize, f: usize) -> bool
     requires { ⌜ Flow-sets (program (now ws) s) (tables (now ws) s) (now flow) ⌝ }
     requires { ⌜ tag (program (now ws) s) r ≡ 4 ⌝ }
     requires { ⌜ takes (program (now ws) s) f (num (program (now ws) s) (r + 2)) ≡ true ⌝ }
-    ensures { λ b. ⌜ b ≡ passes (tables (now (ws .entry)) s) (call-at (program (now (ws .entry)) s) r) (parameters (program (now (ws .entry)) s) f) ⌝ }
+    ensures { λ b. ⌜ b ≡
+        passes (tables (now (ws .entry)) s) (call-at (program (now (ws .entry)) s) r)
+        (parameters (program (now (ws .entry)) s) f) ⌝ }
 {
     let n = num(ws, s, r + 2);
     let mut i = 0;
@@ -66,11 +69,7 @@ fn call_asks(ws: &[u16], s: Sizes, flow: &[u64], r: usize, f: usize) -> usize
     if !takes(ws, s, f, count) {
         return 0;
     }
-    if passes(ws, s, flow, r, f) {
-        0
-    } else {
-        2
-    }
+    if passes(ws, s, flow, r, f) { 0 } else { 2 }
 }
 
 // What the send at row r asks where the target may be d.

@@ -1,4 +1,5 @@
--- Reading by a grammar row by row: what one row makes of the items that are still to come, and the first wrong row of those that are left.
+-- Reading by a grammar row by row: what one row makes of the items that are still to come, and the first wrong row of
+-- those that are left.
 use Prim.Native.Nat.{ℕ, _-_}
 use mathlib.Core.List.{List, [], _∷_, _++_}
 use mathlib.Core.Option.{Option, none, Option·map}

@@ -101,7 +101,8 @@ fn fill_bound(ws: &[u16], s: Sizes, n: usize, k: usize, e: usize, limits: &mut [
     requires { ⌜ Blank (now limits) k ⌝ }
     requires { ⌜ limit-cells (k + 1) ≤ length (now limits) ⌝ }
     ensures { λ r. ⌜ r ≡ bound-end n (bound-entries (now (ws .entry)) s) e ⌝ }
-    ensures { λ r. ⌜ Bound-filled n (bound-entries (now (ws .entry)) s) k e (now (limits .entry)) (now (limits .exit)) ⌝ }
+    ensures { λ r. ⌜ Bound-filled n (bound-entries (now (ws .entry)) s) k e (now (limits .entry))
+        (now (limits .exit)) ⌝ }
 {
     let mut i = e;
     loop {

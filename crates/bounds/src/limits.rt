@@ -50,9 +50,12 @@ pub fn start_check(ws: &[u16], s: Sizes, n: usize, limits: &[u16], x0: usize) ->
     requires { ⌜ Whole (now ws) s ⌝ }
     requires { ⌜ n ≤ maxCounters ⌝ }
     requires { ⌜ Limits-table (bounds (now ws) s n) (now limits) ⌝ }
-    requires { ⌜ x0 ≡ state-index (tables (now ws) s) (state (size (program (now ws) s)) (start (program (now ws) s))) ⌝ }
+    requires { ⌜ x0 ≡
+        state-index (tables (now ws) s) (state (size (program (now ws) s)) (start (program (now ws) s))) ⌝ }
     requires { ⌜ x0 < n ⌝ }
-    ensures { λ r. ⌜ r ≡ answer (start-check s (program (now (ws .entry)) s) (tables (now (ws .entry)) s) (bounds (now (ws .entry)) s n)) ⌝ }
+    ensures { λ r. ⌜ r ≡
+        answer (start-check s (program (now (ws .entry)) s) (tables (now (ws .entry)) s)
+        (bounds (now (ws .entry)) s n)) ⌝ }
 {
     for k in 0..s.bounds {
         if 1 <= limit(limits, k, x0) {

@@ -154,10 +154,12 @@ module _ {p : Program} {t : Tables} {sets : List ℕ} {n q : ℕ} where
       code-low l a = code-most _ _
 
       pub taking-lacks : 2 ≤ c → Is-taken p t sets n q count lacks
-      taking-lacks two = record { of-list = λ l a of.
-          let x = here l a of in
-          let y = code-low l a in
-          sym (k .to-come l a of ∙ (ap (bits-left (branch-code p t l a) bits weight) (b .rows) ∙ left-lacks (branch-code p t l a) bits weight row _ (omega arith))) }
+      taking-lacks two = record {
+        of-list = λ l a of.
+            let x = here l a of in
+            let y = code-low l a in
+            sym (k .to-come l a of ∙ (ap (bits-left (branch-code p t l a) bits weight) (b .rows) ∙ left-lacks (branch-code p t l a) bits weight row _ (omega arith)));
+      }
 
       pub taking-next : c < 2 → (bits′ row′ : ℕ) → bits′ ≡ bits + c * weight → row′ ≡ past-items p branch row → Taking p t sets n q count row′ (left - 1) bits′ (weight * 2)
       taking-next less bits′ row′ eb er =

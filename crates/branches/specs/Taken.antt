@@ -1,4 +1,5 @@
--- The branches of a case or receive by their codes: which of them may match, as bits, and what is asked of their expressions.
+-- The branches of a case or receive by their codes: which of them may match, as bits, and what is asked of their
+-- expressions.
 use Prim.Native.Nat.{ℕ, _+_, _*_, _/_, _^_, _<_}
 use mathlib.Core.Path.{_≡_}
 use mathlib.Core.Bool.{Bool, true, false, _&&_, _||_}
@@ -49,11 +50,14 @@ taken-bits f qs = elim (lacking f qs) [ true ↦ lacks | false ↦ code-bits f 1
 -- the expressions of the branches whose bits are set are states
 unfoldable pub bodies-closed : Program → Tables → ℕ → ℕ → List ℕ → Bool
 bodies-closed p t c k [] = true
-bodies-closed p t c k (q ∷ qs) = implies (odd k) (has-state t (state c (branch-body p q))) && bodies-closed p t c (k / 2) qs
+bodies-closed p t c k (q ∷ qs) = implies (odd k) (has-state t (state c (branch-body p q))) &&
+    bodies-closed p t c (k / 2) qs
 
 -- k has the bits of the branches with the values of set n, whatever list they are of
 pub record Is-taken (p : Program) (t : Tables) (sets : List ℕ) (n q count k : ℕ) : Type 0 where
-  pub of-list : (l : Columns) (a : ℕ) → Values l a (width (size p)) n sets → k ≡ taken-bits (branch-code p t l a) (branch-rows p count q)
+  pub of-list :
+      (l : Columns) (a : ℕ) → Values l a (width (size p)) n sets →
+      k ≡ taken-bits (branch-code p t l a) (branch-rows p count q)
 
 -- what the bits k say of the branches qs with the values that the list pairs with a
 pub record Bits-told (p : Program) (t : Tables) (l : Columns) (a : ℕ) (qs : List ℕ) (k : ℕ) : Type 0 where

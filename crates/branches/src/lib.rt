@@ -21,7 +21,8 @@ ghost use Rattle.branches.specs.Taken.{Is-taken, bodies-closed};
 // More than any bits of 16 branches: something lacks.
 pub const LACKS: usize = 65536;
 
-// Which of the branches from row q on may match a value of set n, as bits; LACKS where one that may does not find its names' values.
+// Which of the branches from row q on may match a value of set n, as bits; LACKS where one that may does not find its
+// names' values.
 pub fn taken_bits(
     ws: &[u16],
     s: Sizes,
@@ -40,7 +41,8 @@ pub fn taken_bits(
     requires { ⌜ Matches (program (now ws) s) (tables (now ws) s) (now may) (now held) 0 ⌝ }
     requires { ⌜ Row (now sets) (width (s .rows)) n ⌝ }
     requires { ⌜ Run (program (now ws) s) q count × (count ≤ maxBranches) ⌝ }
-    ensures { λ k. ⌜ Is-taken (program (now (ws .entry)) s) (tables (now (ws .entry)) s) (now (sets .entry)) n q count k ⌝ }
+    ensures { λ k. ⌜ Is-taken (program (now (ws .entry)) s) (tables (now (ws .entry)) s)
+        (now (sets .entry)) n q count k ⌝ }
 {
     let mut row = q;
     let mut left = count;
@@ -89,7 +91,9 @@ pub fn bodies_closed(
     requires { ⌜ Ends (program (now ws) s) (now afters) ⌝ }
     requires { ⌜ Values (tables (now ws) s .states) c (width (s .rows)) 0 (now here) ⌝ }
     requires { ⌜ Run (program (now ws) s) q count ⌝ }
-    ensures { λ b. ⌜ b ≡ bodies-closed (program (now (ws .entry)) s) (tables (now (ws .entry)) s) c bits (branch-rows (program (now (ws .entry)) s) count q) ⌝ }
+    ensures { λ b. ⌜ b ≡
+        bodies-closed (program (now (ws .entry)) s) (tables (now (ws .entry)) s) c bits
+        (branch-rows (program (now (ws .entry)) s) count q) ⌝ }
 {
     let mut row = q;
     let mut left = count;

@@ -10,7 +10,8 @@ use Rattle.model.specs.Heads.{branch-body}
 use Rattle.model.specs.Tables.{Tables, state, has-state}
 use Rattle.model.specs.Closed.{branches-closed}
 
--- of a branch with this code, whose state is there or not: 0 may not match; 1 may, and its names hold what they are to; 2 may, and some name does not
+-- of a branch with this code, whose state is there or not: 0 may not match; 1 may, and its names hold what they are
+-- to; 2 may, and some name does not
 unfoldable pub code-closed : ℕ → Bool → Bool
 code-closed k there = eqb k 0 || eqb k 1 && there
 

@@ -42,7 +42,10 @@ pub fn case_closed(
     requires { ⌜ Branches (program (now ws) s) (tables (now ws) s) (now «by_name») (now «by_mail») ⌝ }
     requires { ⌜ tag (program (now ws) s) r ≡ 8 ⌝ }
     requires { ⌜ r < 65536 ⌝ }
-    ensures { λ b. ⌜ b ≡ each (tables (now (ws .entry)) s .flow) (num (program (now (ws .entry)) s) r) (branches-closed (program (now (ws .entry)) s) (tables (now (ws .entry)) s) c (branch-rows (program (now (ws .entry)) s) (num (program (now (ws .entry)) s) (r + 1)) (r + 2))) ⌝ }
+    ensures { λ b. ⌜ b ≡
+        each (tables (now (ws .entry)) s .flow) (num (program (now (ws .entry)) s) r)
+        (branches-closed (program (now (ws .entry)) s) (tables (now (ws .entry)) s) c
+        (branch-rows (program (now (ws .entry)) s) (num (program (now (ws .entry)) s) (r + 1)) (r + 2))) ⌝ }
 {
     let mut left = num(ws, s, r + 1);
     let mut q = r + 2;
@@ -75,7 +78,9 @@ fn mail_entry(
     requires { ⌜ Branches (program (now ws) s) (tables (now ws) s) (now «by_name») (now «by_mail») ⌝ }
     requires { ⌜ tag (program (now ws) s) r ≡ 9 ⌝ }
     requires { ⌜ (r < 65536) × (j < s .mails) ⌝ }
-    ensures { λ b. ⌜ b ≡ mail-entry (program (now (ws .entry)) s) (tables (now (ws .entry)) s) c (branch-rows (program (now (ws .entry)) s) (num (program (now (ws .entry)) s) r) (r + 1)) j ⌝ }
+    ensures { λ b. ⌜ b ≡
+        mail-entry (program (now (ws .entry)) s) (tables (now (ws .entry)) s) c
+        (branch-rows (program (now (ws .entry)) s) (num (program (now (ws .entry)) s) r) (r + 1)) j ⌝ }
 {
     if mail_class(ws, s, j) != c {
         return true;
@@ -110,7 +115,10 @@ pub fn receive_closed(
     requires { ⌜ Branches (program (now ws) s) (tables (now ws) s) (now «by_name») (now «by_mail») ⌝ }
     requires { ⌜ tag (program (now ws) s) r ≡ 9 ⌝ }
     requires { ⌜ r < 65536 ⌝ }
-    ensures { λ b. ⌜ b ≡ each (tables (now (ws .entry)) s .mail) c (branches-closed (program (now (ws .entry)) s) (tables (now (ws .entry)) s) c (branch-rows (program (now (ws .entry)) s) (num (program (now (ws .entry)) s) r) (r + 1))) ⌝ }
+    ensures { λ b. ⌜ b ≡
+        each (tables (now (ws .entry)) s .mail) c
+        (branches-closed (program (now (ws .entry)) s) (tables (now (ws .entry)) s) c
+        (branch-rows (program (now (ws .entry)) s) (num (program (now (ws .entry)) s) r) (r + 1))) ⌝ }
 {
     let mut j = 0;
     while j < s.mails {

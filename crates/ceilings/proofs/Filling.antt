@@ -57,7 +57,7 @@ module _ (n : ℕ) (entries : Columns) (ceilings k e : ℕ) where
         let x : ℕ = left entries i in
         let here : Counter-here n entries limit-of _ i (f .least) = ahead-counter n entries limit-of _ i _ (f .ahead) h in
         let apart : (y : ℕ) → (y ≡ x → ⊥) → held (set cells (x * ceilings + k) (right entries i)) ceilings k y ≡ held cells ceilings k y =
-            λ y d. getD-set-other cells (x * ceilings + k) (y * ceilings + k) (right entries i) 0 (λ z. d (place ceilings x y k k inside inside z .0)) in
+        λ y d. getD-set-other cells (x * ceilings + k) (y * ceilings + k) (right entries i) 0 (λ z. d (place ceilings x y k k inside inside z .0)) in
         record {
           least = x + 1;
           ahead = here .next;

@@ -1,4 +1,5 @@
--- What the table of limits says: the limit of each counter under each ceiling, counter by counter, so that the limits of one counter stand together.
+-- What the table of limits says: the limit of each counter under each ceiling, counter by counter, so that the limits
+-- of one counter stand together.
 use Prim.Native.Nat.{ℕ, _+_, _*_, _-_, _≤_, _<_}
 use mathlib.Core.Path.{_≡_}
 use mathlib.Core.List.{List}

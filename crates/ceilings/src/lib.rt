@@ -21,7 +21,8 @@ fn fill_ceiling(ws: &[u16], s: Sizes, n: usize, k: usize, e: usize, limits: &mut
     requires { ⌜ Unfilled n (s .bounds) (now limits) k ⌝ }
     requires { ⌜ n * s .bounds ≤ length (now limits) ⌝ }
     ensures { λ r. ⌜ r ≡ bound-end n (bound-entries (now (ws .entry)) s) e ⌝ }
-    ensures { λ r. ⌜ Ceiling-filled n (bound-entries (now (ws .entry)) s) (s .bounds) k e (now (limits .entry)) (now (limits .exit)) ⌝ }
+    ensures { λ r. ⌜ Ceiling-filled n (bound-entries (now (ws .entry)) s) (s .bounds) k e (now (limits .entry))
+        (now (limits .exit)) ⌝ }
 {
     let mut i = e;
     loop {

@@ -17,7 +17,8 @@ use Rattle.ceilings_masks.specs.declared.Over.{Over}
 use Rattle.ceilings_masks.specs.Compared.{Holders, most, exceeds, Counted, Neighbours}
 
 -- the tables of one ceiling beside all others
-pub record Beside (limits : List ℕ) (ceilings n k : ℕ) (holders unbounded : List ℕ) (over : Over) (short more : List ℕ) : Type 0 where
+pub record Beside (limits : List ℕ) (ceilings n k : ℕ) (holders unbounded : List ℕ) (over : Over)
+    (short more : List ℕ) : Type 0 where
   pub room : n * ceilings ≤ length limits
   pub few : ceilings ≤ maxBounds
   pub ceiling : k < ceilings
@@ -33,20 +34,27 @@ covers limits ceilings n k ρ k′ = under n (held limits ceilings k′) (fire �
 
 -- ceiling k′ allows what counter y has after the step
 unfoldable pub passes : List ℕ → ℕ → ℕ → ℕ → Step → ℕ → Bool
-passes limits ceilings k k′ σ y = allowed (held limits ceilings k′ y) (fire (rule-of-step σ) (highest (held limits ceilings k)) y)
+passes limits ceilings k k′ σ y = allowed (held limits ceilings k′ y)
+    (fire (rule-of-step σ) (highest (held limits ceilings k)) y)
 
 -- the mask has every ceiling that holds the highest counts of ceiling k with one less at counter i, and no other
 pub record Left (limits : List ℕ) (ceilings n k i : ℕ) (m : Mask) : Type 0 where
   pub few : (j : ℕ) → j < 256 → has m j ≡ true → j < ceilings
   pub others : (j y : ℕ) → j < ceilings → has m j ≡ true → y < n → (y ≡ i → ⊥) → exceeds limits ceilings k j y ≡ false
-  pub here : (j : ℕ) → j < ceilings → has m j ≡ true → allowed (held limits ceilings j i) (most limits ceilings k i - 1) ≡ true
-  pub all : (j : ℕ) → j < ceilings → ((y : ℕ) → y < n → (y ≡ i → ⊥) → exceeds limits ceilings k j y ≡ false) → allowed (held limits ceilings j i) (most limits ceilings k i - 1) ≡ true → has m j ≡ true
+  pub here :
+      (j : ℕ) → j < ceilings → has m j ≡ true →
+      allowed (held limits ceilings j i) (most limits ceilings k i - 1) ≡ true
+  pub all :
+      (j : ℕ) → j < ceilings → ((y : ℕ) → y < n → (y ≡ i → ⊥) → exceeds limits ceilings k j y ≡ false) →
+      allowed (held limits ceilings j i) (most limits ceilings k i - 1) ≡ true → has m j ≡ true
 
--- the mask has every ceiling that covers the counts after the step; it may have others, but none that the highest counts of ceiling k exceed at a
--- counter from which the step does not take
+-- the mask has every ceiling that covers the counts after the step; it may have others, but none that the highest
+-- counts of ceiling k exceed at a counter from which the step does not take
 pub record Candidates (limits : List ℕ) (ceilings n k : ℕ) (σ : Step) (m : Mask) : Type 0 where
   pub few : (j : ℕ) → j < 256 → has m j ≡ true → j < ceilings
-  pub others : (j y : ℕ) → j < ceilings → has m j ≡ true → y < n → (y ≡ σ .from → ⊥) → takes-other σ y ≡ false → exceeds limits ceilings k j y ≡ false
+  pub others :
+      (j y : ℕ) → j < ceilings → has m j ≡ true → y < n → (y ≡ σ .from → ⊥) → takes-other σ y ≡ false →
+      exceeds limits ceilings k j y ≡ false
   pub all : (j : ℕ) → j < ceilings → ((y : ℕ) → y < n → passes limits ceilings k j σ y ≡ true) → has m j ≡ true
 
 -- what a step takes from are counters of the n, and not one twice; its kind is one of the four
@@ -59,6 +67,7 @@ pub record Step-apart (n : ℕ) (σ : Step) : Type 0 where
 unfoldable pub named : Step → ℕ → ℕ
 named σ b = getD (σ .to ∷ σ .from ∷ σ .other ∷ []) b 0
 
--- those of the mask `left`, and those that are exceeded at the counter of set b only, or at those of the sets a and b only
+-- those of the mask `left`, and those that are exceeded at the counter of set b only, or at those of the sets a and b
+-- only
 unfoldable pub reading : (left twice thrice a b : ℕ → Bool) → ℕ → Bool
 reading left twice thrice a b j = (left j || b j && not (twice j)) || (a j && b j) && not (thrice j)

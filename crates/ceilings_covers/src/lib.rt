@@ -1,4 +1,5 @@
-// Which ceilings may cover the counts after a step from the highest counts of a ceiling, as a mask; and the test of one of them.
+// Which ceilings may cover the counts after a step from the highest counts of a ceiling, as a mask; and the test of
+// one of them.
 use bounds::limits::is_allowed;
 use ceilings::highest;
 use ceilings::limit;
@@ -52,15 +53,12 @@ pub fn left_after(
 }
 
 // The same with one less at counter x too.
-fn left_reading(
-    over: Over,
-    short: &[u64],
-    left: Mask,
-    i: usize,
-    x: usize,
-) -> Mask
+fn left_reading(over: Over, short: &[u64], left: Mask, i: usize, x: usize) -> Mask
     requires { ⌜ Row (now short) 4 i × Row (now short) 4 x ⌝ }
-    ensures { λ r. ⌜ ((j : ℕ) → j < 256 → has r j ≡ reading (has left) (has (over .twice)) (has (over .thrice)) (member (now (short .entry)) 4 i) (member (now (short .entry)) 4 x) j) ⌝ }
+    ensures { λ r. ⌜
+        ((j : ℕ) → j < 256 →
+        has r j ≡ reading (has left) (has (over .twice)) (has (over .thrice)) (member (now (short .entry)) 4 i)
+        (member (now (short .entry)) 4 x) j) ⌝ }
 {
     let near = load(short, x);
     let once = without(near, over.twice);
@@ -147,7 +145,21 @@ fn by_added(
     if takes_other(step, y) {
         return m;
     }
-    and(m, one_more_at(limits, ceilings, n, holders, unbounded, over, short, more, k, y))
+    and(
+        m,
+        one_more_at(
+            limits,
+            ceilings,
+            n,
+            holders,
+            unbounded,
+            over,
+            short,
+            more,
+            k,
+            y,
+        ),
+    )
 }
 
 // The candidates for a step that can be used at the highest counts of ceiling k.
@@ -170,12 +182,50 @@ pub fn candidates(
     requires { ⌜ usable (rule-of-step step) (highest (held (now limits) ceilings k)) ≡ true ⌝ }
     ensures { λ r. ⌜ Candidates (now (limits .entry)) ceilings n k step r ⌝ }
 {
-    let taken = by_taken(limits, ceilings, n, holders, unbounded, over, short, more, k, left, step);
-    let to = by_added(limits, ceilings, n, holders, unbounded, over, short, more, k, step, step.to, taken);
+    let taken = by_taken(
+        limits,
+        ceilings,
+        n,
+        holders,
+        unbounded,
+        over,
+        short,
+        more,
+        k,
+        left,
+        step,
+    );
+    let to = by_added(
+        limits,
+        ceilings,
+        n,
+        holders,
+        unbounded,
+        over,
+        short,
+        more,
+        k,
+        step,
+        step.to,
+        taken,
+    );
     if step.kind < 2 {
         return to;
     }
-    by_added(limits, ceilings, n, holders, unbounded, over, short, more, k, step, step.other, to)
+    by_added(
+        limits,
+        ceilings,
+        n,
+        holders,
+        unbounded,
+        over,
+        short,
+        more,
+        k,
+        step,
+        step.other,
+        to,
+    )
 }
 
 // The step can be used at the highest counts of ceiling k.

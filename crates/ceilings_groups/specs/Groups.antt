@@ -32,12 +32,16 @@ Unbounded-at limits ceilings n k y = y < n → held limits ceilings k y ≡ omeg
 -- each counter is unbounded under ceiling k, or gets nothing by the rule
 abbrev pub Open-to : List ℕ → ℕ → ℕ → ℕ → Rule → Type 0
 Open-to limits ceilings n k ρ =
-    (m : Marking) (y : ℕ) → y < n → (held limits ceilings k y ≡ omega-limit) ⊎ (fire ρ m y ≤ less-if (eqb y (ρ .from)) (m y))
+    (m :
+    Marking) (y : ℕ) → y < n →
+    (held limits ceilings k y ≡ omega-limit) ⊎ (fire ρ m y ≤ less-if (eqb y (ρ .from)) (m y))
 
 -- what is known of the states below e: their rules leave them, and are open to the ceilings of their set
 pub record Groups-upto (p : Program) (t : Tables) (limits : List ℕ) (ceilings n e : ℕ) (group : List ℕ) : Type 0 where
   pub leaves : (i : ℕ) (ρ : Rule) → i < e → List·Memᴰ ρ (state-rules p t i (state-at t i)) → ρ .from ≡ i
-  pub opens : (i k : ℕ) (ρ : Rule) → i < e → k < 256 → member group 4 i k ≡ true → List·Memᴰ ρ (state-rules p t i (state-at t i)) → Open-to limits ceilings n k ρ
+  pub opens :
+      (i k : ℕ) (ρ : Rule) → i < e → k < 256 → member group 4 i k ≡ true →
+      List·Memᴰ ρ (state-rules p t i (state-at t i)) → Open-to limits ceilings n k ρ
 
 abbrev pub step : ℕ → ℕ → ℕ → ℕ → Step
 step from to kind other = record { from = from; to = to; kind = kind; other = other }

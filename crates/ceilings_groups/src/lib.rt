@@ -46,13 +46,17 @@ fn open_to(
 ) -> Mask
     requires { ⌜ Holders (now limits) ceilings n (now holders) (now unbounded) ⌝ }
     ensures { λ r. ⌜ ((k : ℕ) → k < 256 → has r k ≡ true → Unbounded-at (now (limits .entry)) ceilings n k to) ⌝ }
-    ensures { λ r. ⌜ (2 ≤ kind → (k : ℕ) → k < 256 → has r k ≡ true → Unbounded-at (now (limits .entry)) ceilings n k other) ⌝ }
+    ensures { λ r. ⌜
+        (2 ≤ kind → (k : ℕ) → k < 256 → has r k ≡ true → Unbounded-at (now (limits .entry)) ceilings n k other) ⌝ }
 {
     let at_to = open_at(limits, ceilings, n, holders, unbounded, to);
     if kind < 2 {
         return at_to;
     }
-    and(at_to, open_at(limits, ceilings, n, holders, unbounded, other))
+    and(
+        at_to,
+        open_at(limits, ceilings, n, holders, unbounded, other),
+    )
 }
 
 // The ceilings that have no bound where the m rules add, all of one kind: where they lead, and what they put or start.
@@ -69,14 +73,21 @@ pub fn open_to_all(
 ) -> Mask
     requires { ⌜ Holders (now limits) ceilings n (now holders) (now unbounded) ⌝ }
     requires { ⌜ (m ≤ length (now tos)) × (m ≤ length (now others)) ⌝ }
-    ensures { λ r. ⌜ ((k j : ℕ) → k < 256 → j < m → has r k ≡ true → Unbounded-at (now (limits .entry)) ceilings n k (getD (now (tos .entry)) j 0)) ⌝ }
-    ensures { λ r. ⌜ (2 ≤ kind → (k j : ℕ) → k < 256 → j < m → has r k ≡ true → Unbounded-at (now (limits .entry)) ceilings n k (getD (now (others .entry)) j 0)) ⌝ }
+    ensures { λ r. ⌜
+        ((k j : ℕ) → k < 256 → j < m → has r k ≡ true →
+        Unbounded-at (now (limits .entry)) ceilings n k (getD (now (tos .entry)) j 0)) ⌝ }
+    ensures { λ r. ⌜
+        (2 ≤ kind → (k j : ℕ) → k < 256 → j < m → has r k ≡ true →
+        Unbounded-at (now (limits .entry)) ceilings n k (getD (now (others .entry)) j 0)) ⌝ }
 {
     let mut all = below(256);
     for j in 0..m {
         let to = tos[j] as usize;
         let other = others[j] as usize;
-        all = and(all, open_to(limits, ceilings, n, holders, unbounded, kind, to, other));
+        all = and(
+            all,
+            open_to(limits, ceilings, n, holders, unbounded, kind, to, other),
+        );
     }
     all
 }

@@ -325,7 +325,7 @@ module _ (ws : List ℕ) (s : Sizes) (n : ℕ) (limits : List ℕ) where
   groups-next i m kd tos others group group′ r rs is small led added set g =
       let tg : ℕ = tag (program ws s) (right (tables ws s .states) i) in
       let found : (ρ : Rule) → List·Memᴰ ρ (state-rules (program ws s) (tables ws s) i (state-at (tables ws s) i)) → (j : ℕ) × (j < m) × (ρ ≡ listed-rule (kind tg) i tos others j) =
-          λ ρ w. listed-elim (kind tg) i tos others m ρ (subst (λ ρs. List·Memᴰ ρ ρs) (sym (rs .rules)) w) in
+      λ ρ w. listed-elim (kind tg) i tos others m ρ (subst (λ ρs. List·Memᴰ ρ ρs) (sym (rs .rules)) w) in
       record {
         leaves = λ x ρ h w. elim (ℕ-discrete x i) [
           | yes z ↦ let (j, b, e) = found ρ (rw (← z) w) in rw z (ap (λ σ. σ .from) e)

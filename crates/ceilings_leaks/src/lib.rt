@@ -42,7 +42,8 @@ ghost use Rattle.ceilings_leaks.specs.Leaks.{Ceilings-ready, Rooms};
 fn kind_at(ws: &[u16], s: Sizes, i: usize) -> usize
     requires { ⌜ Ready (now ws) s ⌝ }
     requires { ⌜ i < s .states ⌝ }
-    ensures { λ r. ⌜ r ≡ effect-kind (tag (program (now (ws .entry)) s) (right (tables (now (ws .entry)) s .states) i)) ⌝ }
+    ensures { λ r. ⌜ r ≡
+        effect-kind (tag (program (now (ws .entry)) s) (right (tables (now (ws .entry)) s .states) i)) ⌝ }
     ensures { λ r. ⌜ r ≤ 3 ⌝ }
 {
     effect_kind(tag(ws, s, state_location(ws, s, i)))
@@ -72,26 +73,60 @@ pub fn fill_groups(
     others: &mut [u16],
     group: &mut [u64],
 ) -> Class
-    requires { ⌜ Rule-tables (now ws) s (now afters) (now inners) (now «flow_at») w (now flows) (now names) (now «letter_at») (now letters) (now branches) ⌝ }
+    requires { ⌜ Rule-tables (now ws) s (now afters) (now inners) (now «flow_at») w (now flows) (now names)
+        (now «letter_at») (now letters) (now branches) ⌝ }
     requires { ⌜ Ceilings-ready (now ws) s n (now limits) (now starts) (now holders) (now unbounded) ⌝ }
     requires { ⌜ Entered (program (now ws) s) (tables (now ws) s) k (now at) ⌝ }
     requires { ⌜ Rule-room s (now tos) (now others) ⌝ }
     requires { ⌜ s .states * 4 ≤ length (now group) ⌝ }
     ensures { λ e. ⌜ Entered (program (now (ws .entry)) s) (tables (now (ws .entry)) s) e (now (at .exit)) ⌝ }
-    ensures { λ _. ⌜ Groups-upto (program (now (ws .entry)) s) (tables (now (ws .entry)) s) (now (limits .entry)) (s .bounds) n (s .states) (now (group .exit)) ⌝ }
+    ensures { λ _. ⌜ Groups-upto (program (now (ws .entry)) s) (tables (now (ws .entry)) s) (now (limits .entry))
+        (s .bounds) n (s .states) (now (group .exit)) ⌝ }
 {
     let mut class = k;
     for i in 0..s.states {
         class = turn_to(ws, s, class, at, i);
-        let m = state_rules(ws, s, afters, inners, flow_at, w, flows, names, letter_at, letters, branches, class, at, i, tos, others);
+        let m = state_rules(
+            ws,
+            s,
+            afters,
+            inners,
+            flow_at,
+            w,
+            flows,
+            names,
+            letter_at,
+            letters,
+            branches,
+            class,
+            at,
+            i,
+            tos,
+            others,
+        );
         let kind = kind_at(ws, s, i);
-        store(group, i, open_to_all(limits, s.bounds, n, holders, unbounded, kind, tos, others, m));
+        store(
+            group,
+            i,
+            open_to_all(
+                limits,
+                s.bounds,
+                n,
+                holders,
+                unbounded,
+                kind,
+                tos,
+                others,
+                m,
+            ),
+        );
     }
     class
 }
 
-// Refusal 13: the first ceiling that leaks, at its first entry. Loops over the ceilings, over each one's states, over the rules of a state, and over the
-// ceilings that may cover the counts after a rule; left from inside at the first limit exceeded, the first ceiling that covers, the first that leaks.
+// Refusal 13: the first ceiling that leaks, at its first entry. Loops over the ceilings, over each one's states, over
+// the rules of a state, and over the ceilings that may cover the counts after a rule; left from inside at the first
+// limit exceeded, the first ceiling that covers, the first that leaks.
 pub fn leak_check(
     ws: &[u16],
     s: Sizes,
@@ -117,13 +152,17 @@ pub fn leak_check(
     short: &mut [u64],
     more: &mut [u64],
 ) -> Verdict
-    requires { ⌜ Rule-tables (now ws) s (now afters) (now inners) (now «flow_at») w (now flows) (now names) (now «letter_at») (now letters) (now branches) ⌝ }
+    requires { ⌜ Rule-tables (now ws) s (now afters) (now inners) (now «flow_at») w (now flows) (now names)
+        (now «letter_at») (now letters) (now branches) ⌝ }
     requires { ⌜ Ceilings-ready (now ws) s n (now limits) (now starts) (now holders) (now unbounded) ⌝ }
     requires { ⌜ Entered (program (now ws) s) (tables (now ws) s) «first_class» (now at) ⌝ }
-    requires { ⌜ Groups-upto (program (now ws) s) (tables (now ws) s) (now limits) (s .bounds) n (s .states) (now group) ⌝ }
+    requires { ⌜ Groups-upto (program (now ws) s) (tables (now ws) s) (now limits) (s .bounds) n (s .states)
+        (now group) ⌝ }
     requires { ⌜ s .states * 4 ≤ length (now group) ⌝ }
     requires { ⌜ Rooms s n (now tos) (now others) (now short) (now more) ⌝ }
-    ensures { λ r. ⌜ r ≡ answer (leak-check (now (ws .entry)) s (bounds (now (ws .entry)) s n) (rules (program (now (ws .entry)) s) (tables (now (ws .entry)) s))) ⌝ }
+    ensures { λ r. ⌜ r ≡
+        answer (leak-check (now (ws .entry)) s (bounds (now (ws .entry)) s n)
+        (rules (program (now (ws .entry)) s) (tables (now (ws .entry)) s))) ⌝ }
 {
     let mut class = first_class;
     'ceilings: for k in 0..s.bounds {
@@ -136,12 +175,40 @@ pub fn leak_check(
                 continue 'ceilings;
             }
             e += 1;
-            let left = left_after(limits, s.bounds, n, holders, unbounded, over, short, more, k, i);
+            let left = left_after(
+                limits,
+                s.bounds,
+                n,
+                holders,
+                unbounded,
+                over,
+                short,
+                more,
+                k,
+                i,
+            );
             if settled(left, group, i) {
                 continue 'states;
             }
             class = turn_to(ws, s, class, at, i);
-            let m = state_rules(ws, s, afters, inners, flow_at, w, flows, names, letter_at, letters, branches, class, at, i, tos, others);
+            let m = state_rules(
+                ws,
+                s,
+                afters,
+                inners,
+                flow_at,
+                w,
+                flows,
+                names,
+                letter_at,
+                letters,
+                branches,
+                class,
+                at,
+                i,
+                tos,
+                others,
+            );
             let kind = kind_at(ws, s, i);
             'rules: for j in 0..m {
                 let to = tos[j] as usize;
@@ -155,7 +222,19 @@ pub fn leak_check(
                 if !is_usable(limits, s.bounds, n, k, step) {
                     continue 'rules;
                 }
-                let mask = candidates(limits, s.bounds, n, holders, unbounded, over, short, more, k, left, step);
+                let mask = candidates(
+                    limits,
+                    s.bounds,
+                    n,
+                    holders,
+                    unbounded,
+                    over,
+                    short,
+                    more,
+                    k,
+                    left,
+                    step,
+                );
                 let mut a = first_set(mask);
                 'candidates: while a < 256 {
                     let k2 = a;

@@ -73,10 +73,10 @@ module _ (limits : List ℕ) (ceilings k : ℕ) where
   exceeds-none k′ x z =
       let low : highest (held limits ceilings k) x ≡ 0 = sym (highest-limit (held limits ceilings k) x 0 (sym z) (λ w. omega arith)) in
       let fine : allowed (held limits ceilings k′ x) (highest (held limits ceilings k) x) ≡ true =
-          elim (ℕ-discrete (held limits ceilings k′ x) omega-limit) [
-            | yes e ↦ rw (eq-eqb (held limits ceilings k′ x) omega-limit e)
-            | no e ↦ rw (ne-eqb (held limits ceilings k′ x) omega-limit e, low) (le-leb 0 (held limits ceilings k′ x) (omega arith))
-          ] in
+      elim (ℕ-discrete (held limits ceilings k′ x) omega-limit) [
+        | yes e ↦ rw (eq-eqb (held limits ceilings k′ x) omega-limit e)
+        | no e ↦ rw (ne-eqb (held limits ceilings k′ x) omega-limit e, low) (le-leb 0 (held limits ceilings k′ x) (omega arith))
+      ] in
       not-fails _ fine
 
   -- by what a counter says of the others

@@ -39,7 +39,8 @@ exceeds limits ceilings k k′ x = not (allowed (held limits ceilings k′ x) (m
 
 -- it exceeds that, but one less does not
 unfoldable pub exceeds-by-one : List ℕ → ℕ → ℕ → ℕ → ℕ → Bool
-exceeds-by-one limits ceilings k x k′ = allows limits ceilings x (most limits ceilings k x - 1) k′ && not (allows limits ceilings x (most limits ceilings k x) k′)
+exceeds-by-one limits ceilings k x k′ = allows limits ceilings x (most limits ceilings k x - 1) k′ &&
+    not (allows limits ceilings x (most limits ceilings k x) k′)
 
 -- one more than it does not exceed that
 unfoldable pub takes-more : List ℕ → ℕ → ℕ → ℕ → ℕ → Bool
@@ -57,5 +58,9 @@ pub record Counted (limits : List ℕ) (ceilings e k : ℕ) (over : Over) : Type
 
 -- the sets of two tables, for each counter below e with a limit from 1 under ceiling k
 pub record Neighbours (limits : List ℕ) (ceilings e k : ℕ) (short more : List ℕ) : Type 0 where
-  pub by-one : (x k′ : ℕ) → x < e → 1 ≤ held limits ceilings k x → k′ < 256 → member short 4 x k′ ≡ exceeds-by-one limits ceilings k x k′
-  pub one-more : (x k′ : ℕ) → x < e → 1 ≤ held limits ceilings k x → k′ < 256 → member more 4 x k′ ≡ takes-more limits ceilings k x k′
+  pub by-one :
+      (x k′ : ℕ) → x < e → 1 ≤ held limits ceilings k x → k′ < 256 →
+      member short 4 x k′ ≡ exceeds-by-one limits ceilings k x k′
+  pub one-more :
+      (x k′ : ℕ) → x < e → 1 ≤ held limits ceilings k x → k′ < 256 →
+      member more 4 x k′ ≡ takes-more limits ceilings k x k′

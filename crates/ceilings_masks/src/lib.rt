@@ -46,7 +46,11 @@ fn in_word(ceilings: usize, i: usize) -> usize
     if ceilings <= from {
         return 0;
     }
-    if ceilings - from < 64 { ceilings - from } else { 64 }
+    if ceilings - from < 64 {
+        ceilings - from
+    } else {
+        64
+    }
 }
 
 // Word i of the ceilings whose limit at counter x is `least` or more.
@@ -160,9 +164,12 @@ fn put_counter(
     requires { ⌜ n * ceilings ≤ length (now limits) ⌝ }
     requires { ⌜ Holders (now limits) ceilings n (now holders) (now unbounded) ⌝ }
     requires { ⌜ (n * 4 ≤ length (now short)) × (n * 4 ≤ length (now more)) ⌝ }
-    ensures { λ r. ⌜ ((j : ℕ) → j < 256 → has r j ≡ (ltb j ceilings && exceeds (now (limits .entry)) ceilings k j x)) ⌝ }
-    ensures { λ _. ⌜ Set-is 4 x (exceeds-by-one (now (limits .entry)) ceilings k x) (now (short .entry)) (now (short .exit)) ⌝ }
-    ensures { λ _. ⌜ Set-is 4 x (takes-more (now (limits .entry)) ceilings k x) (now (more .entry)) (now (more .exit)) ⌝ }
+    ensures { λ r. ⌜
+        ((j : ℕ) → j < 256 → has r j ≡ (ltb j ceilings && exceeds (now (limits .entry)) ceilings k j x)) ⌝ }
+    ensures { λ _. ⌜ Set-is 4 x (exceeds-by-one (now (limits .entry)) ceilings k x) (now (short .entry))
+        (now (short .exit)) ⌝ }
+    ensures { λ _. ⌜ Set-is 4 x (takes-more (now (limits .entry)) ceilings k x) (now (more .entry))
+        (now (more .exit)) ⌝ }
 {
     let most = highest(limits, ceilings, k, x);
     let held = allowing(limits, ceilings, n, holders, unbounded, x, most);
@@ -173,7 +180,8 @@ fn put_counter(
     without(below(ceilings), held)
 }
 
-// Ceiling k, whose entries stand from e on, beside all others: where it exceeds them, and the two sets of each of its counters.
+// Ceiling k, whose entries stand from e on, beside all others: where it exceeds them, and the two sets of each of its
+// counters.
 pub fn compare(
     ws: &[u16],
     s: Sizes,

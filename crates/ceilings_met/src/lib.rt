@@ -66,7 +66,11 @@ fn item_count(
     ensures { λ c. ⌜ c ≡ most (now (ws .entry)) s n k (counted (bad-rows (now (ws .entry)) s) r) ⌝ }
 {
     let x = items[r] as usize;
-    if x < n { highest(limits, s.bounds, k, x) } else { 0 }
+    if x < n {
+        highest(limits, s.bounds, k, x)
+    } else {
+        0
+    }
 }
 
 // The highest counts under ceiling k meet the bad that stands at row r: every item, up to the first row that is none.
@@ -92,7 +96,9 @@ fn meets(ws: &[u16], s: Sizes, n: usize, limits: &[u16], items: &[u16], k: usize
 fn some_allows(ws: &[u16], s: Sizes, n: usize, limits: &[u16], items: &[u16], r: usize) -> bool
     requires { ⌜ Ready (now ws) s n (now limits) (now items) ⌝ }
     requires { ⌜ r ≤ s .conditions ⌝ }
-    ensures { λ b. ⌜ b ≡ bad-allowed (program (now (ws .entry)) s) (tables (now (ws .entry)) s) (bounds (now (ws .entry)) s n) (bad-rows (now (ws .entry)) s) r ⌝ }
+    ensures { λ b. ⌜ b ≡
+        bad-allowed (program (now (ws .entry)) s) (tables (now (ws .entry)) s) (bounds (now (ws .entry)) s n)
+        (bad-rows (now (ws .entry)) s) r ⌝ }
 {
     for k in 0..s.bounds {
         if meets(ws, s, n, limits, items, k, r) {
@@ -106,7 +112,9 @@ fn some_allows(ws: &[u16], s: Sizes, n: usize, limits: &[u16], items: &[u16], r:
 pub fn met_check(ws: &[u16], s: Sizes, n: usize, limits: &[u16], items: &[u16]) -> Verdict
     requires { ⌜ Ready (now ws) s n (now limits) (now items) ⌝ }
     requires { ⌜ Bads-in-form (now ws) s ⌝ }
-    ensures { λ v. ⌜ v ≡ answer (met-check s (program (now (ws .entry)) s) (tables (now (ws .entry)) s) (bounds (now (ws .entry)) s n) (bad-rows (now (ws .entry)) s)) ⌝ }
+    ensures { λ v. ⌜ v ≡
+        answer (met-check s (program (now (ws .entry)) s) (tables (now (ws .entry)) s) (bounds (now (ws .entry)) s n)
+        (bad-rows (now (ws .entry)) s)) ⌝ }
 {
     let at = 4 + 2 * s.rows + 2;
     let mut r: usize = 0;
@@ -125,9 +133,12 @@ pub fn start_check(ws: &[u16], s: Sizes, n: usize, limits: &[u16], x0: usize) ->
     requires { ⌜ Whole (now ws) s ⌝ }
     requires { ⌜ n ≤ maxCounters ⌝ }
     requires { ⌜ Limits-table (bounds (now ws) s n) (now limits) ⌝ }
-    requires { ⌜ x0 ≡ state-index (tables (now ws) s) (state (size (program (now ws) s)) (start (program (now ws) s))) ⌝ }
+    requires { ⌜ x0 ≡
+        state-index (tables (now ws) s) (state (size (program (now ws) s)) (start (program (now ws) s))) ⌝ }
     requires { ⌜ x0 < n ⌝ }
-    ensures { λ r. ⌜ r ≡ answer (start-check s (program (now (ws .entry)) s) (tables (now (ws .entry)) s) (bounds (now (ws .entry)) s n)) ⌝ }
+    ensures { λ r. ⌜ r ≡
+        answer (start-check s (program (now (ws .entry)) s) (tables (now (ws .entry)) s)
+        (bounds (now (ws .entry)) s n)) ⌝ }
 {
     for k in 0..s.bounds {
         if 1 <= limit(limits, s.bounds, k, x0) {

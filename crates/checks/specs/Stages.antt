@@ -1,4 +1,5 @@
--- What the stages of the verifier promise one another: their parts of the model's check, and what earlier ones have shown.
+-- What the stages of the verifier promise one another: their parts of the model's check, and what earlier ones have
+-- shown.
 use Prim.Native.Nat.{ℕ}
 use mathlib.Core.Path.{_≡_}
 use mathlib.Core.Bool.{Bool, _&&_}
@@ -48,7 +49,8 @@ taken ws s =
 -- refusals 6 to 8
 unfoldable pub tables-check : List ℕ → Sizes → Check
 tables-check ws s =
-    bad-check ws s (program ws s) >> (entry-check s (program ws s) (tables ws s) >> open-check s (program ws s) (tables ws s))
+    bad-check ws s (program ws s) >>
+    (entry-check s (program ws s) (tables ws s) >> open-check s (program ws s) (tables ws s))
 
 -- refusals 11 to 13, of n counters
 unfoldable pub limits-on : List ℕ → Sizes → ℕ → Check

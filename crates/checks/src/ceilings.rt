@@ -42,7 +42,9 @@ fn first_counter(
     receives: &[u8],
 ) -> usize
     requires { ⌜ Closed (now ws) s (now afters) (now inners) (now cases) (now receives) ⌝ }
-    ensures { λ x. ⌜ x ≡ state-index (tables (now (ws .entry)) s) (state (size (program (now (ws .entry)) s)) (start (program (now (ws .entry)) s))) ⌝ }
+    ensures { λ x. ⌜ x ≡
+        state-index (tables (now (ws .entry)) s)
+        (state (size (program (now (ws .entry)) s)) (start (program (now (ws .entry)) s))) ⌝ }
 {
     let first = start(ws, s, afters, inners);
     state_index(ws, s, s.rows, first)
@@ -64,7 +66,9 @@ fn met_verdict(
     requires { ⌜ Counted (now ws) s (now afters) (now inners) (now cases) (now receives) (now names) (now index) ⌝ }
     requires { ⌜ n ≡ counter-count (program (now ws) s) (tables (now ws) s) ⌝ }
     requires { ⌜ Limits-table (bounds (now ws) s n) (now limits) ⌝ }
-    ensures { λ v. ⌜ v ≡ answer (met-check s (program (now (ws .entry)) s) (tables (now (ws .entry)) s) (bounds (now (ws .entry)) s n) (bad-rows (now (ws .entry)) s)) ⌝ }
+    ensures { λ v. ⌜ v ≡
+        answer (met-check s (program (now (ws .entry)) s) (tables (now (ws .entry)) s) (bounds (now (ws .entry)) s n)
+        (bad-rows (now (ws .entry)) s)) ⌝ }
 {
     let mut items = [0u16; 256];
     fill_items(ws, s, index, &mut items);

@@ -35,7 +35,10 @@ fn tables_on(
     requires { ⌜ (s .rows * maxNames ≤ length (now cells)) × (s .names * maxNames ≤ length (now cells)) ⌝ }
     requires { ⌜ (s .rows ≤ length (now cases)) × ((s .rows / 2 + 1) * s .mails ≤ length (now receives)) ⌝ }
     ensures { λ v. ⌜ v ≡ answer (tables-check (now (ws .entry)) s) ⌝ }
-    ensures { λ v. ⌜ (is-safe v ≡ true → Branches (program (now (ws .entry)) s) (tables (now (ws .entry)) s) (now (cases .exit)) (now (receives .exit))) ⌝ }
+    ensures { λ v. ⌜
+        (is-safe v ≡ true →
+        Branches (program (now (ws .entry)) s) (tables (now (ws .entry)) s) (now (cases .exit))
+        (now (receives .exit))) ⌝ }
 {
     let bads = bad_check(ws, s);
     if !is_safe(bads) {
@@ -62,7 +65,10 @@ fn small_tables(
     requires { ⌜ (s .rows ≤ length (now cases)) × ((s .rows / 2 + 1) * s .mails ≤ length (now receives)) ⌝ }
     requires { ⌜ (s .rows ≤ 64) × (s .names ≤ 64) ⌝ }
     ensures { λ v. ⌜ v ≡ answer (tables-check (now (ws .entry)) s) ⌝ }
-    ensures { λ v. ⌜ (is-safe v ≡ true → Branches (program (now (ws .entry)) s) (tables (now (ws .entry)) s) (now (cases .exit)) (now (receives .exit))) ⌝ }
+    ensures { λ v. ⌜
+        (is-safe v ≡ true →
+        Branches (program (now (ws .entry)) s) (tables (now (ws .entry)) s) (now (cases .exit))
+        (now (receives .exit))) ⌝ }
 {
     let mut cells = bytes_32768();
     tables_on(ws, s, afters, inners, &mut cells, cases, receives)
@@ -81,7 +87,10 @@ fn middle_tables(
     requires { ⌜ (s .rows ≤ length (now cases)) × ((s .rows / 2 + 1) * s .mails ≤ length (now receives)) ⌝ }
     requires { ⌜ (s .rows ≤ 256) × (s .names ≤ 256) ⌝ }
     ensures { λ v. ⌜ v ≡ answer (tables-check (now (ws .entry)) s) ⌝ }
-    ensures { λ v. ⌜ (is-safe v ≡ true → Branches (program (now (ws .entry)) s) (tables (now (ws .entry)) s) (now (cases .exit)) (now (receives .exit))) ⌝ }
+    ensures { λ v. ⌜
+        (is-safe v ≡ true →
+        Branches (program (now (ws .entry)) s) (tables (now (ws .entry)) s) (now (cases .exit))
+        (now (receives .exit))) ⌝ }
 {
     let mut cells = bytes_131072();
     tables_on(ws, s, afters, inners, &mut cells, cases, receives)
@@ -99,7 +108,10 @@ fn large_tables(
     requires { ⌜ Formed (now ws) s (now afters) (now inners) ⌝ }
     requires { ⌜ (s .rows ≤ length (now cases)) × ((s .rows / 2 + 1) * s .mails ≤ length (now receives)) ⌝ }
     ensures { λ v. ⌜ v ≡ answer (tables-check (now (ws .entry)) s) ⌝ }
-    ensures { λ v. ⌜ (is-safe v ≡ true → Branches (program (now (ws .entry)) s) (tables (now (ws .entry)) s) (now (cases .exit)) (now (receives .exit))) ⌝ }
+    ensures { λ v. ⌜
+        (is-safe v ≡ true →
+        Branches (program (now (ws .entry)) s) (tables (now (ws .entry)) s) (now (cases .exit))
+        (now (receives .exit))) ⌝ }
 {
     let mut cells = bytes_524288();
     tables_on(ws, s, afters, inners, &mut cells, cases, receives)
@@ -117,7 +129,10 @@ pub fn tables_verdict(
     requires { ⌜ Formed (now ws) s (now afters) (now inners) ⌝ }
     requires { ⌜ (s .rows ≤ length (now cases)) × ((s .rows / 2 + 1) * s .mails ≤ length (now receives)) ⌝ }
     ensures { λ v. ⌜ v ≡ answer (tables-check (now (ws .entry)) s) ⌝ }
-    ensures { λ v. ⌜ (is-safe v ≡ true → Branches (program (now (ws .entry)) s) (tables (now (ws .entry)) s) (now (cases .exit)) (now (receives .exit))) ⌝ }
+    ensures { λ v. ⌜
+        (is-safe v ≡ true →
+        Branches (program (now (ws .entry)) s) (tables (now (ws .entry)) s) (now (cases .exit))
+        (now (receives .exit))) ⌝ }
 {
     if s.rows <= 64 {
         if s.names <= 64 {

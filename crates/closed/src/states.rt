@@ -60,7 +60,9 @@ fn state_closed(
     requires { ⌜ Branches (program (now ws) s) (tables (now ws) s) (now «by_name») (now «by_mail») ⌝ }
     requires { ⌜ Inclusions (s .names) (tables (now ws) s) (now table) ⌝ }
     requires { ⌜ i < s .states ⌝ }
-    ensures { λ b. ⌜ b ≡ state-closed (program (now (ws .entry)) s) (tables (now (ws .entry)) s) (state-at (tables (now (ws .entry)) s) i) ⌝ }
+    ensures { λ b. ⌜ b ≡
+        state-closed (program (now (ws .entry)) s) (tables (now (ws .entry)) s)
+        (state-at (tables (now (ws .entry)) s) i) ⌝ }
 {
     let c = state_class(ws, s, i);
     let r = state_head(ws, s, i);

@@ -9,7 +9,8 @@ use Rattle.model.specs.Closed.{passes, returns-to, return-closed}
 
 -- of a call: the callee may be f
 unfoldable pub call-value : Program → Tables → ℕ → Call → ℕ → Bool
-call-value p t c call f = implies (takes p f (call .count)) (passes t call (parameters p f) && has-state t (state c (body p f)))
+call-value p t c call f = implies (takes p f (call .count))
+    (passes t call (parameters p f) && has-state t (state c (body p f)))
 
 -- of giving back n from f: state i
 unfoldable pub give-state : Program → Tables → ℕ → ℕ → ℕ → ℕ → Bool

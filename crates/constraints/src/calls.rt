@@ -25,7 +25,9 @@ fn passes(ws: &[u16], s: Sizes, table: &[u8], r: usize, f: usize) -> bool
     requires { ⌜ tag (program (now ws) s) r ≡ 4 ⌝ }
     requires { ⌜ (r < 65536) × (f < 65536) ⌝ }
     requires { ⌜ takes (program (now ws) s) f (num (program (now ws) s) (r + 2)) ≡ true ⌝ }
-    ensures { λ b. ⌜ b ≡ passes (tables (now (ws .entry)) s) (call-at (program (now (ws .entry)) s) r) (parameters (program (now (ws .entry)) s) f) ⌝ }
+    ensures { λ b. ⌜ b ≡
+        passes (tables (now (ws .entry)) s) (call-at (program (now (ws .entry)) s) r)
+        (parameters (program (now (ws .entry)) s) f) ⌝ }
 {
     let n = num(ws, s, r + 2);
     let mut i = 0;
@@ -46,7 +48,9 @@ fn call_value(ws: &[u16], s: Sizes, table: &[u8], c: usize, r: usize, f: usize) 
     requires { ⌜ Inclusions (s .names) (tables (now ws) s) (now table) ⌝ }
     requires { ⌜ tag (program (now ws) s) r ≡ 4 ⌝ }
     requires { ⌜ (r < 65536) × (f < 65536) ⌝ }
-    ensures { λ b. ⌜ b ≡ call-value (program (now (ws .entry)) s) (tables (now (ws .entry)) s) c (call-at (program (now (ws .entry)) s) r) f ⌝ }
+    ensures { λ b. ⌜ b ≡
+        call-value (program (now (ws .entry)) s) (tables (now (ws .entry)) s) c
+        (call-at (program (now (ws .entry)) s) r) f ⌝ }
 {
     let count = num(ws, s, r + 2);
     if !takes(ws, s, f, count) {
@@ -65,7 +69,9 @@ pub fn call_closed(ws: &[u16], s: Sizes, table: &[u8], c: usize, r: usize) -> bo
     requires { ⌜ Inclusions (s .names) (tables (now ws) s) (now table) ⌝ }
     requires { ⌜ tag (program (now ws) s) r ≡ 4 ⌝ }
     requires { ⌜ r < 65536 ⌝ }
-    ensures { λ b. ⌜ b ≡ call-closed (program (now (ws .entry)) s) (tables (now (ws .entry)) s) c (call-at (program (now (ws .entry)) s) r) ⌝ }
+    ensures { λ b. ⌜ b ≡
+        call-closed (program (now (ws .entry)) s) (tables (now (ws .entry)) s) c
+        (call-at (program (now (ws .entry)) s) r) ⌝ }
 {
     let callee = num(ws, s, r + 1);
     let mut i = flow_from(ws, s, callee);

@@ -1,4 +1,5 @@
-// Giving back: for each state at a call whose callee may be the innermost function, the call's name holds the values, and its rest is a state.
+// Giving back: for each state at a call whose callee may be the innermost function, the call's name holds the values,
+// and its rest is a state.
 use crate::heads::rest;
 use crate::heads::takes;
 use entries::inclusion::includes;
@@ -84,7 +85,9 @@ pub fn give_closed(
     requires { ⌜ Layout (program (now ws) s) (now afters) (now inners) ⌝ }
     requires { ⌜ Inclusions (s .names) (tables (now ws) s) (now table) ⌝ }
     requires { ⌜ tag (program (now ws) s) r ≡ 1 ⌝ }
-    ensures { λ b. ⌜ b ≡ give-closed (program (now (ws .entry)) s) (tables (now (ws .entry)) s) c (num (program (now (ws .entry)) s) r) (innermost (program (now (ws .entry)) s) r) ⌝ }
+    ensures { λ b. ⌜ b ≡
+        give-closed (program (now (ws .entry)) s) (tables (now (ws .entry)) s) c (num (program (now (ws .entry)) s) r)
+        (innermost (program (now (ws .entry)) s) r) ⌝ }
 {
     let f = inners[r] as usize;
     if f == s.rows {

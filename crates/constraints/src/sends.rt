@@ -1,4 +1,5 @@
-// A send: for each class the target may be and each value of the message, the mail entry, the name's value, and the rest as a state.
+// A send: for each class the target may be and each value of the message, the mail entry, the name's value, and the
+// rest as a state.
 use crate::heads::rest;
 use entries::lists::flow_from;
 use entries::lists::flow_has;
@@ -73,7 +74,10 @@ pub fn send_closed(ws: &[u16], s: Sizes, afters: &[u16], inners: &[u16], c: usiz
     requires { ⌜ Ground (now ws) s ⌝ }
     requires { ⌜ Layout (program (now ws) s) (now afters) (now inners) ⌝ }
     requires { ⌜ r < 65536 ⌝ }
-    ensures { λ b. ⌜ b ≡ send-closed (program (now (ws .entry)) s) (tables (now (ws .entry)) s) c (num (program (now (ws .entry)) s) r) (num (program (now (ws .entry)) s) (r + 1)) (num (program (now (ws .entry)) s) (r + 2)) (rest (program (now (ws .entry)) s) r) ⌝ }
+    ensures { λ b. ⌜ b ≡
+        send-closed (program (now (ws .entry)) s) (tables (now (ws .entry)) s) c (num (program (now (ws .entry)) s) r)
+        (num (program (now (ws .entry)) s) (r + 1)) (num (program (now (ws .entry)) s) (r + 2))
+        (rest (program (now (ws .entry)) s) r) ⌝ }
 {
     let n = num(ws, s, r);
     let target = num(ws, s, r + 1);

@@ -50,7 +50,10 @@ pub fn spawn_closed(
     requires { ⌜ Ground (now ws) s ⌝ }
     requires { ⌜ Layout (program (now ws) s) (now afters) (now inners) ⌝ }
     requires { ⌜ r < 65536 ⌝ }
-    ensures { λ b. ⌜ b ≡ spawn-closed (program (now (ws .entry)) s) (tables (now (ws .entry)) s) c r (num (program (now (ws .entry)) s) r) (num (program (now (ws .entry)) s) (r + 1)) (rest (program (now (ws .entry)) s) r) ⌝ }
+    ensures { λ b. ⌜ b ≡
+        spawn-closed (program (now (ws .entry)) s) (tables (now (ws .entry)) s) c r
+        (num (program (now (ws .entry)) s) r) (num (program (now (ws .entry)) s) (r + 1))
+        (rest (program (now (ws .entry)) s) r) ⌝ }
 {
     let n = num(ws, s, r);
     let function = num(ws, s, r + 1);

@@ -20,7 +20,8 @@ digest-from h (b ∷ bytes) = digest-from (with-byte h b) bytes
 
 -- one word more, as four bytes, the lowest first
 unfoldable pub with-word : ℕ → ℕ → ℕ
-with-word h w = with-byte (with-byte (with-byte (with-byte h (w % 256)) (w / 256 % 256)) (w / 65536 % 256)) (w / 16777216 % 256)
+with-word h w = with-byte (with-byte (with-byte (with-byte h (w % 256)) (w / 256 % 256)) (w / 65536 % 256))
+    (w / 16777216 % 256)
 
 unfoldable pub words-from : ℕ → List ℕ → ℕ
 words-from h [] = h

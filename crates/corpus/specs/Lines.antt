@@ -27,4 +27,5 @@ result-line n p a b = pair n p ++ (32 ∷ (hex a ++ (32 ∷ hex b))) ++ line-end
 unfoldable pub case-line : List ℕ → ℕ → List ℕ
 case-line bytes lent =
     let v : Verdict = verdict bytes lent in
-    result-line (number v) (place v) (words-from empty (lent-after bytes (marks lent))) (digest-from empty (part-handed bytes lent))
+    result-line (number v) (place v) (words-from empty (lent-after bytes (marks lent)))
+    (digest-from empty (part-handed bytes lent))

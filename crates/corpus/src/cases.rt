@@ -64,7 +64,8 @@ fn put_result(out: &mut [u8], number: u64, place: u64, lent: u64, part: u64) -> 
 pub fn put_case(message: &[u8], lent: &mut [u32], out: &mut [u8]) -> usize
     requires { ⌜ length (now lent) ≤ 16384 ⌝ }
     requires { ⌜ 76 ≤ length (now out) ⌝ }
-    ensures { λ r. ⌜ now (out .exit) ≡ put-at 0 (case-line (now (message .entry)) (length (now (lent .entry)))) (now (out .entry)) ⌝ }
+    ensures { λ r. ⌜ now (out .exit) ≡
+        put-at 0 (case-line (now (message .entry)) (length (now (lent .entry)))) (now (out .entry)) ⌝ }
     ensures { λ r. ⌜ now (lent .exit) ≡ lent-after (now (message .entry)) (marks (length (now (lent .entry)))) ⌝ }
     ensures { λ r. ⌜ r ≡ length (case-line (now (message .entry)) (length (now (lent .entry)))) ⌝ }
     ensures { λ r. ⌜ Counts r (now (out .exit)) ⌝ }

@@ -1,4 +1,5 @@
--- The tables of letters: which letters the values of a name have, and how many (class, letter) pairs of mail stand before each.
+-- The tables of letters: which letters the values of a name have, and how many (class, letter) pairs of mail stand
+-- before each.
 use Prim.Native.Nat.{ℕ, _*_, _≤_, _<_}
 use mathlib.Core.Path.{_≡_}
 use mathlib.Core.Bool.{Bool, true}
@@ -41,4 +42,6 @@ pub record Letters (p : Program) (t : Tables) (index : List ℕ) : Type 0 where
 -- word n * letters + l is 1 where some value of the name n has the letter l, and else 0
 pub record Named (p : Program) (t : Tables) (names : List ℕ) : Type 0 where
   pub room : p .names * letters p ≤ length names
-  pub has : (n l : ℕ) → n < p .names → l < letters p → getD names (letter-key p n l) 0 ≡ one-if (letter-of-some p (t .flow) n (λ v. true) l)
+  pub has :
+      (n l : ℕ) → n < p .names → l < letters p →
+      getD names (letter-key p n l) 0 ≡ one-if (letter-of-some p (t .flow) n (λ v. true) l)

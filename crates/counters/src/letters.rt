@@ -38,8 +38,11 @@ pub fn row_letter(ws: &[u16], s: Sizes, v: usize) -> usize
 fn key(ws: &[u16], s: Sizes, l: Span, i: usize) -> usize
     requires { ⌜ Whole (now ws) s ⌝ }
     requires { ⌜ Held (now ws) l ⌝ }
-    requires { ⌜ letter-key (program (now ws) s) (left (listed (now ws) l) i) (row-letter (program (now ws) s) (right (listed (now ws) l) i)) < 2 ^ 64 ⌝ }
-    ensures { λ k. ⌜ k ≡ letter-key (program (now (ws .entry)) s) (left (listed (now (ws .entry)) l) i) (row-letter (program (now (ws .entry)) s) (right (listed (now (ws .entry)) l) i)) ⌝ }
+    requires { ⌜ letter-key (program (now ws) s) (left (listed (now ws) l) i)
+        (row-letter (program (now ws) s) (right (listed (now ws) l) i)) < 2 ^ 64 ⌝ }
+    ensures { λ k. ⌜ k ≡
+        letter-key (program (now (ws .entry)) s) (left (listed (now (ws .entry)) l) i)
+        (row-letter (program (now (ws .entry)) s) (right (listed (now (ws .entry)) l) i)) ⌝ }
 {
     left(ws, l, i) * (s.constructors + 2) + row_letter(ws, s, right(ws, l, i))
 }

@@ -40,7 +40,9 @@ pub fn has_letter(ws: &[u16], s: Sizes, index: &[u16], c: usize, l: usize) -> bo
     requires { ⌜ Ready (now ws) s ⌝ }
     requires { ⌜ Letters (program (now ws) s) (tables (now ws) s) (now index) ⌝ }
     requires { ⌜ (c ≤ s .rows) × (l < s .constructors + 2) ⌝ }
-    ensures { λ b. ⌜ b ≡ has-letter (program (now (ws .entry)) s) (tables (now (ws .entry)) s) (letter-key (program (now (ws .entry)) s) c l) ⌝ }
+    ensures { λ b. ⌜ b ≡
+        has-letter (program (now (ws .entry)) s) (tables (now (ws .entry)) s)
+        (letter-key (program (now (ws .entry)) s) c l) ⌝ }
 {
     let k = letter_key(s, c, l);
     word(index, k) < word(index, k + 1)

@@ -1,4 +1,5 @@
--- The candidates for a step: the ceilings that may cover the counts after it, since they have room for one at each counter that it adds to.
+-- The candidates for a step: the ceilings that may cover the counts after it, since they have room for one at each
+-- counter that it adds to.
 use Prim.Native.Nat.{ℕ, _≤_, _<_}
 use mathlib.Core.Path.{_≡_}
 use mathlib.Core.Bool.{Bool, true, _&&_}

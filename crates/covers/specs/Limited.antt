@@ -1,4 +1,5 @@
--- The counters with a limit from 1 under a ceiling, listed: no other counter exceeds at the highest counts of that ceiling.
+-- The counters with a limit from 1 under a ceiling, listed: no other counter exceeds at the highest counts of that
+-- ceiling.
 use Prim.Native.Nat.{ℕ, _+_, _-_, _≤_, _<_}
 use mathlib.Core.Path.{_≡_}
 use mathlib.Core.Bool.{Bool, true, false}

@@ -1,4 +1,5 @@
--- What the table of pairs says: for two ceilings, the first counters at which the highest counts of the one exceed the limits of the other.
+-- What the table of pairs says: for two ceilings, the first counters at which the highest counts of the one exceed the
+-- limits of the other.
 use Prim.Native.Nat.{ℕ, zero, suc, _+_, _*_, _≤_, _<_}
 use mathlib.Core.Path.{_≡_}
 use mathlib.Core.Bool.{Bool, not}
@@ -38,7 +39,9 @@ pair-cells ceilings = ceilings * maxBounds * kept
 
 -- the pairs before number m are in the table
 pub record Pairs-before (ceilings n : ℕ) (limits pairs : List ℕ) (m : ℕ) : Type 0 where
-  pub kept-at : (k k′ i : ℕ) → k′ < ceilings → i < kept → pair k k′ < m → getD pairs (pair k k′ * kept + i) 0 ≡ exceeding limits n k k′ i
+  pub kept-at :
+      (k k′ i : ℕ) → k′ < ceilings → i < kept → pair k k′ < m →
+      getD pairs (pair k k′ * kept + i) 0 ≡ exceeding limits n k k′ i
 
 pub record Pairs-table (ceilings n : ℕ) (limits pairs : List ℕ) : Type 0 where
   pub room : pair-cells ceilings ≤ length pairs
@@ -61,8 +64,8 @@ passes limits k k′ σ y = allowed (row limits k′ y) (fire (rule-of-step σ) 
 abbrev pub kept-counter : List ℕ → ℕ → ℕ → ℕ → ℕ
 kept-counter pairs k k′ i = getD pairs (pair k k′ * kept + i) 0
 
--- the counters that could exceed under ceiling k′ after a step from the highest counts of ceiling k: those kept, and the step's own; where most
--- ceilings fail stands first
+-- the counters that could exceed under ceiling k′ after a step from the highest counts of ceiling k: those kept, and
+-- the step's own; where most ceilings fail stands first
 abbrev pub suspect-list : List ℕ → ℕ → ℕ → Step → List ℕ
 suspect-list pairs k k′ σ =
     kept-counter pairs k k′ 0 ∷ σ .other ∷ σ .to ∷ σ .from ∷ kept-counter pairs k k′ 1 ∷ kept-counter pairs k k′ 2 ∷ []

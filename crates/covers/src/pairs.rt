@@ -1,4 +1,5 @@
-// The table of pairs: for two ceilings, the first three counters at which the highest counts of the one exceed the limits of the other.
+// The table of pairs: for two ceilings, the first three counters at which the highest counts of the one exceed the
+// limits of the other.
 use bounds::limits::highest;
 use bounds::limits::is_allowed;
 use bounds::limits::limit;

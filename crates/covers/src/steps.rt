@@ -1,4 +1,5 @@
-// A step from the highest counts of a ceiling: where it can be used, the candidates, and the counters at which one of them could be exceeded.
+// A step from the highest counts of a ceiling: where it can be used, the candidates, and the counters at which one of
+// them could be exceeded.
 use crate::Step;
 use crate::pairs::kept_at;
 use bounds::limits::highest;
@@ -140,7 +141,8 @@ fn may_cover(limits: &[u16], n: usize, k: usize, step: Step) -> bool
     has_room(limits, n, k, step.other)
 }
 
-// Lists the candidates for a step; gives their number. Each ceiling is put behind them, and stays there where it is one.
+// Lists the candidates for a step; gives their number. Each ceiling is put behind them, and stays there where it is
+// one.
 pub fn list_candidates(
     limits: &[u16],
     ceilings: usize,

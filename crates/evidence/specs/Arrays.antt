@@ -17,4 +17,9 @@ pub record Held (ws : List ℕ) (a : Arrays) : Type 0 where
 
 -- the list of n entries behind k others in the tables
 unfoldable pub list-arrays : Sizes → ℕ → ℕ → Arrays
-list-arrays s n k = record { size = n; lefts = tables-at s + 3 + k; rights = tables-at s + 3 + (s .flows + s .mails + s .states) + k }
+list-arrays s n k = record {
+  size = n;
+  lefts = tables-at s + 3 + k;
+  rights = tables-at s + 3 +
+      (s .flows + s .mails + s .states) + k;
+}

@@ -1,4 +1,5 @@
--- "Flow holds (name, value), mail (class, value)", states (class, expression head): what an entry of each list may hold.
+-- "Flow holds (name, value), mail (class, value)", states (class, expression head): what an entry of each list may
+-- hold.
 use Prim.Native.Nat.{ℕ}
 use mathlib.Core.Bool.{Bool, not, _&&_}
 use Rattle.model.specs.Index.{first}

@@ -51,22 +51,29 @@ pub record Receive-branch (p : Program) (q : ℕ) : Type 0 where
   pub head : head-at p at ≡ receives rows
   pub branch : List·Memᴰ q rows
 
--- where a branch of a case stands at row q, the table has its code; where one of a receive does, its codes with all mail entries
+-- where a branch of a case stands at row q, the table has its code; where one of a receive does, its codes with all
+-- mail entries
 pub record Case-right (p : Program) (t : Tables) (by-name : List ℕ) (q : ℕ) : Type 0 where
   pub case-code : (n : ℕ) → Case-branch p n q → getD by-name q 0 ≡ name-code p t n q
 
 pub record Receive-right (p : Program) (t : Tables) (by-mail : List ℕ) (q : ℕ) : Type 0 where
-  pub receive-code : Receive-branch p q → (j : ℕ) → j < t .mail .size → getD by-mail (q / 2 * t .mail .size + j) 0 ≡ value-code p t q (right (t .mail) j)
+  pub receive-code :
+      Receive-branch p q → (j : ℕ) → j < t .mail .size →
+      getD by-mail (q / 2 * t .mail .size + j) 0 ≡ value-code p t q (right (t .mail) j)
 
 -- the table is right for these rows afterwards, and for all rows for which it was before
 pub record Filled (Right : List ℕ → ℕ → Type 0) (rows before after : List ℕ) : Type 0 where
   pub filled : (q : ℕ) → List·Memᴰ q rows → Right after q
   pub kept : (q : ℕ) → Right before q → Right after q
 
--- a branch of a receive stands at row q: its codes with all mail entries are there afterwards, and the rest is as before
+-- a branch of a receive stands at row q: its codes with all mail entries are there afterwards, and the rest is as
+-- before
 pub record Mail-coded (p : Program) (t : Tables) (q : ℕ) (before after : List ℕ) : Type 0 where
-  pub codes : Pattern p maxDepth q → (j : ℕ) → j < t .mail .size → getD after (q / 2 * t .mail .size + j) 0 ≡ value-code p t q (right (t .mail) j)
-  pub others : (k : ℕ) → ((j : ℕ) → j < t .mail .size → k ≡ q / 2 * t .mail .size + j → ⊥) → getD after k 0 ≡ getD before k 0
+  pub codes :
+      Pattern p maxDepth q → (j : ℕ) → j < t .mail .size →
+      getD after (q / 2 * t .mail .size + j) 0 ≡ value-code p t q (right (t .mail) j)
+  pub others :
+      (k : ℕ) → ((j : ℕ) → j < t .mail .size → k ≡ q / 2 * t .mail .size + j → ⊥) → getD after k 0 ≡ getD before k 0
 
 -- n zeros at the front
 pub record Zeros (n : ℕ) (codes : List ℕ) : Type 0 where

@@ -1,4 +1,5 @@
-// The branch tables: of each branch of a case its code with all values of the name together, of each branch of a receive its code with each mail entry.
+// The branch tables: of each branch of a case its code with all values of the name together, of each branch of a
+// receive its code with each mail entry.
 use model::MAX_NAMES;
 use model::Sizes;
 use patterns::after_at;
@@ -33,7 +34,8 @@ fn case_branches(ws: &[u16], s: Sizes, afters: &[u16], codes: &[u8], named: &mut
     requires { ⌜ Coded (program (now ws) s) (tables (now ws) s) (now codes) 0 ⌝ }
     requires { ⌜ (r < s .rows) × (tag (program (now ws) s) r ≡ 8) ⌝ }
     requires { ⌜ s .rows ≤ length (now named) ⌝ }
-    ensures { λ _. ⌜ Filled (Case-right (program (now (ws .entry)) s) (tables (now (ws .entry)) s)) (case-rows (head-at (program (now (ws .entry)) s) r)) (now (named .entry)) (now (named .exit)) ⌝ }
+    ensures { λ _. ⌜ Filled (Case-right (program (now (ws .entry)) s) (tables (now (ws .entry)) s))
+        (case-rows (head-at (program (now (ws .entry)) s) r)) (now (named .entry)) (now (named .exit)) ⌝ }
 {
     let count = num(ws, s, r + 1);
     let mut q = r + 2;
@@ -52,7 +54,8 @@ fn mail_codes(ws: &[u16], s: Sizes, afters: &[u16], codes: &[u8], mailed: &mut [
     requires { ⌜ Coded (program (now ws) s) (tables (now ws) s) (now codes) 0 ⌝ }
     requires { ⌜ q < s .rows ⌝ }
     requires { ⌜ (s .rows / 2 + 1) * s .mails ≤ length (now mailed) ⌝ }
-    ensures { λ _. ⌜ Mail-coded (program (now (ws .entry)) s) (tables (now (ws .entry)) s) q (now (mailed .entry)) (now (mailed .exit)) ⌝ }
+    ensures { λ _. ⌜ Mail-coded (program (now (ws .entry)) s) (tables (now (ws .entry)) s) q (now (mailed .entry))
+        (now (mailed .exit)) ⌝ }
 {
     let mails = s.mails;
     let base = q / 2 * mails;
@@ -71,7 +74,8 @@ fn receive_branches(ws: &[u16], s: Sizes, afters: &[u16], codes: &[u8], mailed: 
     requires { ⌜ Coded (program (now ws) s) (tables (now ws) s) (now codes) 0 ⌝ }
     requires { ⌜ (r < s .rows) × (tag (program (now ws) s) r ≡ 9) ⌝ }
     requires { ⌜ (s .rows / 2 + 1) * s .mails ≤ length (now mailed) ⌝ }
-    ensures { λ _. ⌜ Filled (Receive-right (program (now (ws .entry)) s) (tables (now (ws .entry)) s)) (receive-rows (head-at (program (now (ws .entry)) s) r)) (now (mailed .entry)) (now (mailed .exit)) ⌝ }
+    ensures { λ _. ⌜ Filled (Receive-right (program (now (ws .entry)) s) (tables (now (ws .entry)) s))
+        (receive-rows (head-at (program (now (ws .entry)) s) r)) (now (mailed .entry)) (now (mailed .exit)) ⌝ }
 {
     let count = num(ws, s, r);
     let mut q = r + 1;
@@ -95,7 +99,8 @@ fn fill_heads(
     requires { ⌜ Ready (now ws) s (now afters) ⌝ }
     requires { ⌜ Coded (program (now ws) s) (tables (now ws) s) (now codes) 0 ⌝ }
     requires { ⌜ (s .rows ≤ length (now named)) × ((s .rows / 2 + 1) * s .mails ≤ length (now mailed)) ⌝ }
-    ensures { λ _. ⌜ Branches (program (now (ws .entry)) s) (tables (now (ws .entry)) s) (now (named .exit)) (now (mailed .exit)) ⌝ }
+    ensures { λ _. ⌜ Branches (program (now (ws .entry)) s) (tables (now (ws .entry)) s) (now (named .exit))
+        (now (mailed .exit)) ⌝ }
 {
     let rows = s.rows;
     let mut r = 0;
@@ -135,7 +140,8 @@ pub fn fill_branches(
     requires { ⌜ Ready (now ws) s (now afters) ⌝ }
     requires { ⌜ s .rows * maxNames ≤ length (now codes) ⌝ }
     requires { ⌜ (s .rows ≤ length (now named)) × ((s .rows / 2 + 1) * s .mails ≤ length (now mailed)) ⌝ }
-    ensures { λ _. ⌜ Branches (program (now (ws .entry)) s) (tables (now (ws .entry)) s) (now (named .exit)) (now (mailed .exit)) ⌝ }
+    ensures { λ _. ⌜ Branches (program (now (ws .entry)) s) (tables (now (ws .entry)) s) (now (named .exit))
+        (now (mailed .exit)) ⌝ }
 {
     let cells = s.rows * MAX_NAMES;
     clear(codes, cells);

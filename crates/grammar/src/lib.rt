@@ -71,7 +71,8 @@ fn expression(ws: &[u16], s: Sizes, r: usize) -> Next
 fn lead(ws: &[u16], s: Sizes, r: usize) -> Next
     requires { ⌜ Whole (now ws) s ⌝ }
     requires { ⌜ r < s .rows ⌝ }
-    ensures { λ x. ⌜ reading x ≡ from (program (now (ws .entry)) s) (lead (kind (tag (program (now (ws .entry)) s) r))) (r + 1) ⌝ }
+    ensures { λ x. ⌜ reading x ≡
+        from (program (now (ws .entry)) s) (lead (kind (tag (program (now (ws .entry)) s) r))) (r + 1) ⌝ }
 {
     let next = r + 1;
     match tag(ws, s, r) {

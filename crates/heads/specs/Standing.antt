@@ -8,7 +8,8 @@ unfoldable pub standing : Program → by-value.Head → Head
 standing p (Gives name) = gives name
 standing p (Builds name made first count rest) = builds name made (nums p first count) rest
 standing p (Makes name rest) = makes name rest
-standing p (Calls name callee first count rest) = calls (record { name = name; callee = callee; count = count; arguments = nums p first count; rest = rest })
+standing p (Calls name callee first count rest) = calls
+    (record { name = name; callee = callee; count = count; arguments = nums p first count; rest = rest })
 standing p (Sends name target message rest) = sends name target message rest
 standing p (Spawns name function rest) = spawns name function rest
 standing p (Selfs name rest) = selfs name rest

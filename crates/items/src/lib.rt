@@ -24,7 +24,8 @@ const NO_COUNTER: usize = 65535;
 // The counter of a state.
 fn state_number(ws: &[u16], s: Sizes, c: usize, r: usize) -> usize
     requires { ⌜ Ready (now ws) s ⌝ }
-    ensures { λ x. ⌜ x ≡ number-of (counter-of (program (now (ws .entry)) s) (tables (now (ws .entry)) s) (state-of c r)) ⌝ }
+    ensures { λ x. ⌜ x ≡
+        number-of (counter-of (program (now (ws .entry)) s) (tables (now (ws .entry)) s) (state-of c r)) ⌝ }
 {
     let x = state_index(ws, s, c, r);
     if x < s.states { x } else { NO_COUNTER }
@@ -34,7 +35,8 @@ fn state_number(ws: &[u16], s: Sizes, c: usize, r: usize) -> usize
 fn letter_number(ws: &[u16], s: Sizes, index: &[u16], c: usize, l: usize) -> usize
     requires { ⌜ Ready (now ws) s ⌝ }
     requires { ⌜ Letters (program (now ws) s) (tables (now ws) s) (now index) ⌝ }
-    ensures { λ x. ⌜ x ≡ number-of (counter-of (program (now (ws .entry)) s) (tables (now (ws .entry)) s) (letter-of c l)) ⌝ }
+    ensures { λ x. ⌜ x ≡
+        number-of (counter-of (program (now (ws .entry)) s) (tables (now (ws .entry)) s) (letter-of c l)) ⌝ }
 {
     if c > s.rows {
         return NO_COUNTER;
@@ -54,7 +56,10 @@ fn item_number(ws: &[u16], s: Sizes, index: &[u16], r: usize) -> usize
     requires { ⌜ Ready (now ws) s ⌝ }
     requires { ⌜ Letters (program (now ws) s) (tables (now ws) s) (now index) ⌝ }
     requires { ⌜ r ≤ s .conditions ⌝ }
-    ensures { λ x. ⌜ x ≡ number-of (counter-of (program (now (ws .entry)) s) (tables (now (ws .entry)) s) (counted (bad-rows (now (ws .entry)) s) r)) ⌝ }
+    ensures { λ x. ⌜ x ≡
+        number-of
+        (counter-of (program (now (ws .entry)) s) (tables (now (ws .entry)) s)
+        (counted (bad-rows (now (ws .entry)) s) r)) ⌝ }
 {
     let class = bad_number(ws, s, r);
     let subject = bad_number(ws, s, r + 1);
@@ -71,7 +76,9 @@ pub fn fill_items(ws: &[u16], s: Sizes, index: &[u16], items: &mut [u16])
     requires { ⌜ Letters (program (now ws) s) (tables (now ws) s) (now index) ⌝ }
     requires { ⌜ counter-count (program (now ws) s) (tables (now ws) s) ≤ maxCounters ⌝ }
     requires { ⌜ s .conditions ≤ length (now items) ⌝ }
-    ensures { λ _. ⌜ Items-counted (program (now (ws .entry)) s) (tables (now (ws .entry)) s) (bad-rows (now (ws .entry)) s) (counter-count (program (now (ws .entry)) s) (tables (now (ws .entry)) s)) (now (items .exit)) ⌝ }
+    ensures { λ _. ⌜ Items-counted (program (now (ws .entry)) s) (tables (now (ws .entry)) s)
+        (bad-rows (now (ws .entry)) s) (counter-count (program (now (ws .entry)) s) (tables (now (ws .entry)) s))
+        (now (items .exit)) ⌝ }
 {
     for r in 0..s.conditions {
         let x = item_number(ws, s, index, r);

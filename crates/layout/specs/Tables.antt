@@ -12,7 +12,8 @@ use Rattle.model.specs.Heads.{is-function, innermost}
 use Rattle.model.specs.Reader.{past}
 use Rattle.program.specs.Rows.{from}
 
--- the table of ends, filled for the rows from i on: the row after the expression at a row, and after the pattern at a row, where they are read
+-- the table of ends, filled for the rows from i on: the row after the expression at a row, and after the pattern at a
+-- row, where they are read
 pub record After-from (p : Program) (i : ℕ) (table : List ℕ) : Type 0 where
   pub expressions : (r q : ℕ) → i ≤ r → from p (expression ∷ []) r ≡ past q → getD table r 0 ≡ q
   pub patterns : (d r q : ℕ) → i ≤ r → from p (pattern d ∷ []) r ≡ past q → getD table r 0 ≡ q

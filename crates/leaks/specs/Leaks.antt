@@ -16,7 +16,8 @@ use Rattle.covers.specs.declared.Step.{Step}
 use Rattle.bounds.specs.Limits.{Limits-table}
 use Rattle.covers.specs.Pairs.{Pairs-table}
 
--- the first of the ceilings below `most` from whose highest counts a rule leads out of all ceilings; `most` where none does
+-- the first of the ceilings below `most` from whose highest counts a rule leads out of all ceilings; `most` where none
+-- does
 unfoldable pub first-leak : Bounds → ℕ → List Rule → ℕ
 first-leak bs most ρs = first 0 most (λ k. leads-out bs ρs (highest (bs .limit k)))
 

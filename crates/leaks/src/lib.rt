@@ -89,11 +89,14 @@ fn inner_leak(
     most: usize,
 ) -> usize
     requires { ⌜ Ready (now ws) s ⌝ }
-    requires { ⌜ Slots-ask (program (now ws) s) (tables (now ws) s) (now afters) (now cases) (now receives) (now names) (now index) ⌝ }
+    requires { ⌜ Slots-ask (program (now ws) s) (tables (now ws) s) (now afters) (now cases) (now receives)
+        (now names) (now index) ⌝ }
     requires { ⌜ Ceilings (now ws) s n (now limits) (now pairs) ⌝ }
     requires { ⌜ Sourced (program (now ws) s) x ⌝ }
     requires { ⌜ (i < s .states) × (j < outer-to x) × (most ≤ s .bounds) ⌝ }
-    ensures { λ r. ⌜ r ≡ first-leak (bounds (now (ws .entry)) s n) most (inner-rules (program (now (ws .entry)) s) (tables (now (ws .entry)) s) i x j) ⌝ }
+    ensures { λ r. ⌜ r ≡
+        first-leak (bounds (now (ws .entry)) s n) most
+        (inner-rules (program (now (ws .entry)) s) (tables (now (ws .entry)) s) i x j) ⌝ }
 {
     let mut best = most;
     let end = inner_count(ws, s, x);
@@ -147,11 +150,14 @@ fn source_leak(
     most: usize,
 ) -> usize
     requires { ⌜ Ready (now ws) s ⌝ }
-    requires { ⌜ Slots-ask (program (now ws) s) (tables (now ws) s) (now afters) (now cases) (now receives) (now names) (now index) ⌝ }
+    requires { ⌜ Slots-ask (program (now ws) s) (tables (now ws) s) (now afters) (now cases) (now receives)
+        (now names) (now index) ⌝ }
     requires { ⌜ Ceilings (now ws) s n (now limits) (now pairs) ⌝ }
     requires { ⌜ Sourced (program (now ws) s) x ⌝ }
     requires { ⌜ (i < s .states) × (most ≤ s .bounds) ⌝ }
-    ensures { λ r. ⌜ r ≡ first-leak (bounds (now (ws .entry)) s n) most (source-rules (program (now (ws .entry)) s) (tables (now (ws .entry)) s) i x) ⌝ }
+    ensures { λ r. ⌜ r ≡
+        first-leak (bounds (now (ws .entry)) s n) most
+        (source-rules (program (now (ws .entry)) s) (tables (now (ws .entry)) s) i x) ⌝ }
 {
     let mut best = most;
     let end = outer_to(x);
@@ -194,7 +200,9 @@ fn first_leak(
 ) -> usize
     requires { ⌜ Prepared (now ws) s (now afters) (now inners) (now cases) (now receives) (now names) (now index) ⌝ }
     requires { ⌜ Ceilings (now ws) s n (now limits) (now pairs) ⌝ }
-    ensures { λ r. ⌜ r ≡ first-leak (bounds (now (ws .entry)) s n) (s .bounds) (rules (program (now (ws .entry)) s) (tables (now (ws .entry)) s)) ⌝ }
+    ensures { λ r. ⌜ r ≡
+        first-leak (bounds (now (ws .entry)) s n) (s .bounds)
+        (rules (program (now (ws .entry)) s) (tables (now (ws .entry)) s)) ⌝ }
 {
     let mut best = s.bounds;
     let mut i = 0;
@@ -238,7 +246,9 @@ pub fn leak_check(
     requires { ⌜ Prepared (now ws) s (now afters) (now inners) (now cases) (now receives) (now names) (now index) ⌝ }
     requires { ⌜ Ceilings (now ws) s n (now limits) (now pairs) ⌝ }
     requires { ⌜ Starts-table n (bound-entries (now ws) s) (s .bounds) (now starts) ⌝ }
-    ensures { λ r. ⌜ r ≡ answer (leak-check (now (ws .entry)) s (bounds (now (ws .entry)) s n) (rules (program (now (ws .entry)) s) (tables (now (ws .entry)) s))) ⌝ }
+    ensures { λ r. ⌜ r ≡
+        answer (leak-check (now (ws .entry)) s (bounds (now (ws .entry)) s n)
+        (rules (program (now (ws .entry)) s) (tables (now (ws .entry)) s))) ⌝ }
 {
     let k = first_leak(
         ws,

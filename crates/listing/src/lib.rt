@@ -39,7 +39,8 @@ fn put(out: &mut [u32], n: usize, x: usize, tag: u32, number: usize)
 fn put_states(out: &mut [u32], n: usize, x: usize, from: usize, to: usize) -> usize
     requires { ⌜ (x + 2 ≤ n) × (4 + 2 * n ≤ length (now out)) ⌝ }
     requires { ⌜ (from < 65536) × (to < 65536) ⌝ }
-    ensures { λ e. ⌜ (e ≡ x + 2) × (now (out .exit) ≡ put-line (put-line (now (out .entry)) n x (line 50 from)) n (x + 1) (line 51 to)) ⌝ }
+    ensures { λ e. ⌜ (e ≡ x + 2) ×
+        (now (out .exit) ≡ put-line (put-line (now (out .entry)) n x (line 50 from)) n (x + 1) (line 51 to)) ⌝ }
 {
     put(out, n, x, 50, from);
     put(out, n, x + 1, 51, to);
@@ -58,7 +59,10 @@ fn put_rule(
 ) -> usize
     requires { ⌜ (x + 3 ≤ n) × (4 + 2 * n ≤ length (now out)) ⌝ }
     requires { ⌜ (from < 65536) × (to < 65536) × (z < 65536) ⌝ }
-    ensures { λ e. ⌜ (e ≡ x + 3) × (now (out .exit) ≡ put-line (put-line (put-line (now (out .entry)) n x (line 50 from)) n (x + 1) (line 51 to)) n (x + 2) (line tag z)) ⌝ }
+    ensures { λ e. ⌜ (e ≡ x + 3) ×
+        (now (out .exit) ≡
+        put-line (put-line (put-line (now (out .entry)) n x (line 50 from)) n (x + 1) (line 51 to)) n (x + 2)
+        (line tag z)) ⌝ }
 {
     let e = put_states(out, n, x, from, to);
     put(out, n, e, tag, z);
@@ -97,11 +101,13 @@ fn write_inner(
     j: usize,
 ) -> usize
     requires { ⌜ Ready (now ws) s ⌝ }
-    requires { ⌜ Slots-ask (program (now ws) s) (tables (now ws) s) (now afters) (now cases) (now receives) (now names) (now index) ⌝ }
+    requires { ⌜ Slots-ask (program (now ws) s) (tables (now ws) s) (now afters) (now cases) (now receives)
+        (now names) (now index) ⌝ }
     requires { ⌜ Sourced (program (now ws) s) x ⌝ }
     requires { ⌜ (i < s .states) × (j < outer-to x) ⌝ }
     requires { ⌜ Room (now out) n at (inner-rules (program (now ws) s) (tables (now ws) s) i x j) ⌝ }
-    ensures { λ e. ⌜ Put (now (out .entry)) (now (out .exit)) n at e (inner-rules (program (now (ws .entry)) s) (tables (now (ws .entry)) s) i x j) ⌝ }
+    ensures { λ e. ⌜ Put (now (out .entry)) (now (out .exit)) n at e
+        (inner-rules (program (now (ws .entry)) s) (tables (now (ws .entry)) s) i x j) ⌝ }
 {
     let end = inner_count(ws, s, x);
     let mut e = at;
@@ -130,11 +136,13 @@ fn write_source(
     x: Source,
 ) -> usize
     requires { ⌜ Ready (now ws) s ⌝ }
-    requires { ⌜ Slots-ask (program (now ws) s) (tables (now ws) s) (now afters) (now cases) (now receives) (now names) (now index) ⌝ }
+    requires { ⌜ Slots-ask (program (now ws) s) (tables (now ws) s) (now afters) (now cases) (now receives)
+        (now names) (now index) ⌝ }
     requires { ⌜ Sourced (program (now ws) s) x ⌝ }
     requires { ⌜ i < s .states ⌝ }
     requires { ⌜ Room (now out) n at (source-rules (program (now ws) s) (tables (now ws) s) i x) ⌝ }
-    ensures { λ e. ⌜ Put (now (out .entry)) (now (out .exit)) n at e (source-rules (program (now (ws .entry)) s) (tables (now (ws .entry)) s) i x) ⌝ }
+    ensures { λ e. ⌜ Put (now (out .entry)) (now (out .exit)) n at e
+        (source-rules (program (now (ws .entry)) s) (tables (now (ws .entry)) s) i x) ⌝ }
 {
     let end = outer_to(x);
     let mut e = at;
@@ -175,7 +183,8 @@ fn write_rules(
 ) -> usize
     requires { ⌜ Prepared (now ws) s (now afters) (now inners) (now cases) (now receives) (now names) (now index) ⌝ }
     requires { ⌜ Room (now out) n 0 (rules (program (now ws) s) (tables (now ws) s)) ⌝ }
-    ensures { λ e. ⌜ Put (now (out .entry)) (now (out .exit)) n 0 e (rules (program (now (ws .entry)) s) (tables (now (ws .entry)) s)) ⌝ }
+    ensures { λ e. ⌜ Put (now (out .entry)) (now (out .exit)) n 0 e
+        (rules (program (now (ws .entry)) s) (tables (now (ws .entry)) s)) ⌝ }
 {
     let mut e = 0;
     let mut i = 0;
@@ -227,7 +236,8 @@ pub fn write_listing(
 )
     requires { ⌜ Prepared (now ws) s (now afters) (now inners) (now cases) (now receives) (now names) (now index) ⌝ }
     requires { ⌜ length (system-words (program (now ws) s) (tables (now ws) s)) ≤ length (now out) ⌝ }
-    ensures { λ r. ⌜ now (out .exit) ≡ written (system-words (program (now (ws .entry)) s) (tables (now (ws .entry)) s)) (now (out .entry)) ⌝ }
+    ensures { λ r. ⌜ now (out .exit) ≡
+        written (system-words (program (now (ws .entry)) s) (tables (now (ws .entry)) s)) (now (out .entry)) ⌝ }
 {
     let n = totals_of(ws, s, afters, inners, cases, receives, names, index);
     let rows = n.rows;

@@ -37,10 +37,12 @@ module _ (p : Program) where
   blank-none firsts = record { none-yet = λ j l. absurd (omega arith) }
 
   pub blank-next : (firsts : List ℕ) (k x : ℕ) → Blank firsts k → x ≡ size p → k < length firsts → Blank (set firsts k x) (k + 1)
-  blank-next firsts k x b e room = record { none-yet = λ j l. elim (ℕ-discrete j k) [
-    | yes z ↦ ap (λ y. getD (set firsts k x) y 0) z ∙ (getD-set-same firsts k x 0 room ∙ e)
-    | no z ↦ getD-set-other firsts k j x 0 z ∙ b .none-yet j (omega arith)
-  ] }
+  blank-next firsts k x b e room = record {
+    none-yet = λ j l. elim (ℕ-discrete j k) [
+      | yes z ↦ ap (λ y. getD (set firsts k x) y 0) z ∙ (getD-set-same firsts k x 0 room ∙ e)
+      | no z ↦ getD-set-other firsts k j x 0 z ∙ b .none-yet j (omega arith)
+    ];
+  }
 
   pub chained-begin : (firsts nexts : List ℕ) (k x : ℕ) → Blank firsts k → p .constructors ≤ k → x ≡ size p → p .constructors ≤ length firsts → size p ≤ length nexts → Chained p firsts nexts x
   chained-begin firsts nexts k x b l e room room′ = record {

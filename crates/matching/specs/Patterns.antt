@@ -1,5 +1,5 @@
--- The codes of patterns of any depth; for each constructor pattern the set of values that it may match, and of those that find its names' values
--- there.
+-- The codes of patterns of any depth; for each constructor pattern the set of values that it may match, and of those
+-- that find its names' values there.
 use Prim.Native.Nat.{ℕ, _+_, _*_, _-_, _≤_, _<_}
 use mathlib.Core.Path.{_≡_}
 use mathlib.Core.Bool.{Bool, true, false, _&&_, _||_}
@@ -46,27 +46,31 @@ pub record Is-code (p : Program) (t : Tables) (q v c : ℕ) : Type 0 where
 
 -- c is the code of the pattern at row q with the values of set k, whatever list they are of
 pub record Is-values-code (p : Program) (t : Tables) (sets : List ℕ) (k q c : ℕ) : Type 0 where
-  pub of-list : (l : Columns) (a d : ℕ) → Values l a (width (size p)) k sets → Pattern p d q → c ≡ values-code p t l a d q
+  pub of-list :
+      (l : Columns) (a d : ℕ) → Values l a (width (size p)) k sets → Pattern p d q → c ≡ values-code p t l a d q
 
 -- row v builds a value of the constructor k
 unfoldable pub is-build : Program → ℕ → ℕ → Bool
 is-build p k v = eqb (tag p v) 2 && eqb (num p (v + 1)) k
 
--- The rows that build values of a constructor, as a chain: the first of each constructor, and the next behind each; R where there is none.
+-- The rows that build values of a constructor, as a chain: the first of each constructor, and the next behind each; R
+-- where there is none.
 pub record Builds (p : Program) (firsts nexts : List ℕ) : Type 0 where
   pub first-room : p .constructors ≤ length firsts
   pub next-room : size p ≤ length nexts
   pub first-build : (k : ℕ) → k < p .constructors → getD firsts k 0 ≡ first 0 (size p) (is-build p k)
-  pub next-build : (v : ℕ) → v < size p → tag p v ≡ 2 → getD nexts v 0 ≡ first (v + 1) (size p) (is-build p (num p (v + 1)))
+  pub next-build :
+      (v : ℕ) → v < size p → tag p v ≡ 2 → getD nexts v 0 ≡ first (v + 1) (size p) (is-build p (num p (v + 1)))
 
--- set q of `may` has the values that the pattern at row q may match, set q of `held` those of them whose parts its names hold
+-- set q of `may` has the values that the pattern at row q may match, set q of `held` those of them whose parts its
+-- names hold
 pub record Matched (p : Program) (t : Tables) (may held : List ℕ) (q : ℕ) : Type 0 where
   pub may-row : Row may (width (size p)) q
   pub held-row : Row held (width (size p)) q
   pub may-set : (d v : ℕ) → tag p q ≡ 31 → Pattern p d q → v < 64 * width (size p) →
-    member may (width (size p)) q v ≡ may-match p t d q v
+      member may (width (size p)) q v ≡ may-match p t d q v
   pub held-set : (d v : ℕ) → tag p q ≡ 31 → Pattern p d q → v < 64 * width (size p) →
-    member held (width (size p)) q v ≡ (may-match p t d q v && names-hold p t d q v)
+      member held (width (size p)) q v ≡ (may-match p t d q v && names-hold p t d q v)
 
 -- ... of each row from x on
 pub record Matches (p : Program) (t : Tables) (may held : List ℕ) (x : ℕ) : Type 0 where

@@ -27,13 +27,22 @@ pub fn worse(a: usize, b: usize) -> usize
 }
 
 // The code of the pattern at row q, which binds no constructor's parts, with the values of set k.
-fn leaf_code(ws: &[u16], s: Sizes, flow: &[u64], sets: &[u64], k: usize, q: usize, kind: usize) -> usize
+fn leaf_code(
+    ws: &[u16],
+    s: Sizes,
+    flow: &[u64],
+    sets: &[u64],
+    k: usize,
+    q: usize,
+    kind: usize,
+) -> usize
     requires { ⌜ Ready (now ws) s ⌝ }
     requires { ⌜ Flow-sets (program (now ws) s) (tables (now ws) s) (now flow) ⌝ }
     requires { ⌜ Row (now sets) (width (s .rows)) k ⌝ }
     requires { ⌜ Standing (program (now ws) s) q ⌝ }
     requires { ⌜ (kind ≡ tag (program (now ws) s) q) × (kind ≡ 31 → ⊥) ⌝ }
-    ensures { λ c. ⌜ Is-values-code (program (now (ws .entry)) s) (tables (now (ws .entry)) s) (now (sets .entry)) k q c ⌝ }
+    ensures { λ c. ⌜ Is-values-code (program (now (ws .entry)) s) (tables (now (ws .entry)) s)
+        (now (sets .entry)) k q c ⌝ }
 {
     let w = width(s);
     if !meets(sets, sets, w, k, k) {
@@ -43,11 +52,7 @@ fn leaf_code(ws: &[u16], s: Sizes, flow: &[u64], sets: &[u64], k: usize, q: usiz
         return 1;
     }
     let name = num(ws, s, q);
-    if within(sets, flow, w, k, name) {
-        1
-    } else {
-        2
-    }
+    if within(sets, flow, w, k, name) { 1 } else { 2 }
 }
 
 // The code of the pattern at row q with the values of set k.
@@ -66,7 +71,8 @@ pub fn values_code(
     requires { ⌜ Matched (program (now ws) s) (tables (now ws) s) (now may) (now held) q ⌝ }
     requires { ⌜ Row (now sets) (width (s .rows)) k ⌝ }
     requires { ⌜ Standing (program (now ws) s) q ⌝ }
-    ensures { λ c. ⌜ Is-values-code (program (now (ws .entry)) s) (tables (now (ws .entry)) s) (now (sets .entry)) k q c ⌝ }
+    ensures { λ c. ⌜ Is-values-code (program (now (ws .entry)) s) (tables (now (ws .entry)) s)
+        (now (sets .entry)) k q c ⌝ }
 {
     let kind = tag(ws, s, q);
     if kind == 31 {
@@ -76,7 +82,8 @@ pub fn values_code(
     leaf_code(ws, s, flow, sets, k, q, kind)
 }
 
-// The code of the constructor pattern at row q with the value v of that constructor, by those of its subpatterns with the arguments' values.
+// The code of the constructor pattern at row q with the value v of that constructor, by those of its subpatterns with
+// the arguments' values.
 pub fn arguments_code(
     ws: &[u16],
     s: Sizes,

@@ -1,5 +1,6 @@
-// Which values a constructor pattern may match, and which of these find their parts among the values of the pattern's names: two sets for each such
-// row, filled from the last row to the first, so that a pattern finds those of its subpatterns there.
+// Which values a constructor pattern may match, and which of these find their parts among the values of the pattern's
+// names: two sets for each such row, filled from the last row to the first, so that a pattern finds those of its
+// subpatterns there.
 pub mod builds;
 pub mod codes;
 pub mod patterns;

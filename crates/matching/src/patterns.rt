@@ -47,9 +47,11 @@ fn fill_pattern(
     requires { ⌜ Clear (width (s .rows)) (q + 1) (now may) × Clear (width (s .rows)) (q + 1) (now held) ⌝ }
     requires { ⌜ Matches (program (now ws) s) (tables (now ws) s) (now may) (now held) (q + 1) ⌝ }
     requires { ⌜ (tag (program (now ws) s) q ≡ 31) × (q < s .rows) ⌝ }
-    ensures { λ _. ⌜ Room (width (s .rows)) (s .rows) (now (may .exit)) × Room (width (s .rows)) (s .rows) (now (held .exit)) ⌝ }
+    ensures { λ _. ⌜ Room (width (s .rows)) (s .rows) (now (may .exit)) ×
+        Room (width (s .rows)) (s .rows) (now (held .exit)) ⌝ }
     ensures { λ _. ⌜ Clear (width (s .rows)) q (now (may .exit)) × Clear (width (s .rows)) q (now (held .exit)) ⌝ }
-    ensures { λ _. ⌜ Matches (program (now (ws .entry)) s) (tables (now (ws .entry)) s) (now (may .exit)) (now (held .exit)) q ⌝ }
+    ensures { λ _. ⌜ Matches (program (now (ws .entry)) s) (tables (now (ws .entry)) s) (now (may .exit))
+        (now (held .exit)) q ⌝ }
 {
     let w = width(s);
     let made = num(ws, s, q);
@@ -79,7 +81,8 @@ pub fn fill_patterns(
     requires { ⌜ Builds (program (now ws) s) (now firsts) (now nexts) ⌝ }
     requires { ⌜ Room (width (s .rows)) (s .rows) (now may) × Room (width (s .rows)) (s .rows) (now held) ⌝ }
     requires { ⌜ Empty (width (s .rows)) (now may) × Empty (width (s .rows)) (now held) ⌝ }
-    ensures { λ _. ⌜ Matches (program (now (ws .entry)) s) (tables (now (ws .entry)) s) (now (may .exit)) (now (held .exit)) 0 ⌝ }
+    ensures { λ _. ⌜ Matches (program (now (ws .entry)) s) (tables (now (ws .entry)) s) (now (may .exit))
+        (now (held .exit)) 0 ⌝ }
 {
     let mut q = s.rows;
     while q > 0 {

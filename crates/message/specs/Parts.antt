@@ -1,4 +1,5 @@
--- What the code of this crate answers, by the definitions of the model: refusals 1 and 2 of a message, or the sizes of its whole parts.
+-- What the code of this crate answers, by the definitions of the model: refusals 1 and 2 of a message, or the sizes of
+-- its whole parts.
 use Prim.Native.Nat.{ℕ, _+_, _*_}
 use mathlib.Core.List.{List}
 use mathlib.Core.Option.{some, none}

@@ -31,11 +31,13 @@ enum Checked {
     Fail(Verdict),
 }
 
-// Refusals 1 and 2 of a part at word `at`: its sizes whole, within their limits, its two arrays of `elements` words whole. The first size
-// outside its limits is number `wrong` of the part's `count` sizes.
+// Refusals 1 and 2 of a part at word `at`: its sizes whole, within their limits, its two arrays of `elements` words
+// whole. The first size outside its limits is number `wrong` of the part's `count` sizes.
 fn part(bytes: &[u8], at: usize, count: usize, wrong: usize, elements: usize) -> Checked
     requires { ⌜ at + count + 2 * elements < 2 ^ 21 ⌝ }
-    ensures { λ r. ⌜ ((ls : List Limited) → length ls ≡ count → first-outside ls ≡ wrong → r ≡ checked (part-check (words (now (bytes .entry))) at ls elements)) ⌝ }
+    ensures { λ r. ⌜
+        ((ls : List Limited) → length ls ≡ count → first-outside ls ≡ wrong →
+        r ≡ checked (part-check (words (now (bytes .entry))) at ls elements)) ⌝ }
 {
     let words = bytes.len() / 2;
     if words < at + count {

@@ -87,7 +87,9 @@ fn meets(ws: &[u16], s: Sizes, n: usize, limits: &[u16], items: &[u16], k: usize
 fn some_allows(ws: &[u16], s: Sizes, n: usize, limits: &[u16], items: &[u16], r: usize) -> bool
     requires { ⌜ Ready (now ws) s n (now limits) (now items) ⌝ }
     requires { ⌜ r ≤ s .conditions ⌝ }
-    ensures { λ b. ⌜ b ≡ bad-allowed (program (now (ws .entry)) s) (tables (now (ws .entry)) s) (bounds (now (ws .entry)) s n) (bad-rows (now (ws .entry)) s) r ⌝ }
+    ensures { λ b. ⌜ b ≡
+        bad-allowed (program (now (ws .entry)) s) (tables (now (ws .entry)) s) (bounds (now (ws .entry)) s n)
+        (bad-rows (now (ws .entry)) s) r ⌝ }
 {
     for k in 0..s.bounds {
         if meets(ws, s, n, limits, items, k, r) {
@@ -101,7 +103,9 @@ fn some_allows(ws: &[u16], s: Sizes, n: usize, limits: &[u16], items: &[u16], r:
 pub fn met_check(ws: &[u16], s: Sizes, n: usize, limits: &[u16], items: &[u16]) -> Verdict
     requires { ⌜ Ready (now ws) s n (now limits) (now items) ⌝ }
     requires { ⌜ Bads-in-form (now ws) s ⌝ }
-    ensures { λ v. ⌜ v ≡ answer (met-check s (program (now (ws .entry)) s) (tables (now (ws .entry)) s) (bounds (now (ws .entry)) s n) (bad-rows (now (ws .entry)) s)) ⌝ }
+    ensures { λ v. ⌜ v ≡
+        answer (met-check s (program (now (ws .entry)) s) (tables (now (ws .entry)) s) (bounds (now (ws .entry)) s n)
+        (bad-rows (now (ws .entry)) s)) ⌝ }
 {
     let at = 4 + 2 * s.rows + 2;
     let mut r: usize = 0;

@@ -35,7 +35,8 @@ bad-step p subject t n = fits (eqb t 41 && is-head (tag p n) || eqb t 42 && ltb 
 bad-step p minimum t n = fits (eqb t 43 && leb 1 n) []
 bad-step p further t n = elim (eqb t 44) [ true ↦ fits (eqb n 0) [] | false ↦ fits (eqb t 40 && is-class p n) item ]
 
--- 6: "form, class, head, letter, no item, or not B bads: first such tag, a row after B bads included; rows ending early: the word past the tags"
+-- 6: "form, class, head, letter, no item, or not B bads: first such tag, a row after B bads included; rows ending
+-- early: the word past the tags"
 unfoldable pub bad-check : List ℕ → Sizes → Program → Check
 bad-check ws s p =
     Option·map (λ r. Bad (bads-at s + 2 + r)) (first-wrong (bad-step p) (bad-rows ws s) (replicate (s .bads) bad))
@@ -56,7 +57,8 @@ counted rows r =
       | false ↦ letter-of (right rows r) (right rows (r + 1))
     ]
 
--- "it is met when every item is, an item when its count is at least its minimum": by the counts, from row r on; n rows are left
+-- "it is met when every item is, an item when its count is at least its minimum": by the counts, from row r on; n rows
+-- are left
 unfoldable pub met-from : (Counted → ℕ) → Columns → ℕ → ℕ → Bool
 met-from counts rows zero r = true
 met-from counts rows (suc n) r =

@@ -27,7 +27,8 @@ bound-entries ws s = columns ws (s .limits) (bounds-at s + 2) (bounds-at s + 2 +
 pub data Ahead : Type 0 where
   from-counter : ℕ → Ahead
 
--- "Within a ceiling, counter numbers rise strictly, limits 1 to 65,535 ... The count of all counters, as counter number with limit 0, closes a ceiling."
+-- "Within a ceiling, counter numbers rise strictly, limits 1 to 65,535 ... The count of all counters, as counter
+-- number with limit 0, closes a ceiling."
 unfoldable pub bound-step : ℕ → Grammar Ahead
 bound-step counters (from-counter least) x limit =
     elim (eqb x counters) [
@@ -38,23 +39,26 @@ bound-step counters (from-counter least) x limit =
 abbrev pub bounds-of : ℕ → List Ahead
 bounds-of k = replicate k (from-counter 0)
 
--- 10: "form, or not K ceilings: first such entry's counter number, an entry after K ceilings included; entries ending early: the word past the
--- counter numbers"
+-- 10: "form, or not K ceilings: first such entry's counter number, an entry after K ceilings included; entries ending
+-- early: the word past the counter numbers"
 unfoldable pub bound-check : List ℕ → Sizes → ℕ → Check
 bound-check ws s counters =
-    Option·map (λ e. Ceiling (bounds-at s + 2 + e)) (first-wrong (bound-step counters) (bound-entries ws s) (bounds-of (s .bounds)))
+    Option·map (λ e. Ceiling (bounds-at s + 2 + e))
+    (first-wrong (bound-step counters) (bound-entries ws s) (bounds-of (s .bounds)))
 
 -- the first entry of bound number k
 unfoldable pub bound-entry : ℕ → Columns → ℕ → ℕ
 bound-entry counters entries k = after (bound-step counters) entries (bounds-of k) 0
 
--- the limit of counter x in the bound whose entries stand from e on; "absent counters have limit 0". n entries are left.
+-- the limit of counter x in the bound whose entries stand from e on; "absent counters have limit 0". n entries are
+-- left.
 unfoldable pub limit-from : ℕ → Columns → ℕ → ℕ → ℕ → ℕ
 limit-from counters entries zero e x = 0
 limit-from counters entries (suc n) e x =
     elim (eqb (left entries e) counters) [
       | true ↦ 0
-      | false ↦ elim (eqb (left entries e) x) [ true ↦ right entries e | false ↦ limit-from counters entries n (e + 1) x ]
+      | false ↦ elim
+          (eqb (left entries e) x) [ true ↦ right entries e | false ↦ limit-from counters entries n (e + 1) x ]
     ]
 
 -- a bound gives each counter its limit
@@ -86,7 +90,8 @@ under counters b m = all 0 counters (λ x. allowed (b x) (m x))
 unfoldable pub under-some : Bounds → Marking → Bool
 under-some bs m = any 0 (bs .size) (λ k. under (bs .counters) (bs .limit k) m)
 
--- The highest counts under a bound: the limits themselves, and where there is none a count past every limit, also after a rule takes one.
+-- The highest counts under a bound: the limits themselves, and where there is none a count past every limit, also
+-- after a rule takes one.
 unfoldable pub highest : Bound → Marking
 highest b x = elim (eqb (b x) omega-limit) [ true ↦ omega-limit + 1 | false ↦ b x ]
 

@@ -1,5 +1,6 @@
--- Document 01, "Station A" and the cases that it lists under "Proved", and cases of our own that tell wrong verifiers apart. proofs/Cases.antt
--- proves by computation that the definitions give what stands here: number, place, part handed on and every lent word.
+-- Document 01, "Station A" and the cases that it lists under "Proved", and cases of our own that tell wrong verifiers
+-- apart. proofs/Cases.antt proves by computation that the definitions give what stands here: number, place, part
+-- handed on and every lent word.
 use Prim.Native.Nat.{ℕ, _+_, _/_, _%_}
 use mathlib.Core.List.{List, [], _∷_, _++_, map}
 use lib.ListN.{length, take, set, replicate}
@@ -68,7 +69,8 @@ safe beyond program bytes listing =
 
 -- "Sizes 10 3 1 0; rows 0 to 9": an address x, a message m, sent to oneself and received
 unfoldable pub a-program : List ℕ
-a-program = program-words 3 1 0 ((10, 0) ∷ (7, 0) ∷ (2, 1) ∷ (20, 0) ∷ (5, 2) ∷ (21, 0) ∷ (21, 1) ∷ (9, 1) ∷ (31, 0) ∷ (1, 0) ∷ [])
+a-program = program-words 3 1 0
+    ((10, 0) ∷ (7, 0) ∷ (2, 1) ∷ (20, 0) ∷ (5, 2) ∷ (21, 0) ∷ (21, 1) ∷ (9, 1) ∷ (31, 0) ∷ (1, 0) ∷ [])
 
 -- "Bads 1 4"
 unfoldable pub a-bads : List ℕ
@@ -76,11 +78,13 @@ a-bads = bad-words 1 ((40, 10) ∷ (42, 0) ∷ (43, 2) ∷ (44, 0) ∷ [])
 
 -- "Tables 3 1 5"
 unfoldable pub a-tables : List ℕ
-a-tables = table-words ((0, 10) ∷ (1, 2) ∷ (2, 2) ∷ []) ((10, 2) ∷ []) ((10, 1) ∷ (10, 2) ∷ (10, 4) ∷ (10, 7) ∷ (10, 9) ∷ [])
+a-tables = table-words ((0, 10) ∷ (1, 2) ∷ (2, 2) ∷ []) ((10, 2) ∷ [])
+    ((10, 1) ∷ (10, 2) ∷ (10, 4) ∷ (10, 7) ∷ (10, 9) ∷ [])
 
 -- "Ceilings 5 11"
 unfoldable pub a-bounds : List ℕ
-a-bounds = bound-words 5 ((0, 1) ∷ (6, 0) ∷ (1, 1) ∷ (6, 0) ∷ (2, 1) ∷ (6, 0) ∷ (3, 1) ∷ (5, 1) ∷ (6, 0) ∷ (4, 1) ∷ (6, 0) ∷ [])
+a-bounds = bound-words 5
+    ((0, 1) ∷ (6, 0) ∷ (1, 1) ∷ (6, 0) ∷ (2, 1) ∷ (6, 0) ∷ (3, 1) ∷ (5, 1) ∷ (6, 0) ∷ (4, 1) ∷ (6, 0) ∷ [])
 
 unfoldable pub a-words : List ℕ
 a-words = a-program ++ a-bads ++ a-tables ++ a-bounds
@@ -120,14 +124,23 @@ proved-cases =
     -- minimum 1: 12 at 26 (the minimum is word 32)
     refused 30 (with-word 32 1) 12 26 ∷
     -- no mail entry, M 0: 8 at 42
-    refused 30 (with-tables (table-words ((0, 10) ∷ (1, 2) ∷ (2, 2) ∷ []) [] ((10, 1) ∷ (10, 2) ∷ (10, 4) ∷ (10, 7) ∷ (10, 9) ∷ []))) 8 42 ∷
+    refused 30
+    (with-tables
+    (table-words ((0, 10) ∷ (1, 2) ∷ (2, 2) ∷ []) []
+    ((10, 1) ∷ (10, 2) ∷ (10, 4) ∷ (10, 7) ∷ (10, 9) ∷ []))) 8 42 ∷
     -- first ceiling gone: 11 at 55
-    refused 30 (with-bounds (bound-words 4 ((1, 1) ∷ (6, 0) ∷ (2, 1) ∷ (6, 0) ∷ (3, 1) ∷ (5, 1) ∷ (6, 0) ∷ (4, 1) ∷ (6, 0) ∷ []))) 11 55 ∷
+    refused 30
+    (with-bounds
+    (bound-words 4 ((1, 1) ∷ (6, 0) ∷ (2, 1) ∷ (6, 0) ∷ (3, 1) ∷ (5, 1) ∷ (6, 0) ∷ (4, 1) ∷ (6, 0) ∷ []))) 11 55 ∷
     -- last gone: 13 at 63
-    refused 30 (with-bounds (bound-words 4 ((0, 1) ∷ (6, 0) ∷ (1, 1) ∷ (6, 0) ∷ (2, 1) ∷ (6, 0) ∷ (3, 1) ∷ (5, 1) ∷ (6, 0) ∷ []))) 13 63 ∷
+    refused 30
+    (with-bounds
+    (bound-words 4 ((0, 1) ∷ (6, 0) ∷ (1, 1) ∷ (6, 0) ∷ (2, 1) ∷ (6, 0) ∷ (3, 1) ∷ (5, 1) ∷ (6, 0) ∷ []))) 13 63 ∷
     -- one ceiling, counters 0 to 4 unbounded, counter 5 at 65,534, minimum 65,535: 13 at 57
     refused 30
-    (to-bytes (set (a-program ++ a-bads ++ a-tables ++ bound-words 1 ((0, 65535) ∷ (1, 65535) ∷ (2, 65535) ∷ (3, 65535) ∷ (4, 65535) ∷ (5, 65534) ∷ (6, 0) ∷ [])) 32 65535))
+    (to-bytes
+    (set (a-program ++ a-bads ++ a-tables ++ bound-words 1
+    ((0, 65535) ∷ (1, 65535) ∷ (2, 65535) ∷ (3, 65535) ∷ (4, 65535) ∷ (5, 65534) ∷ (6, 0) ∷ [])) 32 65535))
     13 57 ∷
     -- lent 23 words: 14 at 24
     refused 23 (to-bytes a-words) 14 24 ∷
@@ -135,10 +148,13 @@ proved-cases =
 
 -- Cases of our own. Each expected answer is worked out by hand from document 01, in the comment.
 
--- Two branches and two receives. x = self; m = c0; send x m; receive { y -> receive { c0 -> y }; _ -> x }. A message of letter 0 can go
--- into the second receive by the first branch, or be passed over into the second branch; at the second receive it can be read too.
+-- Two branches and two receives. x = self; m = c0; send x m; receive { y -> receive { c0 -> y }; _ -> x }. A message
+-- of letter 0 can go into the second receive by the first branch, or be passed over into the second branch; at the
+-- second receive it can be read too.
 unfoldable pub two-receives : List ℕ
-two-receives = program-words 4 1 0 ((10, 0) ∷ (7, 0) ∷ (2, 1) ∷ (20, 0) ∷ (5, 2) ∷ (21, 0) ∷ (21, 1) ∷ (9, 2) ∷ (30, 3) ∷ (9, 1) ∷ (31, 0) ∷ (1, 3) ∷ (32, 0) ∷ (1, 0) ∷ [])
+two-receives = program-words 4 1 0
+    ((10, 0) ∷ (7, 0) ∷ (2, 1) ∷ (20, 0) ∷ (5, 2) ∷ (21, 0) ∷ (21, 1) ∷ (9, 2) ∷ (30, 3) ∷ (9, 1) ∷ (31, 0) ∷ (1, 3) ∷
+    (32, 0) ∷ (1, 0) ∷ [])
 
 unfoldable pub two-receives-bads : List ℕ
 two-receives-bads = bad-words 1 ((40, 14) ∷ (42, 0) ∷ (43, 2) ∷ (44, 0) ∷ [])
@@ -148,10 +164,12 @@ unfoldable pub two-receives-with : Pairs → List ℕ
 two-receives-with states =
     to-bytes
     (two-receives ++ two-receives-bads ++ table-words ((0, 14) ∷ (1, 2) ∷ (2, 2) ∷ (3, 2) ∷ []) ((14, 2) ∷ []) states ++
-    bound-words 6 ((0, 1) ∷ (8, 0) ∷ (1, 1) ∷ (8, 0) ∷ (2, 1) ∷ (8, 0) ∷ (3, 1) ∷ (7, 1) ∷ (8, 0) ∷ (4, 1) ∷ (8, 0) ∷ (6, 1) ∷ (8, 0) ∷ []))
+    bound-words 6
+    ((0, 1) ∷ (8, 0) ∷ (1, 1) ∷ (8, 0) ∷ (2, 1) ∷ (8, 0) ∷ (3, 1) ∷ (7, 1) ∷ (8, 0) ∷ (4, 1) ∷ (8, 0) ∷ (6, 1) ∷
+    (8, 0) ∷ []))
 
--- seven states, counter 7 for (14, 0). State 3, at row 7, has a rule for each branch: to state 4 (row 9) and to state 6 (row 13), each reading 7;
--- state 4, at row 9, has a rule to state 5 (row 11), reading 7 too
+-- seven states, counter 7 for (14, 0). State 3, at row 7, has a rule for each branch: to state 4 (row 9) and to state
+-- 6 (row 13), each reading 7; state 4, at row 9, has a rule to state 5 (row 11), reading 7 too
 unfoldable pub two-receives-listing : List ℕ
 two-receives-listing =
     7 ∷ 1 ∷ 6 ∷ 16 ∷
@@ -160,13 +178,17 @@ two-receives-listing =
 
 -- One function, two callers. f(a) = a; b = c0; r = f(b); s = f(r); s. Giving back from row 4 leads behind either call.
 unfoldable pub two-callers : List ℕ
-two-callers = program-words 5 1 1 ((10, 0) ∷ (11, 0) ∷ (22, 1) ∷ (23, 1) ∷ (1, 1) ∷ (2, 2) ∷ (20, 0) ∷ (4, 3) ∷ (21, 0) ∷ (22, 1) ∷ (21, 2) ∷ (4, 4) ∷ (21, 0) ∷ (22, 1) ∷ (21, 3) ∷ (1, 4) ∷ [])
+two-callers = program-words 5 1 1
+    ((10, 0) ∷ (11, 0) ∷ (22, 1) ∷ (23, 1) ∷ (1, 1) ∷ (2, 2) ∷ (20, 0) ∷ (4, 3) ∷ (21, 0) ∷ (22, 1) ∷ (21, 2) ∷
+    (4, 4) ∷ (21, 0) ∷ (22, 1) ∷ (21, 3) ∷ (1, 4) ∷ [])
 
--- f holds row 1, the others row 5 (the build). One process: a bound for each state. The bad: two processes at the build.
+-- f holds row 1, the others row 5 (the build). One process: a bound for each state. The bad: two processes at the
+-- build.
 unfoldable pub two-callers-evidence : List ℕ
 two-callers-evidence =
     bad-words 1 ((40, 16) ∷ (41, 5) ∷ (43, 2) ∷ (44, 0) ∷ []) ++
-    table-words ((0, 1) ∷ (1, 5) ∷ (2, 5) ∷ (3, 5) ∷ (4, 5) ∷ []) [] ((16, 4) ∷ (16, 5) ∷ (16, 7) ∷ (16, 11) ∷ (16, 15) ∷ []) ++
+    table-words ((0, 1) ∷ (1, 5) ∷ (2, 5) ∷ (3, 5) ∷ (4, 5) ∷ []) []
+    ((16, 4) ∷ (16, 5) ∷ (16, 7) ∷ (16, 11) ∷ (16, 15) ∷ []) ++
     bound-words 5 ((0, 1) ∷ (5, 0) ∷ (1, 1) ∷ (5, 0) ∷ (2, 1) ∷ (5, 0) ∷ (3, 1) ∷ (5, 0) ∷ (4, 1) ∷ (5, 0) ∷ [])
 
 -- state 0, at row 4, has a rule to the rest of each call: states 3 (row 11) and 4 (row 15)
@@ -178,7 +200,9 @@ two-callers-listing =
 
 -- A name two levels deep. a = c0; b = c1(a); d = c1(b); case d of { c1(c1(x)) -> x }
 unfoldable pub nested : List ℕ
-nested = program-words 4 2 0 ((10, 0) ∷ (10, 1) ∷ (2, 0) ∷ (20, 0) ∷ (2, 1) ∷ (20, 1) ∷ (21, 0) ∷ (2, 2) ∷ (20, 1) ∷ (21, 1) ∷ (8, 2) ∷ (25, 1) ∷ (31, 1) ∷ (31, 1) ∷ (30, 3) ∷ (1, 3) ∷ [])
+nested = program-words 4 2 0
+    ((10, 0) ∷ (10, 1) ∷ (2, 0) ∷ (20, 0) ∷ (2, 1) ∷ (20, 1) ∷ (21, 0) ∷ (2, 2) ∷ (20, 1) ∷ (21, 1) ∷ (8, 2) ∷
+    (25, 1) ∷ (31, 1) ∷ (31, 1) ∷ (30, 3) ∷ (1, 3) ∷ [])
 
 -- the given flow; no mail; one process
 unfoldable pub nested-with : Pairs → List ℕ
@@ -194,32 +218,45 @@ nested-listing =
     50 ∷ 51 ∷ 50 ∷ 51 ∷ 50 ∷ 51 ∷ 50 ∷ 51 ∷
     0 ∷ 1 ∷ 1 ∷ 2 ∷ 2 ∷ 3 ∷ 3 ∷ 4 ∷ []
 
--- A target of two classes. w() = receive { y -> y }; g(t) = (m = c0; r = send t m; r); p = spawn w; a = g(p); q = self; b = g(q); b. The parameter
--- t may be class 15 (the spawn row) or class 27 (the start).
+-- A target of two classes. w() = receive { y -> y }; g(t) = (m = c0; r = send t m; r); p = spawn w; a = g(p); q =
+-- self; b = g(q); b. The parameter t may be class 15 (the spawn row) or class 27 (the start).
 unfoldable pub two-classes : List ℕ
-two-classes = program-words 10 1 2 ((10, 0) ∷ (11, 0) ∷ (22, 0) ∷ (9, 1) ∷ (30, 1) ∷ (1, 1) ∷ (11, 2) ∷ (22, 1) ∷ (23, 3) ∷ (2, 4) ∷ (20, 0) ∷ (5, 5) ∷ (21, 3) ∷ (21, 4) ∷ (1, 5) ∷ (6, 6) ∷ (21, 0) ∷ (4, 7) ∷ (21, 2) ∷ (22, 1) ∷ (21, 6) ∷ (7, 8) ∷ (4, 9) ∷ (21, 2) ∷ (22, 1) ∷ (21, 8) ∷ (1, 9) ∷ [])
+two-classes = program-words 10 1 2
+    ((10, 0) ∷ (11, 0) ∷ (22, 0) ∷ (9, 1) ∷ (30, 1) ∷ (1, 1) ∷ (11, 2) ∷ (22, 1) ∷ (23, 3) ∷ (2, 4) ∷ (20, 0) ∷
+    (5, 5) ∷ (21, 3) ∷ (21, 4) ∷ (1, 5) ∷ (6, 6) ∷ (21, 0) ∷ (4, 7) ∷ (21, 2) ∷ (22, 1) ∷ (21, 6) ∷ (7, 8) ∷ (4, 9) ∷
+    (21, 2) ∷ (22, 1) ∷ (21, 8) ∷ (1, 9) ∷ [])
 
--- The given mail. States 0 (15,3), 1 (15,5), 2 (27,9), 3 (27,11), 4 (27,14), 5 (27,15), 6 (27,17), 7 (27,21), 8 (27,22), 9 (27,26); letter counters 10 for
--- (15, 0) and 11 for (27, 0). Nothing leads to state 5, so one bound keeps it at 1 and all else unbounded. The bad: two processes at row 15.
+-- The given mail. States 0 (15,3), 1 (15,5), 2 (27,9), 3 (27,11), 4 (27,14), 5 (27,15), 6 (27,17), 7 (27,21), 8
+-- (27,22), 9 (27,26); letter counters 10 for (15, 0) and 11 for (27, 0). Nothing leads to state 5, so one bound keeps
+-- it at 1 and all else unbounded. The bad: two processes at row 15.
 unfoldable pub two-classes-with : Pairs → List ℕ
 two-classes-with mail =
     to-bytes
     (two-classes ++ bad-words 1 ((40, 27) ∷ (41, 15) ∷ (43, 2) ∷ (44, 0) ∷ []) ++
-    table-words ((0, 1) ∷ (1, 9) ∷ (2, 6) ∷ (3, 15) ∷ (3, 27) ∷ (4, 9) ∷ (5, 9) ∷ (6, 15) ∷ (7, 9) ∷ (8, 27) ∷ (9, 9) ∷ []) mail
+    table-words
+    ((0, 1) ∷ (1, 9) ∷ (2, 6) ∷ (3, 15) ∷ (3, 27) ∷ (4, 9) ∷ (5, 9) ∷ (6, 15) ∷ (7, 9) ∷ (8, 27) ∷ (9, 9) ∷
+    []) mail
     ((15, 3) ∷ (15, 5) ∷ (27, 9) ∷ (27, 11) ∷ (27, 14) ∷ (27, 15) ∷ (27, 17) ∷ (27, 21) ∷ (27, 22) ∷ (27, 26) ∷ []) ++
-    bound-words 1 ((0, 65535) ∷ (1, 65535) ∷ (2, 65535) ∷ (3, 65535) ∷ (4, 65535) ∷ (5, 1) ∷ (6, 65535) ∷ (7, 65535) ∷ (8, 65535) ∷ (9, 65535) ∷ (10, 65535) ∷ (11, 65535) ∷ (12, 0) ∷ []))
+    bound-words 1
+    ((0, 65535) ∷ (1, 65535) ∷ (2, 65535) ∷ (3, 65535) ∷ (4, 65535) ∷ (5, 1) ∷ (6, 65535) ∷ (7, 65535) ∷
+    (8, 65535) ∷ (9, 65535) ∷ (10, 65535) ∷ (11, 65535) ∷ (12, 0) ∷ []))
 
--- state 3, the send, puts into either class's mailboxes; state 4 gives back behind either call; state 5 starts a process in state 0
+-- state 3, the send, puts into either class's mailboxes; state 4 gives back behind either call; state 5 starts a
+-- process in state 0
 unfoldable pub two-classes-listing : List ℕ
 two-classes-listing =
     10 ∷ 2 ∷ 10 ∷ 24 ∷
-    50 ∷ 51 ∷ 52 ∷ 50 ∷ 51 ∷ 50 ∷ 51 ∷ 53 ∷ 50 ∷ 51 ∷ 53 ∷ 50 ∷ 51 ∷ 50 ∷ 51 ∷ 50 ∷ 51 ∷ 54 ∷ 50 ∷ 51 ∷ 50 ∷ 51 ∷ 50 ∷ 51 ∷
+    50 ∷ 51 ∷ 52 ∷ 50 ∷ 51 ∷ 50 ∷ 51 ∷ 53 ∷ 50 ∷ 51 ∷ 53 ∷ 50 ∷ 51 ∷ 50 ∷ 51 ∷ 50 ∷ 51 ∷ 54 ∷ 50 ∷ 51 ∷ 50 ∷ 51 ∷ 50 ∷
+    51 ∷
     0 ∷ 1 ∷ 10 ∷ 2 ∷ 3 ∷ 3 ∷ 4 ∷ 10 ∷ 3 ∷ 4 ∷ 11 ∷ 4 ∷ 7 ∷ 4 ∷ 9 ∷ 5 ∷ 6 ∷ 0 ∷ 6 ∷ 2 ∷ 7 ∷ 8 ∷ 8 ∷ 2 ∷ []
 
--- A constructor pattern over an argument name without values. g(n) = (b = c1(n); b), never called; a = c0; case a of { c1(_) -> a; c0 -> g }.
--- The tables say too much: a may be the row 5, c1(n). But n holds nothing, so the first branch matches nothing, and state (18, 15) is not wanted.
+-- A constructor pattern over an argument name without values. g(n) = (b = c1(n); b), never called; a = c0; case a of {
+-- c1(_) -> a; c0 -> g }. The tables say too much: a may be the row 5, c1(n). But n holds nothing, so the first branch
+-- matches nothing, and state (18, 15) is not wanted.
 unfoldable pub no-argument : List ℕ
-no-argument = program-words 4 2 1 ((10, 0) ∷ (10, 1) ∷ (11, 0) ∷ (22, 1) ∷ (23, 1) ∷ (2, 2) ∷ (20, 1) ∷ (21, 1) ∷ (1, 2) ∷ (2, 3) ∷ (20, 0) ∷ (8, 3) ∷ (25, 2) ∷ (31, 1) ∷ (32, 0) ∷ (1, 3) ∷ (31, 0) ∷ (1, 0) ∷ [])
+no-argument = program-words 4 2 1
+    ((10, 0) ∷ (10, 1) ∷ (11, 0) ∷ (22, 1) ∷ (23, 1) ∷ (2, 2) ∷ (20, 1) ∷ (21, 1) ∷ (1, 2) ∷ (2, 3) ∷ (20, 0) ∷
+    (8, 3) ∷ (25, 2) ∷ (31, 1) ∷ (32, 0) ∷ (1, 3) ∷ (31, 0) ∷ (1, 0) ∷ [])
 
 -- the bad, a process at row 15, has no counter and is never met
 unfoldable pub no-argument-evidence : List ℕ
@@ -236,12 +273,14 @@ no-argument-listing =
 
 -- A rule whose from is its to. f() = (r = f(); r); s = f(); s. The body of f is the call itself.
 unfoldable pub endless : List ℕ
-endless = program-words 3 0 1 ((11, 0) ∷ (22, 0) ∷ (4, 1) ∷ (21, 0) ∷ (22, 0) ∷ (1, 1) ∷ (4, 2) ∷ (21, 0) ∷ (22, 0) ∷ (1, 2) ∷ [])
+endless = program-words 3 0 1
+    ((11, 0) ∷ (22, 0) ∷ (4, 1) ∷ (21, 0) ∷ (22, 0) ∷ (1, 1) ∷ (4, 2) ∷ (21, 0) ∷ (22, 0) ∷ (1, 2) ∷ [])
 
 -- one process, in state 0 or 1; the rule from 0 to 0 takes one and then adds one
 unfoldable pub endless-evidence : List ℕ
 endless-evidence =
-    bad-words 1 ((40, 10) ∷ (41, 2) ∷ (43, 2) ∷ (44, 0) ∷ []) ++ table-words ((0, 0) ∷ []) [] ((10, 2) ∷ (10, 6) ∷ []) ++
+    bad-words 1 ((40, 10) ∷ (41, 2) ∷ (43, 2) ∷ (44, 0) ∷ []) ++ table-words ((0, 0) ∷ []) []
+    ((10, 2) ∷ (10, 6) ∷ []) ++
     bound-words 2 ((0, 1) ∷ (2, 0) ∷ (1, 1) ∷ (2, 0) ∷ [])
 
 unfoldable pub endless-listing : List ℕ
@@ -250,12 +289,13 @@ endless-listing =
     50 ∷ 51 ∷ 50 ∷ 51 ∷
     0 ∷ 0 ∷ 1 ∷ 0 ∷ []
 
--- A rule whose new state is its from. f() = (p = spawn f; p); q = spawn f; q. The body of f is the spawn at row 2: a process of class 2 starts one of
--- class 2 at the same place.
+-- A rule whose new state is its from. f() = (p = spawn f; p); q = spawn f; q. The body of f is the spawn at row 2: a
+-- process of class 2 starts one of class 2 at the same place.
 unfoldable pub brood : List ℕ
 brood = program-words 3 0 1 ((11, 0) ∷ (22, 0) ∷ (6, 1) ∷ (21, 0) ∷ (1, 1) ∷ (6, 2) ∷ (21, 0) ∷ (1, 2) ∷ [])
 
--- One process at row 2 of class 2 at any time, any number of ended ones: state 0 loses one and gains one. The bad, two at (2, 2), is not met.
+-- One process at row 2 of class 2 at any time, any number of ended ones: state 0 loses one and gains one. The bad, two
+-- at (2, 2), is not met.
 unfoldable pub brood-evidence : List ℕ
 brood-evidence =
     bad-words 1 ((40, 2) ∷ (41, 2) ∷ (43, 2) ∷ (44, 0) ∷ []) ++
@@ -268,17 +308,23 @@ brood-listing =
     50 ∷ 51 ∷ 54 ∷ 50 ∷ 51 ∷ 54 ∷ 50 ∷ 51 ∷ 54 ∷
     0 ∷ 1 ∷ 0 ∷ 2 ∷ 3 ∷ 0 ∷ 4 ∷ 5 ∷ 2 ∷ []
 
--- A receive that passes a message over. x = self; a = c0; b = c1; send x a; send x b; receive { c1 -> receive { y -> y } }. The first receive takes
--- the second message.
+-- A receive that passes a message over. x = self; a = c0; b = c1; send x a; send x b; receive { c1 -> receive { y -> y
+-- } }. The first receive takes the second message.
 unfoldable pub selective : List ℕ
-selective = program-words 6 2 0 ((10, 0) ∷ (10, 0) ∷ (7, 0) ∷ (2, 1) ∷ (20, 0) ∷ (2, 2) ∷ (20, 1) ∷ (5, 3) ∷ (21, 0) ∷ (21, 1) ∷ (5, 4) ∷ (21, 0) ∷ (21, 2) ∷ (9, 1) ∷ (31, 1) ∷ (9, 1) ∷ (30, 5) ∷ (1, 5) ∷ [])
+selective = program-words 6 2 0
+    ((10, 0) ∷ (10, 0) ∷ (7, 0) ∷ (2, 1) ∷ (20, 0) ∷ (2, 2) ∷ (20, 1) ∷ (5, 3) ∷ (21, 0) ∷ (21, 1) ∷ (5, 4) ∷
+    (21, 0) ∷ (21, 2) ∷ (9, 1) ∷ (31, 1) ∷ (9, 1) ∷ (30, 5) ∷ (1, 5) ∷ [])
 
--- Eight states; letter counters 8 for (18, 0) and 9 for (18, 1). The first receive, state 5, reads 9 alone; the second, state 6, either.
+-- Eight states; letter counters 8 for (18, 0) and 9 for (18, 1). The first receive, state 5, reads 9 alone; the
+-- second, state 6, either.
 unfoldable pub selective-evidence : List ℕ
 selective-evidence =
     bad-words 1 ((40, 18) ∷ (42, 0) ∷ (43, 2) ∷ (44, 0) ∷ []) ++
-    table-words ((0, 18) ∷ (1, 3) ∷ (2, 5) ∷ (3, 3) ∷ (4, 5) ∷ (5, 3) ∷ (5, 5) ∷ []) ((18, 3) ∷ (18, 5) ∷ []) ((18, 2) ∷ (18, 3) ∷ (18, 5) ∷ (18, 7) ∷ (18, 10) ∷ (18, 13) ∷ (18, 15) ∷ (18, 17) ∷ []) ++
-    bound-words 8 ((0, 1) ∷ (10, 0) ∷ (1, 1) ∷ (10, 0) ∷ (2, 1) ∷ (10, 0) ∷ (3, 1) ∷ (10, 0) ∷ (4, 1) ∷ (8, 1) ∷ (10, 0) ∷ (5, 1) ∷ (8, 1) ∷ (9, 1) ∷ (10, 0) ∷ (6, 1) ∷ (8, 1) ∷ (10, 0) ∷ (7, 1) ∷ (10, 0) ∷ [])
+    table-words ((0, 18) ∷ (1, 3) ∷ (2, 5) ∷ (3, 3) ∷ (4, 5) ∷ (5, 3) ∷ (5, 5) ∷ []) ((18, 3) ∷ (18, 5) ∷ [])
+    ((18, 2) ∷ (18, 3) ∷ (18, 5) ∷ (18, 7) ∷ (18, 10) ∷ (18, 13) ∷ (18, 15) ∷ (18, 17) ∷ []) ++
+    bound-words 8
+    ((0, 1) ∷ (10, 0) ∷ (1, 1) ∷ (10, 0) ∷ (2, 1) ∷ (10, 0) ∷ (3, 1) ∷ (10, 0) ∷ (4, 1) ∷ (8, 1) ∷ (10, 0) ∷
+    (5, 1) ∷ (8, 1) ∷ (9, 1) ∷ (10, 0) ∷ (6, 1) ∷ (8, 1) ∷ (10, 0) ∷ (7, 1) ∷ (10, 0) ∷ [])
 
 unfoldable pub selective-listing : List ℕ
 selective-listing =
@@ -289,8 +335,11 @@ selective-listing =
 unfoldable pub own-cases : List Case
 own-cases =
     -- every branch, every receive state: see the listing
-    safe 2 two-receives (two-receives-with ((14, 1) ∷ (14, 2) ∷ (14, 4) ∷ (14, 7) ∷ (14, 9) ∷ (14, 11) ∷ (14, 13) ∷ [])) two-receives-listing ∷
-    -- without the state of the second branch, row 13, state 3 lacks it: the first columns begin at word 45, four of flow and one of mail, 45 + 5 + 3
+    safe 2 two-receives
+    (two-receives-with
+    ((14, 1) ∷ (14, 2) ∷ (14, 4) ∷ (14, 7) ∷ (14, 9) ∷ (14, 11) ∷ (14, 13) ∷ [])) two-receives-listing ∷
+    -- without the state of the second branch, row 13, state 3 lacks it: the first columns begin at word 45, four of
+    -- flow and one of mail, 45 + 5 + 3
     refused 40 (two-receives-with ((14, 1) ∷ (14, 2) ∷ (14, 4) ∷ (14, 7) ∷ (14, 9) ∷ (14, 11) ∷ [])) 8 53 ∷
     -- without the state behind the second receive, row 11, state 4 lacks it
     refused 40 (two-receives-with ((14, 1) ∷ (14, 2) ∷ (14, 4) ∷ (14, 7) ∷ (14, 9) ∷ (14, 13) ∷ [])) 8 54 ∷
@@ -304,7 +353,8 @@ own-cases =
     refused 40 (nested-with ((0, 2) ∷ (1, 4) ∷ (2, 7) ∷ (3, 4) ∷ [])) 8 56 ∷
     -- a send to both classes
     safe 3 two-classes (two-classes-with ((15, 9) ∷ (27, 9) ∷ [])) two-classes-listing ∷
-    -- without the second class's mail state 3, the send, lacks it: the first columns begin at word 71, eleven of flow, one of mail, 71 + 12 + 3
+    -- without the second class's mail state 3, the send, lacks it: the first columns begin at word 71, eleven of flow,
+    -- one of mail, 71 + 12 + 3
     refused 60 (two-classes-with ((15, 9) ∷ [])) 8 86 ∷
     -- an argument name without values
     safe 0 no-argument (to-bytes (no-argument ++ no-argument-evidence)) no-argument-listing ∷
@@ -318,7 +368,11 @@ own-cases =
     refused 30 (with-bounds (bound-words 0 [])) 11 55 ∷
     refused 30 (with-bounds (bound-words 0 ((6, 0) ∷ []))) 10 57 ∷
     -- a ceiling of its closing entry alone is in form and covers nothing that is needed
-    safe 0 a-program (with-bounds (bound-words 6 ((6, 0) ∷ (0, 1) ∷ (6, 0) ∷ (1, 1) ∷ (6, 0) ∷ (2, 1) ∷ (6, 0) ∷ (3, 1) ∷ (5, 1) ∷ (6, 0) ∷ (4, 1) ∷ (6, 0) ∷ []))) a-listing ∷
+    safe 0 a-program
+    (with-bounds
+    (bound-words 6
+    ((6, 0) ∷ (0, 1) ∷ (6, 0) ∷ (1, 1) ∷ (6, 0) ∷ (2, 1) ∷ (6, 0) ∷ (3, 1) ∷ (5, 1) ∷ (6, 0) ∷ (4, 1) ∷ (6, 0) ∷
+    []))) a-listing ∷
     -- the last word of each part with its second byte missing: the parts end at words 24, 34, 55 and 79
     refused 30 (take 47 (to-bytes a-words)) 1 0 ∷
     refused 30 (take 67 (to-bytes a-words)) 1 24 ∷

@@ -27,20 +27,21 @@ argument p v i = num p (v + 2 + i)
 unfoldable pub same-constructor : Program → ℕ → ℕ → Bool
 same-constructor p q v = eqb (tag p v) 2 && eqb (num p (v + 1)) (num p q)
 
--- "A name or any-pattern may match everything. A constructor pattern may match a build row of that constructor if each subpattern may match some
--- value of the argument name." The pattern at row q may be d levels deep.
+-- "A name or any-pattern may match everything. A constructor pattern may match a build row of that constructor if each
+-- subpattern may match some value of the argument name." The pattern at row q may be d levels deep.
 unfoldable pub may-match : Program → Tables → ℕ → ℕ → ℕ → Bool
 may-match p t zero q v = true
 may-match p t (suc d) q v =
     elim (eqb (tag p q) 31) [
       | true ↦
           same-constructor p q v &&
-          all 0 (arity p (num p q)) (λ i. some-of (t .flow) (argument p v i) (may-match p t d (subpattern p (suc d) q i)))
+          all 0 (arity p (num p q))
+          (λ i. some-of (t .flow) (argument p v i) (may-match p t d (subpattern p (suc d) q i)))
       | false ↦ true
     ]
 
--- "A pattern name holds each value at its spot, reached only through values that may match": the names of the pattern at row q hold what a
--- match with v gives them
+-- "A pattern name holds each value at its spot, reached only through values that may match": the names of the pattern
+-- at row q hold what a match with v gives them
 unfoldable pub names-hold : Program → Tables → ℕ → ℕ → ℕ → Bool
 names-hold p t zero q v = true
 names-hold p t (suc d) q v =
@@ -60,7 +61,8 @@ may-take p t q v = may-match p t maxDepth q v
 unfoldable pub branches-closed : Program → Tables → ℕ → List ℕ → ℕ → Bool
 branches-closed p t c [] v = true
 branches-closed p t c (q ∷ qs) v =
-    implies (may-take p t q v) (names-hold p t maxDepth q v && has-state t (state c (branch-body p q))) && branches-closed p t c qs v
+    implies (may-take p t q v) (names-hold p t maxDepth q v && has-state t (state c (branch-body p q))) &&
+    branches-closed p t c qs v
 
 -- the callee may be the function f, with equal count
 unfoldable pub may-call : Program → Tables → Call → ℕ → Bool
@@ -71,7 +73,8 @@ unfoldable pub passes : Tables → Call → List ℕ → Bool
 passes t call names =
     all 0 (call .count) (λ i. each (t .flow) (getD (call .arguments) i 0) (λ v. has (t .flow) (getD names i 0) v))
 
--- "call: for each function the callee may be, with equal count: parameters hold the arguments' values; state (c, its body)"
+-- "call: for each function the callee may be, with equal count: parameters hold the arguments' values; state (c, its
+-- body)"
 unfoldable pub call-closed : Program → Tables → ℕ → Call → Bool
 call-closed p t c call =
     each (t .flow) (call .callee)
@@ -89,11 +92,13 @@ unfoldable pub return-closed : Program → Tables → ℕ → ℕ → Call → B
 return-closed p t c n call =
     each (t .flow) n (λ v. has (t .flow) (call .name) v) && has-state t (state c (call .rest))
 
--- "give back, inside the innermost function f: for each state (c, call) whose callee may be f with equal count ... In the start expression: nothing."
+-- "give back, inside the innermost function f: for each state (c, call) whose callee may be f with equal count ... In
+-- the start expression: nothing."
 unfoldable pub give-closed : Program → Tables → ℕ → ℕ → Option ℕ → Bool
 give-closed p t c n none = true
 give-closed p t c n (some f) =
-    all 0 (t .states .size) (λ i. implies (returns-to p t c f i) (return-closed p t c n (call-at p (state-at t i .location))))
+    all 0 (t .states .size)
+    (λ i. implies (returns-to p t c f i) (return-closed p t c n (call-at p (state-at t i .location))))
 
 -- "send: for each class d the target may be and value v of the message: mail (d, v), the name holds v, state (c, rest)"
 unfoldable pub send-closed : Program → Tables → ℕ → ℕ → ℕ → ℕ → ℕ → Bool
@@ -129,7 +134,8 @@ state-closed p t s =
 -- "Wanted first: each tag 11 name holds its own row, and state (R, start)"
 unfoldable pub opening-closed : Program → Tables → Bool
 opening-closed p t =
-    all 0 (size p) (λ r. implies (eqb (tag p r) 11) (has (t .flow) (num p r) r)) && has-state t (state (size p) (start p))
+    all 0 (size p) (λ r. implies (eqb (tag p r) 11) (has (t .flow) (num p r) r)) &&
+    has-state t (state (size p) (start p))
 
 -- 8: "an opening entry missing: size F; else the first state that lacks something, its first column's word"
 unfoldable pub open-check : Sizes → Program → Tables → Check

@@ -25,7 +25,8 @@ letter-keys p = (size p + 1) * letters p
 
 -- some mail entry has this class and letter
 unfoldable pub has-letter : Program → Tables → ℕ → Bool
-has-letter p t k = any 0 (t .mail .size) (λ i. eqb (letter-key p (left (t .mail) i) (row-letter p (right (t .mail) i))) k)
+has-letter p t k = any 0 (t .mail .size)
+    (λ i. eqb (letter-key p (left (t .mail) i) (row-letter p (right (t .mail) i))) k)
 
 -- "each distinct (class, letter) of mail": how many there are
 unfoldable pub letter-count : Program → Tables → ℕ
@@ -41,7 +42,8 @@ letter-index p t c l = t .states .size + count 0 (letter-key p c l) (has-letter 
 
 -- the counter of a state or letter, where it has one
 unfoldable pub counter-of : Program → Tables → Counted → Option ℕ
-counter-of p t (state-of c r) = elim (has-state t (state c r)) [ true ↦ some (state-index t (state c r)) | false ↦ none ]
+counter-of p t (state-of c r) = elim
+    (has-state t (state c r)) [ true ↦ some (state-index t (state c r)) | false ↦ none ]
 counter-of p t (letter-of c l) =
     elim (ltb l (letters p) && has-letter p t (letter-key p c l)) [ true ↦ some (letter-index p t c l) | false ↦ none ]
 

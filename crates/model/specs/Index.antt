@@ -1,5 +1,5 @@
--- Loops over the indices from i below e, as definitions: is there one, all, the first, the last, how many, what they give together.
--- Every check of the model is made of these, so that a loop of the code is "the turns that are left".
+-- Loops over the indices from i below e, as definitions: is there one, all, the first, the last, how many, what they
+-- give together. Every check of the model is made of these, so that a loop of the code is "the turns that are left".
 use Prim.Native.Nat.{ℕ, zero, suc, _+_, _-_}
 use mathlib.Core.Bool.{Bool, true, false}
 use mathlib.Core.List.{List, [], _∷_, _++_}

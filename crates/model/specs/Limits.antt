@@ -1,5 +1,6 @@
--- Document 01, "The message", Limits: each limit by its name, once. (src/lib.rt has the same numbers as constants for the code; antt
--- can't cite a constant of Rattle, and a contract of the code that reads one is refused where the two differ.)
+-- Document 01, "The message", Limits: each limit by its name, once. (src/lib.rt has the same numbers as constants for
+-- the code; antt can't cite a constant of Rattle, and a contract of the code that reads one is refused where the two
+-- differ.)
 use Prim.Native.Nat.{ℕ}
 
 -- R 1 to 1,024

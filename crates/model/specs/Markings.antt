@@ -32,7 +32,8 @@ readable (starts x) m = true
 unfoldable pub usable : Rule → Marking → Bool
 usable ρ m = leb 1 (m (ρ .from)) && readable (ρ .effect) m
 
--- "It takes one from each of these, and then adds one to its to counter and to the letter counter put or new state, if any"
+-- "It takes one from each of these, and then adds one to its to counter and to the letter counter put or new state, if
+-- any"
 unfoldable pub effect-taken : Effect → Marking → Marking
 effect-taken quiet m = m
 effect-taken (reads x) m = taking x m

@@ -14,16 +14,17 @@ arguments-of k (closure f held) = none
 arguments-of k (built r k′ vs) = elim (eqb k k′) [ true ↦ some vs | false ↦ none ]
 arguments-of k (address i) = none
 
--- The values still to be matched stand in order, and so do the pattern rows from q on: a name takes its value, a constructor puts the arguments
--- in its value's place, any value is passed over, and a row that is no pattern matches nothing. n rows are left; `held` are the bindings in force,
--- the names matched so far in front.
+-- The values still to be matched stand in order, and so do the pattern rows from q on: a name takes its value, a
+-- constructor puts the arguments in its value's place, any value is passed over, and a row that is no pattern matches
+-- nothing. n rows are left; `held` are the bindings in force, the names matched so far in front.
 unfoldable pub match-rows : Program → ℕ → ℕ → Bindings → Bindings → Option Bindings
 match-rows p zero q empty held = some held
 match-rows p zero q (bind m v vs) held = none
 match-rows p (suc n) q empty held = some held
 match-rows p (suc n) q (bind m v vs) held =
     elim (eqb (tag p q) 31) [
-      | true ↦ elim (arguments-of (num p q) v) [ none ↦ none | some inner ↦ match-rows p n (q + 1) (join inner vs) held ]
+      | true ↦ elim
+          (arguments-of (num p q) v) [ none ↦ none | some inner ↦ match-rows p n (q + 1) (join inner vs) held ]
       | false ↦
           elim (eqb (tag p q) 30) [
             | true ↦ match-rows p n (q + 1) vs (bind (num p q) v held)
@@ -44,7 +45,11 @@ pub record Taken : Type 0 where
 unfoldable pub first-branch : Program → Bindings → List ℕ → Value → Option Taken
 first-branch p held [] v = none
 first-branch p held (q ∷ qs) v =
-    elim (match p held q v) [ none ↦ first-branch p held qs v | some held′ ↦ some (record { location = branch-body p q; held = held′ }) ]
+    elim (match p held q v) [
+      | none ↦ first-branch p held qs v
+      | some held′ ↦ some
+          (record { location = branch-body p q; held = held′ })
+    ]
 
 -- what a receive takes, and the mailbox without it
 pub record Received : Type 0 where

@@ -1,4 +1,5 @@
--- Document 01, "The message": four parts back to back, their sizes, limits and positions; refusals 1 (length) and 2 (size).
+-- Document 01, "The message": four parts back to back, their sizes, limits and positions; refusals 1 (length) and 2
+-- (size).
 use Prim.Native.Nat.{ℕ, _+_, _*_}
 use mathlib.Core.Bool.{true, false, _&&_}
 use mathlib.Core.List.{List, [], _∷_}
@@ -11,7 +12,8 @@ use Rattle.model.specs.Limits.{maxRows, maxNames, maxConstructors, maxFu
 use Rattle.model.specs.Words.{words}
 use Rattle.model.specs.Verdict.{Check, _>>_, unless}
 
--- "four parts back to back. Each part is its sizes, then two parallel arrays": the word at which a part begins, by the sizes before it
+-- "four parts back to back. Each part is its sizes, then two parallel arrays": the word at which a part begins, by the
+-- sizes before it
 abbrev pub bads-from : ℕ → ℕ
 bads-from rows = 4 + 2 * rows
 
@@ -34,8 +36,8 @@ bounds-at s = bounds-from (s .rows) (s .conditions) (s .flows + s .mails + s .st
 unfoldable pub end-at : Sizes → ℕ
 end-at s = bounds-at s + 2 + 2 * s .limits
 
--- "Program: R rows, V names, C constructors, G functions. Bads: B bads, E rows. Tables: F flow, M mail, S state entries. Ceilings: K
--- ceilings, E entries": a size that is not there reads as 0
+-- "Program: R rows, V names, C constructors, G functions. Bads: B bads, E rows. Tables: F flow, M mail, S state
+-- entries. Ceilings: K ceilings, E entries": a size that is not there reads as 0
 unfoldable pub sizes : List ℕ → Sizes
 sizes ws =
     let rows : ℕ = getD ws 0 0 in
@@ -70,9 +72,11 @@ limited size least most = record { size = size; least = least; most = most }
 unfoldable pub sizes-check : ℕ → List Limited → Check
 sizes-check at [] = none
 sizes-check at (l ∷ ls) =
-    elim (leb (l .least) (l .size) && leb (l .size) (l .most)) [ true ↦ sizes-check (at + 1) ls | false ↦ some (Size at) ]
+    elim (leb (l .least) (l .size) &&
+    leb (l .size) (l .most)) [ true ↦ sizes-check (at + 1) ls | false ↦ some (Size at) ]
 
--- "1 and 2 go together, part by part: sizes whole, sizes within limits, arrays whole"; 1: "a part is not whole: its first word"
+-- "1 and 2 go together, part by part: sizes whole, sizes within limits, arrays whole"; 1: "a part is not whole: its
+-- first word"
 unfoldable pub part-check : List ℕ → ℕ → List Limited → ℕ → Check
 part-check ws at ls elements =
     unless (leb (at + length ls) (length ws)) (Length at) >>
@@ -81,7 +85,8 @@ part-check ws at ls elements =
 -- the sizes of each part, with their limits
 abbrev pub program-sizes : Sizes → List Limited
 program-sizes s =
-    limited (s .rows) 1 maxRows ∷ limited (s .names) 1 maxNames ∷ limited (s .constructors) 0 maxConstructors ∷ limited (s .functions) 0 maxFunctions ∷ []
+    limited (s .rows) 1 maxRows ∷ limited (s .names) 1 maxNames ∷ limited (s .constructors) 0 maxConstructors ∷
+    limited (s .functions) 0 maxFunctions ∷ []
 
 abbrev pub bads-sizes : Sizes → List Limited
 bads-sizes s = limited (s .bads) 1 maxBads ∷ limited (s .conditions) minBadRows maxBadRows ∷ []

@@ -21,7 +21,13 @@ pub record Program : Type 0 where
 
 unfoldable pub program : List ℕ → Sizes → Program
 program ws s =
-    record { names = s .names; constructors = s .constructors; functions = s .functions; rows = columns ws (s .rows) 4 (4 + s .rows) }
+    record {
+      names = s .names;
+      constructors = s .constructors;
+      functions = s .functions;
+      rows = columns ws (s .rows) 4
+          (4 + s .rows);
+    }
 
 -- R
 abbrev pub size : Program → ℕ
@@ -108,7 +114,8 @@ expression-step p t n =
       | other ↦ none
     ]
 
--- "Patterns: (30, name bound); (31, constructor), then its arity of patterns; (32, 0) any value", d levels deep at the most
+-- "Patterns: (30, name bound); (31, constructor), then its arity of patterns; (32, 0) any value", d levels deep at the
+-- most
 unfoldable pub pattern-step : Program → ℕ → ℕ → ℕ → Option (List Item)
 pattern-step p d t n =
     elim (eqb t 31) [

@@ -46,8 +46,9 @@ from-letters p test f = gather 0 (letters p) (λ l. only (test l) (f l))
 unfoldable pub letter-of-some : Program → Columns → ℕ → (ℕ → Bool) → ℕ → Bool
 letter-of-some p c a test l = some-of c a (λ v. eqb (row-letter p v) l && test v)
 
--- The rules of the state s, which has number i: "one rule per case above, repeats from one state dropped. Order: by state; then function, call row or
--- branch; send by class; then letter". Values of one letter, and values that one branch may match, share their rule.
+-- The rules of the state s, which has number i: "one rule per case above, repeats from one state dropped. Order: by
+-- state; then function, call row or branch; send by class; then letter". Values of one letter, and values that one
+-- branch may match, share their rule.
 unfoldable pub state-rules : Program → Tables → ℕ → State → List Rule
 state-rules p t i s =
     let c : ℕ = s .class in
@@ -57,7 +58,8 @@ state-rules p t i s =
       | gives n ↦
           elim (innermost p at) [
             | none ↦ []
-            | some f ↦ gather 0 (t .states .size) (λ j. only (returns-to p t c f j) (to (call-at p (state-at t j .location) .rest) quiet))
+            | some f ↦ gather 0 (t .states .size)
+                (λ j. only (returns-to p t c f j) (to (call-at p (state-at t j .location) .rest) quiet))
           ]
       | builds n k ns r ↦ to r quiet ∷ []
       | makes n r ↦ to r quiet ∷ []
@@ -65,7 +67,8 @@ state-rules p t i s =
       | sends n target message r ↦
           from-each (t .flow) target
           (λ d. elim (is-class p d) [
-            | true ↦ from-letters p (letter-of-some p (t .flow) message (λ v. true)) (λ l. to r (puts (letter-index p t d l)))
+            | true ↦ from-letters p (letter-of-some p (t .flow) message (λ v. true))
+                (λ l. to r (puts (letter-index p t d l)))
             | false ↦ []
           ])
       | spawns n function r ↦
@@ -75,7 +78,8 @@ state-rules p t i s =
       | cases n qs ↦ from-all qs (λ q. only (some-of (t .flow) n (may-take p t q)) (to (branch-body p q) quiet))
       | receives qs ↦
           from-all qs
-          (λ q. from-letters p (letter-of-some p (t .mail) c (may-take p t q)) (λ l. to (branch-body p q) (reads (letter-index p t c l))))
+          (λ q. from-letters p (letter-of-some p (t .mail) c (may-take p t q))
+          (λ l. to (branch-body p q) (reads (letter-index p t c l))))
       | no-head ↦ []
     ]
 

@@ -40,7 +40,8 @@ deliver qs i v =
       | some q ↦ some (set qs i (process (q .class) (q .location) (q .held) (q .frames) (q .mailbox ++ (v ∷ []))))
     ]
 
--- "giving back pops it and binds the call's name, at the call's rest. Giving back with nothing pushed ends the process: no step"
+-- "giving back pops it and binds the call's name, at the call's rest. Giving back with nothing pushed ends the
+-- process: no step"
 unfoldable pub give-back : Program → Process → Value → List Frame → Option Process
 give-back p q v [] = none
 give-back p q v (f ∷ fs) =
@@ -52,11 +53,13 @@ enter p q f vs =
     process (q .class) (body p (f .row)) (bind-all (parameters p (f .row)) vs (f .held))
     (record { call = q .location; held = q .held } ∷ q .frames) (q .mailbox)
 
--- "a new process, whose class is the spawn row, at the function's body with its bindings, nothing pushed and its mailbox empty"
+-- "a new process, whose class is the spawn row, at the function's body with its bindings, nothing pushed and its
+-- mailbox empty"
 unfoldable pub spawned : Program → ℕ → Function → Process
 spawned p r f = process r (body p (f .row)) (f .held) [] []
 
--- One step of process i, which is q; none where it makes no step ("ends", "stops that process for good", waits at a receive)
+-- One step of process i, which is q; none where it makes no step ("ends", "stops that process for good", waits at a
+-- receive)
 unfoldable pub act : Program → Processes → ℕ → Process → Option Processes
 unfolding _>>=_
 act p qs i q =

@@ -33,7 +33,8 @@ bound-again p r = binds (tag p r) && any 0 r (binds-name p (num p r))
 unfoldable pub name-check : Program → Check
 name-check p =
     let again : ℕ = first 0 (size p) (bound-again p) in
-    unless (eqb again (size p)) (Name (4 + again)) >> unless (all 0 (p .names) (λ n. ltb (binder p n) (size p))) (Name 1)
+    unless (eqb again (size p)) (Name (4 + again)) >> unless (all 0 (p .names) (λ n. ltb (binder p n) (size p)))
+    (Name 1)
 
 -- the rest of the expression at r
 unfoldable pub rest : Program → ℕ → ℕ
@@ -43,7 +44,8 @@ rest p r = past-items p (lead (kind (tag p r))) (r + 1)
 unfoldable pub next-head : Program → ℕ → ℕ
 next-head p r = first r (size p) (λ q. is-head (tag p q))
 
--- "a parameter in its body; a pattern's name in its branch; others in their rest": the expression in which the name bound at row b holds
+-- "a parameter in its body; a pattern's name in its branch; others in their rest": the expression in which the name
+-- bound at row b holds
 unfoldable pub holds-in : Program → ℕ → ℕ
 holds-in p b = elim (is-head (tag p b)) [ true ↦ rest p b | false ↦ next-head p b ]
 

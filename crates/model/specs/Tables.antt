@@ -18,7 +18,8 @@ pub record Tables : Type 0 where
   pub mail : Columns
   pub states : Columns
 
--- "Tables: F flow, M mail, S state entries; first columns, then second columns, lists in that order": the list of n entries behind k others
+-- "Tables: F flow, M mail, S state entries; first columns, then second columns, lists in that order": the list of n
+-- entries behind k others
 unfoldable pub entries : List ℕ → Sizes → ℕ → ℕ → Columns
 entries ws s n k = columns ws n (tables-at s + 3 + k) (tables-at s + 3 + (s .flows + s .mails + s .states) + k)
 

@@ -1,5 +1,5 @@
--- Document 01, "How a station runs", said outright: each sentence is a way to make a step, each reason one to make none.
--- (Run.antt says the same as a function.)
+-- Document 01, "How a station runs", said outright: each sentence is a way to make a step, each reason one to make
+-- none. (Run.antt says the same as a function.)
 use Prim.Native.Nat.{ℕ, _+_, _≤_, _<_}
 use mathlib.Core.Logic.{_↔_, _⊎_}
 use mathlib.Core.Path.{_≡_}

@@ -7,8 +7,9 @@ use lib.Dec.{ltb, eqb}
 use Rattle.model.specs.Index.{first}
 use Rattle.model.specs.Rows.{Program, size, tag, num}
 
--- "A function value keeps its row and bindings, a built value its row, constructor and arguments"; an address is a process number.
--- Bindings are names with what they hold, the newest first; a built value's arguments stand in order, with the names they were read from.
+-- "A function value keeps its row and bindings, a built value its row, constructor and arguments"; an address is a
+-- process number. Bindings are names with what they hold, the newest first; a built value's arguments stand in order,
+-- with the names they were read from.
 mutual
   pub data Value : Type 0 where
     closure : (row : ℕ) → Bindings → Value
@@ -27,7 +28,8 @@ lookup (bind m v held) n = elim (eqb m n) [ true ↦ some v | false ↦ lookup h
 unfoldable pub global-row : Program → ℕ → ℕ
 global-row p n = first 0 (size p) (λ r. eqb (tag p r) 11 && eqb (num p r) n)
 
--- What a name holds. "A tag 11 name yields its own row's function in every process, from the start on, with no bindings but such names."
+-- What a name holds. "A tag 11 name yields its own row's function in every process, from the start on, with no
+-- bindings but such names."
 unfoldable pub value-of : Program → Bindings → ℕ → Option Value
 value-of p held n =
     elim (ltb (global-row p n) (size p)) [ true ↦ some (closure (global-row p n) empty) | false ↦ lookup held n ]

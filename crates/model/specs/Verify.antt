@@ -34,7 +34,15 @@ message bytes =
     let s : Sizes = sizes ws in
     let p : Program = program ws s in
     let t : Tables = tables ws s in
-    record { words = ws; sizes = s; program = p; bads = bad-rows ws s; tables = t; bounds = bounds ws s (counter-count p t) }
+    record {
+      words = ws;
+      sizes = s;
+      program = p;
+      bads = bad-rows ws s;
+      tables = t;
+      bounds = bounds ws s
+          (counter-count p t);
+    }
 
 -- refusals 3 to 5: the program
 unfoldable pub program-check : Program → Check
@@ -97,6 +105,7 @@ lent-after bytes lent =
     let m : Message = message bytes in
     if-safe (verdict bytes (length lent)) (written (system-words (m .program) (m .tables)) lent) lent
 
--- "On 0 the loader is handed the program's own bytes of the message, its part with the four sizes, not a copy; otherwise an empty part."
+-- "On 0 the loader is handed the program's own bytes of the message, its part with the four sizes, not a copy;
+-- otherwise an empty part."
 unfoldable pub part-handed : List ℕ → ℕ → List ℕ
 part-handed bytes lent = take (if-safe (verdict bytes lent) (2 * bads-at (message bytes .sizes)) 0) bytes

@@ -1,5 +1,5 @@
--- Document 01, "Closed tables", said outright: each sentence is a way to want an entry, and tables are closed when each wanted entry is there.
--- (Closed.antt says the same as a test.)
+-- Document 01, "Closed tables", said outright: each sentence is a way to want an entry, and tables are closed when
+-- each wanted entry is there. (Closed.antt says the same as a test.)
 use Prim.Native.Nat.{ℕ, zero, suc, _<_}
 use mathlib.Core.Path.{_≡_}
 use mathlib.Core.Bool.{true, false}
@@ -32,8 +32,8 @@ Present t (flow n v) = Member (t .flow) n v
 Present t (mail c v) = Member (t .mail) c v
 Present t (state c r) = Member (t .states) c r
 
--- "A name or any-pattern may match everything. A constructor pattern may match a build row of that constructor if each subpattern may match some
--- value of the argument name."
+-- "A name or any-pattern may match everything. A constructor pattern may match a build row of that constructor if each
+-- subpattern may match some value of the argument name."
 abbrev pub MayMatch : Program → Tables → ℕ → ℕ → ℕ → Type 0
 MayMatch p t zero q v = Unit {0}
 MayMatch p t (suc d) q v =
@@ -45,8 +45,8 @@ MayMatch p t (suc d) q v =
       | false ↦ Unit {0}
     ]
 
--- "A pattern name holds each value at its spot, reached only through values that may match": where the pattern at row q meets v, w is at the spot
--- of the name n
+-- "A pattern name holds each value at its spot, reached only through values that may match": where the pattern at row
+-- q meets v, w is at the spot of the name n
 abbrev pub AtSpot : Program → Tables → ℕ → ℕ → ℕ → ℕ → ℕ → Type 0
 AtSpot p t zero q v n w = ⊥
 AtSpot p t (suc d) q v n w =
@@ -62,13 +62,18 @@ AtSpot p t (suc d) q v n w =
 abbrev pub MayCall : Program → Tables → Call → ℕ → Type 0
 MayCall p t call f = Member (t .flow) (call .callee) f × (takes p f (call .count) ≡ true)
 
--- "for each value of the name, or of c's mail, and each branch that may match": the branch at row q may take v in state (c, at)
+-- "for each value of the name, or of c's mail, and each branch that may match": the branch at row q may take v in
+-- state (c, at)
 pub data MayTake (p : Program) (t : Tables) (c at : ℕ) : ℕ → ℕ → Type 0 where
-  by-case : (n : ℕ) (qs : List ℕ) (q v : ℕ) → head-at p at ≡ cases n qs → List·Memᴰ q qs → Member (t .flow) n v → MayMatch p t maxDepth q v → MayTake p t c at q v
-  by-receive : (qs : List ℕ) (q v : ℕ) → head-at p at ≡ receives qs → List·Memᴰ q qs → Member (t .mail) c v → MayMatch p t maxDepth q v → MayTake p t c at q v
+  by-case :
+      (n : ℕ) (qs : List ℕ) (q v : ℕ) → head-at p at ≡ cases n qs → List·Memᴰ q qs → Member (t .flow) n v →
+      MayMatch p t maxDepth q v → MayTake p t c at q v
+  by-receive :
+      (qs : List ℕ) (q v : ℕ) → head-at p at ≡ receives qs → List·Memᴰ q qs → Member (t .mail) c v →
+      MayMatch p t maxDepth q v → MayTake p t c at q v
 
--- "give back, inside the innermost function f: for each state (c, call) whose callee may be f with equal count": giving back the name n at row `at`
--- may lead behind the call
+-- "give back, inside the innermost function f: for each state (c, call) whose callee may be f with equal count":
+-- giving back the name n at row `at` may lead behind the call
 pub record Returns (p : Program) (t : Tables) (c at n f call : ℕ) : Type 0 where
   pub gives-back : head-at p at ≡ gives n
   pub inside : innermost p at ≡ some f
@@ -106,11 +111,17 @@ pub data Wanted-by (p : Program) (t : Tables) (c at : ℕ) : Entry → Type 0 wh
   function-rest : (n r : ℕ) → head-at p at ≡ makes n r → Wanted-by p t c at (state c r)
   self-name : (n r : ℕ) → head-at p at ≡ selfs n r → Wanted-by p t c at (flow n c)
   self-rest : (n r : ℕ) → head-at p at ≡ selfs n r → Wanted-by p t c at (state c r)
-  -- "call: for each function the callee may be, with equal count: parameters hold the arguments' values; state (c, its body)"
-  call-parameter : (f i v : ℕ) (call : Call) → head-at p at ≡ calls call → MayCall p t call f → i < call .count → Member (t .flow) (getD (call .arguments) i 0) v → Wanted-by p t c at (flow (getD (parameters p f) i 0) v)
-  call-body : (f : ℕ) (call : Call) → head-at p at ≡ calls call → MayCall p t call f → Wanted-by p t c at (state c (body p f))
+  -- "call: for each function the callee may be, with equal count: parameters hold the arguments' values; state (c, its
+  -- body)"
+  call-parameter :
+      (f i v : ℕ) (call : Call) → head-at p at ≡ calls call → MayCall p t call f → i < call .count →
+      Member (t .flow) (getD (call .arguments) i 0) v → Wanted-by p t c at (flow (getD (parameters p f) i 0) v)
+  call-body :
+      (f : ℕ) (call : Call) → head-at p at ≡ calls call → MayCall p t call f → Wanted-by p t c at (state c (body p f))
   -- "the call's name holds the values; state (c, call's rest). In the start expression: nothing."
-  return-name : (n f call v : ℕ) → Returns p t c at n f call → Member (t .flow) n v → Wanted-by p t c at (flow (call-at p call .name) v)
+  return-name :
+      (n f call v : ℕ) → Returns p t c at n f call → Member (t .flow) n v →
+      Wanted-by p t c at (flow (call-at p call .name) v)
   return-rest : (n f call : ℕ) → Returns p t c at n f call → Wanted-by p t c at (state c (call-at p call .rest))
   -- "mail (d, v), the name holds v, state (c, rest)"
   send-mail : (n r d v : ℕ) → Sends p t at n r d v → Wanted-by p t c at (mail d v)

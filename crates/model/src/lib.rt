@@ -17,7 +17,8 @@ pub struct Sizes {
     pub limits: usize,
 }
 
-// The answer for a message: safe, or the refusal's word in document 01 with its position. specs/Verdict.antt gives number and place.
+// The answer for a message: safe, or the refusal's word in document 01 with its position. specs/Verdict.antt gives
+// number and place.
 pub enum Verdict {
     Safe,
     Length(usize),
@@ -36,7 +37,8 @@ pub enum Verdict {
     Space(usize),
 }
 
-// The limits of document 01, for the code. specs/Limits.antt has them for the contracts: a constant that differs is refused there.
+// The limits of document 01, for the code. specs/Limits.antt has them for the contracts: a constant that differs is
+// refused there.
 pub const MAX_ROWS: usize = 1024;
 
 pub const MAX_NAMES: usize = 512;

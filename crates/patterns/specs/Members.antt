@@ -15,7 +15,10 @@ use Rattle.model.specs.Demands.{Pair-below}
 pub record Ascending (ws : List ℕ) (n at at′ : ℕ) : Type 0 where
   pub lefts : at + n ≤ length ws
   pub rights : at′ + n ≤ length ws
-  pub ascending : (i j : ℕ) → i < j → j < n → Pair-below (left (columns ws n at at′) i) (right (columns ws n at at′) i) (left (columns ws n at at′) j) (right (columns ws n at at′) j)
+  pub ascending :
+      (i j : ℕ) → i < j → j < n →
+      Pair-below (left (columns ws n at at′) i) (right (columns ws n at at′) i) (left (columns ws n at at′) j)
+      (right (columns ws n at at′) j)
 
 -- the list of n entries behind k others stands in the words of the message
 pub record Entries-held (ws : List ℕ) (s : Sizes) (n k : ℕ) : Type 0 where

@@ -29,7 +29,8 @@ pattern-code p t d q v = code (may-match p t d q v) (names-hold p t d q v)
 -- ... and all values of the name n together
 unfoldable pub values-code : Program → Tables → ℕ → ℕ → ℕ → ℕ
 values-code p t d q n =
-    code (some-of (t .flow) n (may-match p t d q)) (each (t .flow) n (λ v. implies (may-match p t d q v) (names-hold p t d q v)))
+    code (some-of (t .flow) n (may-match p t d q))
+    (each (t .flow) n (λ v. implies (may-match p t d q v) (names-hold p t d q v)))
 
 -- a pattern of at most d levels stands at row q
 pub record Pattern (p : Program) (d q : ℕ) : Type 0 where
@@ -39,8 +40,10 @@ pub record Pattern (p : Program) (d q : ℕ) : Type 0 where
 -- the table has the row after each expression and each pattern
 pub record Afters (p : Program) (afters : List ℕ) : Type 0 where
   pub room : size p ≤ length afters
-  pub after-expression : (r e : ℕ) → read (step p) (p .rows) (size p - r) (expression ∷ []) r ≡ past e → getD afters r 0 ≡ e
-  pub after-pattern : (q d e : ℕ) → read (step p) (p .rows) (size p - q) (pattern d ∷ []) q ≡ past e → getD afters q 0 ≡ e
+  pub after-expression :
+      (r e : ℕ) → read (step p) (p .rows) (size p - r) (expression ∷ []) r ≡ past e → getD afters r 0 ≡ e
+  pub after-pattern :
+      (q d e : ℕ) → read (step p) (p .rows) (size p - q) (pattern d ∷ []) q ≡ past e → getD afters q 0 ≡ e
 
 -- a program and lists that refusals 1 to 7 let pass, with the rows after its items
 pub record Ready (ws : List ℕ) (s : Sizes) (afters : List ℕ) : Type 0 where
@@ -52,7 +55,8 @@ pub record Ready (ws : List ℕ) (s : Sizes) (afters : List ℕ) : Type 0 where
 -- the table has the code of each pattern from row x on with each name
 pub record Coded (p : Program) (t : Tables) (codes : List ℕ) (x : ℕ) : Type 0 where
   pub room : size p * maxNames ≤ length codes
-  pub codes-at : (q d n : ℕ) → x ≤ q → Pattern p d q → n < maxNames → getD codes (q * maxNames + n) 0 ≡ values-code p t d q n
+  pub codes-at :
+      (q d n : ℕ) → x ≤ q → Pattern p d q → n < maxNames → getD codes (q * maxNames + n) 0 ≡ values-code p t d q n
 
 -- what the table says of row q and the name n; a number that is no name has no values
 unfoldable pub looked-up : List ℕ → ℕ → ℕ → ℕ

@@ -1,6 +1,6 @@
-// The codes of patterns: whether a pattern may match a value, and whether its names then hold what they are to. A table has a code for each
-// pattern's row and each name, for all values of the name together. It is filled from the last row to the first, so that a constructor pattern finds
-// the codes of its subpatterns there.
+// The codes of patterns: whether a pattern may match a value, and whether its names then hold what they are to. A
+// table has a code for each pattern's row and each name, for all values of the name together. It is filled from the
+// last row to the first, so that a constructor pattern finds the codes of its subpatterns there.
 pub mod marks;
 pub mod members;
 
@@ -55,7 +55,8 @@ pub fn after_at(afters: &[u16], q: usize) -> usize
     }
 }
 
-// The code of the constructor pattern at row q with the value v of that constructor, by the codes of its subpatterns with the arguments' names.
+// The code of the constructor pattern at row q with the value v of that constructor, by the codes of its subpatterns
+// with the arguments' names.
 fn arguments_code(ws: &[u16], s: Sizes, afters: &[u16], codes: &[u8], q: usize, v: usize) -> u8
     requires { ⌜ Ready (now ws) s (now afters) ⌝ }
     requires { ⌜ Coded (program (now ws) s) (tables (now ws) s) (now codes) (q + 1) ⌝ }

@@ -20,8 +20,10 @@ pub record Run (p : Program) (q n : ℕ) : Type 0 where
 -- the part of the layout that says where expressions and patterns end
 pub record Ends (p : Program) (afters : List ℕ) : Type 0 where
   pub room : size p ≤ length afters
-  pub after-expression : (r e : ℕ) → read (step p) (p .rows) (size p - r) (expression ∷ []) r ≡ past e → getD afters r 0 ≡ e
-  pub after-pattern : (q d e : ℕ) → read (step p) (p .rows) (size p - q) (pattern d ∷ []) q ≡ past e → getD afters q 0 ≡ e
+  pub after-expression :
+      (r e : ℕ) → read (step p) (p .rows) (size p - r) (expression ∷ []) r ≡ past e → getD afters r 0 ≡ e
+  pub after-pattern :
+      (q d e : ℕ) → read (step p) (p .rows) (size p - q) (pattern d ∷ []) q ≡ past e → getD afters q 0 ≡ e
 
 -- the part that says in which function a row is innermost
 pub record Owners (p : Program) (inners : List ℕ) : Type 0 where

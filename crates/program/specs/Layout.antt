@@ -16,6 +16,8 @@ pub record Layout (p : Program) (afters inners : List ℕ) : Type 0 where
   pub afters-room : size p ≤ length afters
   pub inners-room : size p ≤ length inners
   -- where an expression can be read from row r, the table has the row after it; and so for a pattern of any depth
-  pub after-expression : (r e : ℕ) → read (step p) (p .rows) (size p - r) (expression ∷ []) r ≡ past e → getD afters r 0 ≡ e
-  pub after-pattern : (q d e : ℕ) → read (step p) (p .rows) (size p - q) (pattern d ∷ []) q ≡ past e → getD afters q 0 ≡ e
+  pub after-expression :
+      (r e : ℕ) → read (step p) (p .rows) (size p - r) (expression ∷ []) r ≡ past e → getD afters r 0 ≡ e
+  pub after-pattern :
+      (q d e : ℕ) → read (step p) (p .rows) (size p - q) (pattern d ∷ []) q ≡ past e → getD afters q 0 ≡ e
   pub inner : (r : ℕ) → r < size p → getD inners r 0 ≡ owner p r

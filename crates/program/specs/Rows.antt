@@ -1,4 +1,5 @@
--- What the readers of a program's rows promise: the model's reading from a row on, over the words of a message whose parts are whole.
+-- What the readers of a program's rows promise: the model's reading from a row on, over the words of a message whose
+-- parts are whole.
 use Prim.Native.Nat.{ℕ, _+_, _*_, _-_, _≤_}
 use mathlib.Core.Bool.{Bool, true, false, _||_}
 use mathlib.Core.List.{List}

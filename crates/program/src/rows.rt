@@ -37,7 +37,8 @@ pub fn num(ws: &[u16], s: Sizes, r: usize) -> usize
 // Row r has the tag t, and a number below the limit.
 pub fn is_row(ws: &[u16], s: Sizes, r: usize, t: usize, limit: usize) -> bool
     requires { ⌜ Whole (now ws) s ⌝ }
-    ensures { λ b. ⌜ b ≡ (eqb (tag (program (now (ws .entry)) s) r) t && ltb (num (program (now (ws .entry)) s) r) limit) ⌝ }
+    ensures { λ b. ⌜ b ≡
+        (eqb (tag (program (now (ws .entry)) s) r) t && ltb (num (program (now (ws .entry)) s) r) limit) ⌝ }
 {
     tag(ws, s, r) == t && num(ws, s, r) < limit
 }
@@ -45,7 +46,8 @@ pub fn is_row(ws: &[u16], s: Sizes, r: usize, t: usize, limit: usize) -> bool
 // Row r has the tag t, and its number is an arity, or a count of parameters or arguments.
 pub fn is_small_row(ws: &[u16], s: Sizes, r: usize, t: usize) -> bool
     requires { ⌜ Whole (now ws) s ⌝ }
-    ensures { λ b. ⌜ b ≡ (eqb (tag (program (now (ws .entry)) s) r) t && leb (num (program (now (ws .entry)) s) r) maxArity) ⌝ }
+    ensures { λ b. ⌜ b ≡
+        (eqb (tag (program (now (ws .entry)) s) r) t && leb (num (program (now (ws .entry)) s) r) maxArity) ⌝ }
 {
     tag(ws, s, r) == t && num(ws, s, r) <= MAX_ARITY
 }

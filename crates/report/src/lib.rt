@@ -20,7 +20,8 @@ fn wide(word: u32) -> u64
 fn put_two(out: &mut [u8], at: usize, ws: &[u32], i: usize) -> usize
     requires { ⌜ at + 41 ≤ length (now out) ⌝ }
     requires { ⌜ i + 2 ≤ length (now ws) ⌝ }
-    ensures { λ r. ⌜ now (out .exit) ≡ put-at at (pair (getD (now (ws .entry)) i 0) (getD (now (ws .entry)) (i + 1) 0)) (now (out .entry)) ⌝ }
+    ensures { λ r. ⌜ now (out .exit) ≡
+        put-at at (pair (getD (now (ws .entry)) i 0) (getD (now (ws .entry)) (i + 1) 0)) (now (out .entry)) ⌝ }
     ensures { λ r. ⌜ r ≡ at + length (pair (getD (now (ws .entry)) i 0) (getD (now (ws .entry)) (i + 1) 0)) ⌝ }
 {
     let a = wide(ws[i]);

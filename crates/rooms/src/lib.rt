@@ -1,4 +1,5 @@
-// Cleared arrays. Each is made by a function whose contract says how long it is and that all is 0: so no caller's proof counts it out.
+// Cleared arrays. Each is made by a function whose contract says how long it is and that all is 0: so no caller's
+// proof counts it out.
 ghost use Rattle.rooms.specs.Cleared.{Cleared};
 
 pub fn bytes_8256() -> [u8; 8256]

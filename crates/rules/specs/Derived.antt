@@ -1,4 +1,5 @@
--- What the rules of a state are read from: tables made once, the states of one class by their rows, and two lists for the rules.
+-- What the rules of a state are read from: tables made once, the states of one class by their rows, and two lists for
+-- the rules.
 use Prim.Native.Nat.{ℕ, _+_, _*_, _≤_, _<_}
 use mathlib.Core.Path.{_≡_}
 use mathlib.Core.List.{List}
@@ -43,7 +44,8 @@ pub record No-class (p : Program) (t : Tables) (at : List ℕ) : Type 0 where
   pub room : size p ≤ length at
   pub index : (r : ℕ) → r < size p → getD at r 0 ≡ t .states .size
 
--- No state has more rules: a call or spawn has one for each value of a name, a send one for each letter counter, a receive one for each branch and letter.
+-- No state has more rules: a call or spawn has one for each value of a name, a send one for each letter counter, a
+-- receive one for each branch and letter.
 pub record Rule-room (s : Sizes) (tos others : List ℕ) : Type 0 where
   pub values : s .rows < length tos
   pub letters : maxBranches * (s .constructors + 2) ≤ length tos

@@ -1,4 +1,5 @@
--- The rules of one state as two short lists: where they lead, and the other counter. All rules of a state are of one kind.
+-- The rules of one state as two short lists: where they lead, and the other counter. All rules of a state are of one
+-- kind.
 use Prim.Native.Nat.{ℕ, _≤_}
 use mathlib.Core.Path.{_≡_}
 use mathlib.Core.List.{List, [], _∷_}

@@ -69,7 +69,8 @@ fn enter(ws: &[u16], s: Sizes, k: Class, at: &mut [u16]) -> Class
     requires { ⌜ Ready (now ws) s ⌝ }
     requires { ⌜ No-class (program (now ws) s) (tables (now ws) s) (now at) ⌝ }
     requires { ⌜ Class-range (tables (now ws) s) k ⌝ }
-    ensures { λ e. ⌜ Entered (program (now (ws .entry)) s) (tables (now (ws .entry)) s) e (now (at .exit)) × (e .number ≡ k .number) ⌝ }
+    ensures { λ e. ⌜ Entered (program (now (ws .entry)) s) (tables (now (ws .entry)) s) e (now (at .exit)) ×
+        (e .number ≡ k .number) ⌝ }
 {
     for j in k.from..k.to {
         let r = state_location(ws, s, j);
@@ -83,7 +84,8 @@ pub fn turn_to(ws: &[u16], s: Sizes, k: Class, at: &mut [u16], i: usize) -> Clas
     requires { ⌜ Ready (now ws) s ⌝ }
     requires { ⌜ Entered (program (now ws) s) (tables (now ws) s) k (now at) ⌝ }
     requires { ⌜ i < s .states ⌝ }
-    ensures { λ e. ⌜ Entered (program (now (ws .entry)) s) (tables (now (ws .entry)) s) e (now (at .exit)) × (e .number ≡ left (tables (now (ws .entry)) s .states) i) ⌝ }
+    ensures { λ e. ⌜ Entered (program (now (ws .entry)) s) (tables (now (ws .entry)) s) e (now (at .exit)) ×
+        (e .number ≡ left (tables (now (ws .entry)) s .states) i) ⌝ }
 {
     let c = state_class(ws, s, i);
     if c == k.number {

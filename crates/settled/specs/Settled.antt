@@ -8,8 +8,8 @@ use Rattle.model.specs.Tables.{Tables, has}
 use Rattle.branches.specs.Taken.{lacks, Bits-told}
 use Rattle.asks.specs.Asks.{there-code, Asked}
 
--- of a build and a function whether their name holds the row; of a call, a send and a spawn what they ask together; of a case the bits of its
--- branches
+-- of a build and a function whether their name holds the row; of a call, a send and a spawn what they ask together; of
+-- a case the bits of its branches
 pub record Settled (p : Program) (t : Tables) (r k : ℕ) : Type 0 where
   pub most : k ≤ lacks
   pub named : (tag p r ≡ 2) ⊎ (tag p r ≡ 3) → k ≡ there-code (has (t .flow) (num p r) r)

@@ -25,11 +25,7 @@ fn named_code(ws: &[u16], s: Sizes, flow: &[u64], r: usize) -> usize
     ensures { λ k. ⌜ k ≡ there-code (has (tables (now (ws .entry)) s .flow) (num (program (now (ws .entry)) s) r) r) ⌝ }
 {
     let name = num(ws, s, r);
-    if holds(flow, width(s), name, r) {
-        1
-    } else {
-        2
-    }
+    if holds(flow, width(s), name, r) { 1 } else { 2 }
 }
 
 // What the head at row r asks.

@@ -1,4 +1,5 @@
-// The sizes of the four parts of a message: as they are read, where they say that the parts begin, and the first one outside its limits.
+// The sizes of the four parts of a message: as they are read, where they say that the parts begin, and the first one
+// outside its limits.
 ghost use mathlib.Core.Path.{_≡_};
 ghost use Prim.Native.Nat.{_<_};
 ghost use lib.ListN.{getD};

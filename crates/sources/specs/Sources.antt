@@ -28,7 +28,8 @@ source p t s =
       | build ↦ Rest behind
       | function ↦ Rest behind
       | call ↦ Call c (num p (at + 2)) (range-from (t .flow) (num p (at + 1))) (range-to (t .flow) (num p (at + 1)))
-      | send ↦ Send behind (num p (at + 2)) (range-from (t .flow) (num p (at + 1))) (range-to (t .flow) (num p (at + 1)))
+      | send ↦ Send behind (num p (at + 2)) (range-from (t .flow) (num p (at + 1)))
+          (range-to (t .flow) (num p (at + 1)))
       | spawn ↦ Spawn at behind (range-from (t .flow) (num p (at + 1))) (range-to (t .flow) (num p (at + 1)))
       | self ↦ Rest behind
       | case ↦ Case c (num p at) (at + 2) (num p (at + 1))

@@ -126,7 +126,8 @@ pub fn source_at(ws: &[u16], s: Sizes, afters: &[u16], inners: &[u16], i: usize)
     requires { ⌜ Ends (program (now ws) s) (now afters) ⌝ }
     requires { ⌜ Owners (program (now ws) s) (now inners) ⌝ }
     requires { ⌜ i < s .states ⌝ }
-    ensures { λ x. ⌜ x ≡ source (program (now (ws .entry)) s) (tables (now (ws .entry)) s) (state-at (tables (now (ws .entry)) s) i) ⌝ }
+    ensures { λ x. ⌜ x ≡
+        source (program (now (ws .entry)) s) (tables (now (ws .entry)) s) (state-at (tables (now (ws .entry)) s) i) ⌝ }
 {
     let l = states(s);
     let c = left(ws, l, i);

@@ -25,7 +25,9 @@ pub fn space_verdict(
     lent: &mut [u32],
 ) -> Verdict
     requires { ⌜ Prepared (now ws) s (now afters) (now inners) (now cases) (now receives) (now names) (now index) ⌝ }
-    ensures { λ v. ⌜ v ≡ answer (space-check (program (now (ws .entry)) s) (tables (now (ws .entry)) s) (length (now (lent .entry)))) ⌝ }
+    ensures { λ v. ⌜ v ≡
+        answer (space-check (program (now (ws .entry)) s) (tables (now (ws .entry)) s)
+        (length (now (lent .entry)))) ⌝ }
     ensures { λ v. ⌜ now (lent .exit) ≡ words-after v (now (ws .entry)) s (now (lent .entry)) ⌝ }
 {
     let needed = listing_length(ws, s, afters, inners, cases, receives, names, index);

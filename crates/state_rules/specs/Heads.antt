@@ -1,4 +1,5 @@
--- What each turn of the loops over the rules of a head gives, by the tables that the code reads. i is the number of the state.
+-- What each turn of the loops over the rules of a head gives, by the tables that the code reads. i is the number of
+-- the state.
 use Prim.Native.Nat.{ℕ, _+_, _≤_, _<_}
 use mathlib.Core.Path.{_≡_}
 use mathlib.Core.Bool.{Bool, true, false}
@@ -33,7 +34,8 @@ pub record Plain (p : Program) (r : ℕ) : Type 0 where
 
 -- giving back from the function f, to the call of state j
 unfoldable pub give-turn : Program → Tables → List ℕ → ℕ → ℕ → ℕ → List Rule
-give-turn p t at f i j = only (returns-to p t (left (t .states) j) f j) (rule i (getD at (rest p (right (t .states) j)) 0) quiet)
+give-turn p t at f i j = only (returns-to p t (left (t .states) j) f j)
+    (rule i (getD at (rest p (right (t .states) j)) 0) quiet)
 
 -- a call with n arguments of the function of flow entry j
 unfoldable pub call-turn : Program → Tables → List ℕ → ℕ → ℕ → ℕ → List Rule
@@ -41,7 +43,8 @@ call-turn p t at n i j = only (takes p (right (t .flow) j) n) (rule i (getD at (
 
 -- a spawn at row r of the function of flow entry j, and on to the state `to`
 unfoldable pub spawn-turn : Program → Tables → ℕ → ℕ → ℕ → ℕ → List Rule
-spawn-turn p t to r i j = only (takes p (right (t .flow) j) 0) (rule i to (starts (state-index t (state r (body p (right (t .flow) j))))))
+spawn-turn p t to r i j = only (takes p (right (t .flow) j) 0)
+    (rule i to (starts (state-index t (state r (body p (right (t .flow) j))))))
 
 -- pair y of a class's letters, where its letter passes; there are so many states
 unfoldable pub letter-turn : ℕ → List ℕ → (ℕ → Bool) → (ℕ → Effect) → ℕ → ℕ → ℕ → List Rule

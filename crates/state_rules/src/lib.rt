@@ -50,7 +50,9 @@ fn returns_to(ws: &[u16], s: Sizes, w: usize, flows: &[u64], f: usize, j: usize)
     requires { ⌜ Ready (now ws) s ⌝ }
     requires { ⌜ Flow-sets (program (now ws) s) (tables (now ws) s) w (now flows) ⌝ }
     requires { ⌜ (f < s .rows) × (j < s .states) ⌝ }
-    ensures { λ b. ⌜ b ≡ returns-to (program (now (ws .entry)) s) (tables (now (ws .entry)) s) (left (tables (now (ws .entry)) s .states) j) f j ⌝ }
+    ensures { λ b. ⌜ b ≡
+        returns-to (program (now (ws .entry)) s) (tables (now (ws .entry)) s)
+        (left (tables (now (ws .entry)) s .states) j) f j ⌝ }
 {
     let r = state_location(ws, s, j);
     if tag(ws, s, r) != 4 {
@@ -97,7 +99,8 @@ fn give_rules(
     requires { ⌜ Entered (program (now ws) s) (tables (now ws) s) k (now at) ⌝ }
     requires { ⌜ tag (program (now ws) s) r ≡ 1 ⌝ }
     requires { ⌜ s .states ≤ length (now tos) ⌝ }
-    ensures { λ n. ⌜ Added give (now (tos .entry)) [] 0 (now (tos .exit)) [] n (λ i. state-rules (program (now (ws .entry)) s) (tables (now (ws .entry)) s) i (state (k .number) r)) ⌝ }
+    ensures { λ n. ⌜ Added give (now (tos .entry)) [] 0 (now (tos .exit)) [] n
+        (λ i. state-rules (program (now (ws .entry)) s) (tables (now (ws .entry)) s) i (state (k .number) r)) ⌝ }
 {
     let f = word(inners, r);
     if f >= s.rows {
@@ -130,7 +133,8 @@ fn call_rules(
     requires { ⌜ Entered (program (now ws) s) (tables (now ws) s) k (now at) ⌝ }
     requires { ⌜ tag (program (now ws) s) r ≡ 4 ⌝ }
     requires { ⌜ s .rows < length (now tos) ⌝ }
-    ensures { λ n. ⌜ Added call (now (tos .entry)) [] 0 (now (tos .exit)) [] n (λ i. state-rules (program (now (ws .entry)) s) (tables (now (ws .entry)) s) i (state (k .number) r)) ⌝ }
+    ensures { λ n. ⌜ Added call (now (tos .entry)) [] 0 (now (tos .exit)) [] n
+        (λ i. state-rules (program (now (ws .entry)) s) (tables (now (ws .entry)) s) i (state (k .number) r)) ⌝ }
 {
     let callee = num(ws, s, r + 1);
     let count = num(ws, s, r + 2);
@@ -167,7 +171,8 @@ fn spawn_rules(
     requires { ⌜ Entered (program (now ws) s) (tables (now ws) s) k (now at) ⌝ }
     requires { ⌜ tag (program (now ws) s) r ≡ 6 ⌝ }
     requires { ⌜ Rule-room s (now tos) (now others) ⌝ }
-    ensures { λ n. ⌜ Added spawn (now (tos .entry)) (now (others .entry)) 0 (now (tos .exit)) (now (others .exit)) n (λ i. state-rules (program (now (ws .entry)) s) (tables (now (ws .entry)) s) i (state (k .number) r)) ⌝ }
+    ensures { λ n. ⌜ Added spawn (now (tos .entry)) (now (others .entry)) 0 (now (tos .exit)) (now (others .exit)) n
+        (λ i. state-rules (program (now (ws .entry)) s) (tables (now (ws .entry)) s) i (state (k .number) r)) ⌝ }
 {
     let name = num(ws, s, r + 1);
     let next = behind(ws, s, afters, at, r);
@@ -202,7 +207,8 @@ fn rest_rules(
     requires { ⌜ Entered (program (now ws) s) (tables (now ws) s) k (now at) ⌝ }
     requires { ⌜ Plain (program (now ws) s) r ⌝ }
     requires { ⌜ 0 < length (now tos) ⌝ }
-    ensures { λ n. ⌜ Added self (now (tos .entry)) [] 0 (now (tos .exit)) [] n (λ i. state-rules (program (now (ws .entry)) s) (tables (now (ws .entry)) s) i (state (k .number) r)) ⌝ }
+    ensures { λ n. ⌜ Added self (now (tos .entry)) [] 0 (now (tos .exit)) [] n
+        (λ i. state-rules (program (now (ws .entry)) s) (tables (now (ws .entry)) s) i (state (k .number) r)) ⌝ }
 {
     tos[0] = behind(ws, s, afters, at, r);
     1
@@ -227,7 +233,9 @@ fn put_letters(
     requires { ⌜ Class-letters (program (now ws) s) (tables (now ws) s) (now «letter_at») (now letters) ⌝ }
     requires { ⌜ (m < s .names) × (d ≤ s .rows) ⌝ }
     requires { ⌜ Pair-room (now «letter_at») (now tos) (now others) n d ⌝ }
-    ensures { λ e. ⌜ Added send (now (tos .entry)) (now (others .entry)) n (now (tos .exit)) (now (others .exit)) e (class-turn (s .states) (now («letter_at» .entry)) (now (letters .entry)) (member (now (names .entry)) 2 m) puts next d) ⌝ }
+    ensures { λ e. ⌜ Added send (now (tos .entry)) (now (others .entry)) n (now (tos .exit)) (now (others .exit)) e
+        (class-turn (s .states) (now («letter_at» .entry)) (now (letters .entry))
+        (member (now (names .entry)) 2 m) puts next d) ⌝ }
     ensures { λ e. ⌜ e + getD (now («letter_at» .entry)) d 0 ≤ n + getD (now («letter_at» .entry)) (d + 1) 0 ⌝ }
 {
     let from = word(letter_at, d);
@@ -271,7 +279,8 @@ fn send_rules(
     requires { ⌜ state-closed (program (now ws) s) (tables (now ws) s) (state (k .number) r) ≡ true ⌝ }
     requires { ⌜ counter-count (program (now ws) s) (tables (now ws) s) ≤ maxCounters ⌝ }
     requires { ⌜ Rule-room s (now tos) (now others) ⌝ }
-    ensures { λ n. ⌜ Added send (now (tos .entry)) (now (others .entry)) 0 (now (tos .exit)) (now (others .exit)) n (λ i. state-rules (program (now (ws .entry)) s) (tables (now (ws .entry)) s) i (state (k .number) r)) ⌝ }
+    ensures { λ n. ⌜ Added send (now (tos .entry)) (now (others .entry)) 0 (now (tos .exit)) (now (others .exit)) n
+        (λ i. state-rules (program (now (ws .entry)) s) (tables (now (ws .entry)) s) i (state (k .number) r)) ⌝ }
 {
     let target = num(ws, s, r + 1);
     let message = num(ws, s, r + 2);
@@ -329,7 +338,8 @@ fn case_rules(
     requires { ⌜ tag (program (now ws) s) r ≡ 8 ⌝ }
     requires { ⌜ (i < s .states) × (r ≡ right (tables (now ws) s .states) i) ⌝ }
     requires { ⌜ maxBranches ≤ length (now tos) ⌝ }
-    ensures { λ n. ⌜ Added case (now (tos .entry)) [] 0 (now (tos .exit)) [] n (λ e. state-rules (program (now (ws .entry)) s) (tables (now (ws .entry)) s) e (state (k .number) r)) ⌝ }
+    ensures { λ n. ⌜ Added case (now (tos .entry)) [] 0 (now (tos .exit)) [] n
+        (λ e. state-rules (program (now (ws .entry)) s) (tables (now (ws .entry)) s) e (state (k .number) r)) ⌝ }
 {
     let m = num(ws, s, r + 1);
     let mut q = r + 2;
@@ -376,7 +386,9 @@ fn take_letters(
     requires { ⌜ Class-letters (program (now ws) s) (tables (now ws) s) (now «letter_at») (now letters) ⌝ }
     requires { ⌜ d ≤ s .rows ⌝ }
     requires { ⌜ Pair-room (now «letter_at») (now tos) (now others) n d ⌝ }
-    ensures { λ e. ⌜ Added receive (now (tos .entry)) (now (others .entry)) n (now (tos .exit)) (now (others .exit)) e (class-turn (s .states) (now («letter_at» .entry)) (now (letters .entry)) (takes-letter (program (now (ws .entry)) s) q) reads next d) ⌝ }
+    ensures { λ e. ⌜ Added receive (now (tos .entry)) (now (others .entry)) n (now (tos .exit)) (now (others .exit)) e
+        (class-turn (s .states) (now («letter_at» .entry)) (now (letters .entry))
+        (takes-letter (program (now (ws .entry)) s) q) reads next d) ⌝ }
     ensures { λ e. ⌜ e + getD (now («letter_at» .entry)) d 0 ≤ n + getD (now («letter_at» .entry)) (d + 1) 0 ⌝ }
 {
     let from = word(letter_at, d);
@@ -416,9 +428,11 @@ fn receive_rules(
     requires { ⌜ Entered (program (now ws) s) (tables (now ws) s) k (now at) ⌝ }
     requires { ⌜ Branch-bits (program (now ws) s) (tables (now ws) s) (now branches) ⌝ }
     requires { ⌜ tag (program (now ws) s) r ≡ 9 ⌝ }
-    requires { ⌜ (i < s .states) × (r ≡ right (tables (now ws) s .states) i) × (k .number ≡ left (tables (now ws) s .states) i) ⌝ }
+    requires { ⌜ (i < s .states) × (r ≡ right (tables (now ws) s .states) i) ×
+        (k .number ≡ left (tables (now ws) s .states) i) ⌝ }
     requires { ⌜ Rule-room s (now tos) (now others) ⌝ }
-    ensures { λ n. ⌜ Added receive (now (tos .entry)) (now (others .entry)) 0 (now (tos .exit)) (now (others .exit)) n (λ e. state-rules (program (now (ws .entry)) s) (tables (now (ws .entry)) s) e (state (k .number) r)) ⌝ }
+    ensures { λ n. ⌜ Added receive (now (tos .entry)) (now (others .entry)) 0 (now (tos .exit)) (now (others .exit)) n
+        (λ e. state-rules (program (now (ws .entry)) s) (tables (now (ws .entry)) s) e (state (k .number) r)) ⌝ }
 {
     let m = num(ws, s, r);
     let mut q = r + 1;
@@ -466,11 +480,13 @@ pub fn state_rules(
     tos: &mut [u16],
     others: &mut [u16],
 ) -> usize
-    requires { ⌜ Rule-tables (now ws) s (now afters) (now inners) (now «flow_at») w (now flows) (now names) (now «letter_at») (now letters) (now branches) ⌝ }
+    requires { ⌜ Rule-tables (now ws) s (now afters) (now inners) (now «flow_at») w (now flows) (now names)
+        (now «letter_at») (now letters) (now branches) ⌝ }
     requires { ⌜ Entered (program (now ws) s) (tables (now ws) s) k (now at) ⌝ }
     requires { ⌜ (i < s .states) × (k .number ≡ left (tables (now ws) s .states) i) ⌝ }
     requires { ⌜ Rule-room s (now tos) (now others) ⌝ }
-    ensures { λ n. ⌜ State-rules (program (now (ws .entry)) s) (tables (now (ws .entry)) s) i (now (tos .exit)) (now (others .exit)) n ⌝ }
+    ensures { λ n. ⌜ State-rules (program (now (ws .entry)) s) (tables (now (ws .entry)) s) i (now (tos .exit))
+        (now (others .exit)) n ⌝ }
 {
     let r = state_location(ws, s, i);
     match tag(ws, s, r) {

@@ -105,7 +105,7 @@ module _ (p : Program) (t : Tables) (c : ℕ) (qs : List ℕ) (k : ℕ) where
 
 -- a call
 module _ (p : Program) (t : Tables) (c r : ℕ) where
-  one-callee : (a b x : Bool) → implies a (b && x) ≡ (code-closed (elim a [ | true ↦ elim b [ true ↦ 0 | false ↦ 2 ] | false ↦ 0 ]) true && implies a x)
+  one-callee : (a b x : Bool) → implies a (b && x) ≡ (code-closed (elim a [ true ↦ elim b [ true ↦ 0 | false ↦ 2 ] | false ↦ 0 ]) true && implies a x)
   unfolding implies code-closed
   one-callee true true x = refl
   one-callee true false x = refl
@@ -230,7 +230,7 @@ module _ (p : Program) (t : Tables) (c r x : ℕ) (tagged : x ≡ tag p r) where
       }
 
   -- the others: by the code of the head
-  send-value : (class filled mailed held there : Bool) (e : Bool) → (class ≡ true → filled ≡ true → e ≡ ((mailed && held) && there)) → (filled ≡ false → e ≡ true) → implies class e ≡ code-closed (elim class [ | true ↦ elim filled [ | true ↦ there-code (mailed && held) | false ↦ 0 ] | false ↦ 0 ]) there
+  send-value : (class filled mailed held there : Bool) (e : Bool) → (class ≡ true → filled ≡ true → e ≡ ((mailed && held) && there)) → (filled ≡ false → e ≡ true) → implies class e ≡ code-closed (elim class [ true ↦ elim filled [ true ↦ there-code (mailed && held) | false ↦ 0 ] | false ↦ 0 ]) there
   unfolding implies code-closed there-code
   send-value true true true true there e f g = f refl refl
   send-value true true true false there e f g = f refl refl
@@ -253,7 +253,7 @@ module _ (p : Program) (t : Tables) (c r x : ℕ) (tagged : x ≡ tag p r) where
       assoc true b c = refl
       assoc false b c = refl
 
-  spawn-value : (called held first there : Bool) → implies called (held && (there && first)) ≡ code-closed (elim called [ | true ↦ there-code (held && first) | false ↦ 0 ]) there
+  spawn-value : (called held first there : Bool) → implies called (held && (there && first)) ≡ code-closed (elim called [ true ↦ there-code (held && first) | false ↦ 0 ]) there
   unfolding implies code-closed there-code
   spawn-value true true true true = refl
   spawn-value true true true false = refl

@@ -21,7 +21,8 @@ pub record Begins (l : Columns) (c from : ℕ) : Type 0 where
 
 -- of a call in class c: the bodies of the functions that the callee may be are states
 unfoldable pub callees-here : Program → Tables → ℕ → ℕ → Bool
-callees-here p t c r = each (t .flow) (num p (r + 1)) (λ f. implies (takes p f (num p (r + 2))) (has-state t (state c (body p f))))
+callees-here p t c r = each (t .flow) (num p (r + 1))
+    (λ f. implies (takes p f (num p (r + 2))) (has-state t (state c (body p f))))
 
 -- of giving back n from f: state i
 unfoldable pub give-state : Program → Tables → ℕ → ℕ → ℕ → ℕ → Bool
@@ -42,10 +43,12 @@ pub record Bits-of (p : Program) (t : Tables) (l : Columns) (a : ℕ) (qs : List
   pub bits : (b : ℕ) → b < length qs → bit k b ≡ some-of l a (may-take p t (getD qs b 0))
   pub end : k < 2 ^ length qs
 
--- k is `lacks` where something that state (c, r) asks for is missing; else it has the bits of its branches, and is 0 where it has none
+-- k is `lacks` where something that state (c, r) asks for is missing; else it has the bits of its branches, and is 0
+-- where it has none
 pub record Stated (p : Program) (t : Tables) (c r k : ℕ) : Type 0 where
   pub most : k ≤ lacks
   pub missing : k ≡ lacks → state-closed p t (state c r) ≡ false
   pub closed : (k ≡ lacks → ⊥) → state-closed p t (state c r) ≡ true
-  pub case-bits : (k ≡ lacks → ⊥) → tag p r ≡ 8 → Bits-of p t (t .flow) (num p r) (branch-rows p (num p (r + 1)) (r + 2)) k
+  pub case-bits :
+      (k ≡ lacks → ⊥) → tag p r ≡ 8 → Bits-of p t (t .flow) (num p r) (branch-rows p (num p (r + 1)) (r + 2)) k
   pub receive-bits : (k ≡ lacks → ⊥) → tag p r ≡ 9 → Bits-of p t (t .mail) c (branch-rows p (num p r) (r + 1)) k

@@ -22,7 +22,9 @@ ghost use Rattle.stated.specs.Stated.{callees-here};
 fn callee_here(ws: &[u16], s: Sizes, here: &[u64], c: usize, f: usize, count: usize) -> bool
     requires { ⌜ Ready (now ws) s ⌝ }
     requires { ⌜ Values (tables (now ws) s .states) c (width (s .rows)) 0 (now here) ⌝ }
-    ensures { λ b. ⌜ b ≡ implies (takes (program (now (ws .entry)) s) f count) (has-state (tables (now (ws .entry)) s) (state c (body (program (now (ws .entry)) s) f))) ⌝ }
+    ensures { λ b. ⌜ b ≡
+        implies (takes (program (now (ws .entry)) s) f count)
+        (has-state (tables (now (ws .entry)) s) (state c (body (program (now (ws .entry)) s) f))) ⌝ }
 {
     if takes(ws, s, f, count) {
         let first = body(ws, s, f);

@@ -1,4 +1,5 @@
-// Giving back: for each state at a call whose callee may be the innermost function, the call's name holds the values, and its rest is a state.
+// Giving back: for each state at a call whose callee may be the innermost function, the call's name holds the values,
+// and its rest is a state.
 use asks::includes;
 use lists::state_class;
 use lists::state_location;
@@ -42,7 +43,16 @@ fn returns_to(ws: &[u16], s: Sizes, flow: &[u64], c: usize, f: usize, i: usize) 
 }
 
 // What is asked of state i where the function f gives back the name n.
-fn give_state(ws: &[u16], s: Sizes, flow: &[u64], here: &[u64], c: usize, n: usize, f: usize, i: usize) -> bool
+fn give_state(
+    ws: &[u16],
+    s: Sizes,
+    flow: &[u64],
+    here: &[u64],
+    c: usize,
+    n: usize,
+    f: usize,
+    i: usize,
+) -> bool
     requires { ⌜ Ready (now ws) s ⌝ }
     requires { ⌜ Flow-sets (program (now ws) s) (tables (now ws) s) (now flow) ⌝ }
     requires { ⌜ Values (tables (now ws) s .states) c (width (s .rows)) 0 (now here) ⌝ }
@@ -62,7 +72,8 @@ fn give_state(ws: &[u16], s: Sizes, flow: &[u64], here: &[u64], c: usize, n: usi
     holds(here, width(s), 0, next)
 }
 
-// Whether all that the head at row r, which gives back, asks for in class c is there; the states of the class stand from `from` on.
+// Whether all that the head at row r, which gives back, asks for in class c is there; the states of the class stand
+// from `from` on.
 pub fn give_closed(
     ws: &[u16],
     s: Sizes,
@@ -79,7 +90,9 @@ pub fn give_closed(
     requires { ⌜ Values (tables (now ws) s .states) c (width (s .rows)) 0 (now here) ⌝ }
     requires { ⌜ Begins (tables (now ws) s .states) c from ⌝ }
     requires { ⌜ tag (program (now ws) s) r ≡ 1 ⌝ }
-    ensures { λ b. ⌜ b ≡ give-closed (program (now (ws .entry)) s) (tables (now (ws .entry)) s) c (num (program (now (ws .entry)) s) r) (innermost (program (now (ws .entry)) s) r) ⌝ }
+    ensures { λ b. ⌜ b ≡
+        give-closed (program (now (ws .entry)) s) (tables (now (ws .entry)) s) c (num (program (now (ws .entry)) s) r)
+        (innermost (program (now (ws .entry)) s) r) ⌝ }
 {
     let f = word(inners, r);
     if f == s.rows {

@@ -29,12 +29,21 @@ ghost use Rattle.settled.specs.Settled.{Settled};
 ghost use Rattle.stated.specs.Stated.{Begins, Here, Flagged, Stated};
 
 // What a head with this code asks in class c: nothing, its rest as a state, or something lacks.
-fn rest_closed(ws: &[u16], s: Sizes, afters: &[u16], here: &[u64], c: usize, r: usize, k: usize) -> bool
+fn rest_closed(
+    ws: &[u16],
+    s: Sizes,
+    afters: &[u16],
+    here: &[u64],
+    c: usize,
+    r: usize,
+    k: usize,
+) -> bool
     requires { ⌜ Ready (now ws) s ⌝ }
     requires { ⌜ Ends (program (now ws) s) (now afters) ⌝ }
     requires { ⌜ Values (tables (now ws) s .states) c (width (s .rows)) 0 (now here) ⌝ }
     requires { ⌜ (2 ≤ tag (program (now ws) s) r) × (tag (program (now ws) s) r ≤ 7) ⌝ }
-    ensures { λ b. ⌜ b ≡ code-closed k (has-state (tables (now (ws .entry)) s) (state c (rest (program (now (ws .entry)) s) r))) ⌝ }
+    ensures { λ b. ⌜ b ≡
+        code-closed k (has-state (tables (now (ws .entry)) s) (state c (rest (program (now (ws .entry)) s) r))) ⌝ }
 {
     if k == 0 {
         return true;
@@ -47,13 +56,23 @@ fn rest_closed(ws: &[u16], s: Sizes, afters: &[u16], here: &[u64], c: usize, r: 
 }
 
 // What the call at row r with this code asks in class c.
-fn call_closed(ws: &[u16], s: Sizes, starts: &[u16], here: &[u64], c: usize, r: usize, k: usize) -> bool
+fn call_closed(
+    ws: &[u16],
+    s: Sizes,
+    starts: &[u16],
+    here: &[u64],
+    c: usize,
+    r: usize,
+    k: usize,
+) -> bool
     requires { ⌜ Ready (now ws) s ⌝ }
     requires { ⌜ Flow-starts (program (now ws) s) (tables (now ws) s) (now starts) ⌝ }
     requires { ⌜ Values (tables (now ws) s .states) c (width (s .rows)) 0 (now here) ⌝ }
     requires { ⌜ tag (program (now ws) s) r ≡ 4 ⌝ }
     requires { ⌜ Asked (program (now ws) s) (tables (now ws) s) r k ⌝ }
-    ensures { λ b. ⌜ b ≡ call-closed (program (now (ws .entry)) s) (tables (now (ws .entry)) s) c (call-at (program (now (ws .entry)) s) r) ⌝ }
+    ensures { λ b. ⌜ b ≡
+        call-closed (program (now (ws .entry)) s) (tables (now (ws .entry)) s) c
+        (call-at (program (now (ws .entry)) s) r) ⌝ }
 {
     if k >= 2 {
         return false;
@@ -62,14 +81,24 @@ fn call_closed(ws: &[u16], s: Sizes, starts: &[u16], here: &[u64], c: usize, r: 
 }
 
 // What self at row r asks in class c.
-fn self_closed(ws: &[u16], s: Sizes, afters: &[u16], flow: &[u64], here: &[u64], c: usize, r: usize) -> bool
+fn self_closed(
+    ws: &[u16],
+    s: Sizes,
+    afters: &[u16],
+    flow: &[u64],
+    here: &[u64],
+    c: usize,
+    r: usize,
+) -> bool
     requires { ⌜ Ready (now ws) s ⌝ }
     requires { ⌜ Ends (program (now ws) s) (now afters) ⌝ }
     requires { ⌜ Flow-sets (program (now ws) s) (tables (now ws) s) (now flow) ⌝ }
     requires { ⌜ Values (tables (now ws) s .states) c (width (s .rows)) 0 (now here) ⌝ }
     requires { ⌜ tag (program (now ws) s) r ≡ 7 ⌝ }
     requires { ⌜ is-class (program (now ws) s) c ≡ true ⌝ }
-    ensures { λ b. ⌜ b ≡ (has (tables (now (ws .entry)) s .flow) (num (program (now (ws .entry)) s) r) c && has-state (tables (now (ws .entry)) s) (state c (rest (program (now (ws .entry)) s) r))) ⌝ }
+    ensures { λ b. ⌜ b ≡
+        (has (tables (now (ws .entry)) s .flow) (num (program (now (ws .entry)) s) r) c &&
+        has-state (tables (now (ws .entry)) s) (state c (rest (program (now (ws .entry)) s) r))) ⌝ }
 {
     let name = num(ws, s, r);
     if !holds(flow, width(s), name, c) {
@@ -93,7 +122,8 @@ fn branches_here(
     requires { ⌜ Ends (program (now ws) s) (now afters) ⌝ }
     requires { ⌜ Values (tables (now ws) s .states) c (width (s .rows)) 0 (now here) ⌝ }
     requires { ⌜ Run (program (now ws) s) q count ⌝ }
-    ensures { λ x. ⌜ Here (program (now (ws .entry)) s) (tables (now (ws .entry)) s) c (branch-rows (program (now (ws .entry)) s) count q) k x ⌝ }
+    ensures { λ x. ⌜ Here (program (now (ws .entry)) s) (tables (now (ws .entry)) s) c
+        (branch-rows (program (now (ws .entry)) s) count q) k x ⌝ }
 {
     if k == LACKS {
         return LACKS;
@@ -112,7 +142,8 @@ fn unless(b: bool) -> usize
     if b { 0 } else { LACKS }
 }
 
-// State (c, r), whose head asks k whatever the class: LACKS where something that it asks for is missing, else the bits of its branches.
+// State (c, r), whose head asks k whatever the class: LACKS where something that it asks for is missing, else the bits
+// of its branches.
 pub fn state_bits(
     ws: &[u16],
     s: Sizes,
@@ -138,7 +169,8 @@ pub fn state_bits(
     requires { ⌜ Matches (program (now ws) s) (tables (now ws) s) (now may) (now held) 0 ⌝ }
     requires { ⌜ Values (tables (now ws) s .states) c (width (s .rows)) 0 (now here) ⌝ }
     requires { ⌜ Begins (tables (now ws) s .states) c from ⌝ }
-    requires { ⌜ (is-class (program (now ws) s) c ≡ true) × ((1 ≤ tag (program (now ws) s) r) × (tag (program (now ws) s) r ≤ 9)) ⌝ }
+    requires { ⌜ (is-class (program (now ws) s) c ≡ true) ×
+        ((1 ≤ tag (program (now ws) s) r) × (tag (program (now ws) s) r ≤ 9)) ⌝ }
     requires { ⌜ Settled (program (now ws) s) (tables (now ws) s) r k ⌝ }
     ensures { λ x. ⌜ Stated (program (now (ws .entry)) s) (tables (now (ws .entry)) s) c r x ⌝ }
 {

@@ -135,9 +135,9 @@ fire-less σ m y h once =
     let (to, top) = more-if-range (eqb y (σ .to)) left in
     let (other, top′) = more-if-range (adds-other σ y) (more-if (eqb y (σ .to)) left) in
     let lost : m y - 1 ≤ left =
-        test (eqb y (σ .from))
-        (λ e. let z = less-fail (takes-other σ y) first (once (eqb-true y (σ .from) e)) in let w = less-pass (eqb y (σ .from)) (m y) e in omega arith)
-        (λ e. let z = less-if-range (takes-other σ y) first in let w = less-fail (eqb y (σ .from)) (m y) e in omega arith) in
+    test (eqb y (σ .from))
+    (λ e. let z = less-fail (takes-other σ y) first (once (eqb-true y (σ .from) e)) in let w = less-pass (eqb y (σ .from)) (m y) e in omega arith)
+    (λ e. let z = less-if-range (takes-other σ y) first in let w = less-fail (eqb y (σ .from)) (m y) e in omega arith) in
     omega (arith, fire-stages σ m y h)
 
 -- a counter from which the step does not take does not fall

@@ -39,4 +39,9 @@ more-if false count = count
 
 -- the kind of the rules at a head with this tag: a send, a spawn, a receive, or another
 unfoldable pub effect-kind : ℕ → ℕ
-effect-kind tag = elim (eqb tag 5) [ true ↦ 2 | false ↦ elim (eqb tag 6) [ true ↦ 3 | false ↦ elim (eqb tag 9) [ true ↦ 1 | false ↦ 0 ] ] ]
+effect-kind tag = elim
+    (eqb tag 5) [
+      | true ↦ 2
+      | false ↦ elim
+          (eqb tag 6) [ true ↦ 3 | false ↦ elim (eqb tag 9) [ true ↦ 1 | false ↦ 0 ] ]
+    ]

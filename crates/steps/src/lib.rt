@@ -5,7 +5,8 @@ ghost use Rattle.model.specs.Limits.{omega-limit};
 ghost use Rattle.model.specs.Markings.{fire};
 ghost use Rattle.steps.specs.Steps.{rule-of-step, effect-kind, takes-other, adds-other, less-if, more-if};
 
-// A rule: from a counter to a counter, and by its kind nothing (0), another counter read (1) or put (2), or a new state (3).
+// A rule: from a counter to a counter, and by its kind nothing (0), another counter read (1) or put (2), or a new
+// state (3).
 pub struct Step {
     pub from: usize,
     pub to: usize,

@@ -43,11 +43,13 @@ takes-entry p t q l k = eqb (row-letter p (right (t .mail) k)) l && may-take p t
 module _ (p : Program) (t : Tables) (i : ℕ) where
   -- giving back from the function f, to the call of state j
   unfoldable pub give-slot : ℕ → ℕ → ℕ → Slot
-  give-slot c f j = filled (returns-to p t c f j) (Quiet i (state-index t (state c (call-at p (state-at t j .location) .rest))))
+  give-slot c f j = filled (returns-to p t c f j)
+      (Quiet i (state-index t (state c (call-at p (state-at t j .location) .rest))))
 
   -- a call with n arguments of the function of flow entry j
   unfoldable pub call-slot : ℕ → ℕ → ℕ → Slot
-  call-slot c n j = filled (takes p (right (t .flow) j) n) (Quiet i (state-index t (state c (body p (right (t .flow) j)))))
+  call-slot c n j = filled (takes p (right (t .flow) j) n)
+      (Quiet i (state-index t (state c (body p (right (t .flow) j)))))
 
   -- a message of the name m, with the letter l, to the class of flow entry j
   unfoldable pub send-slot : ℕ → ℕ → ℕ → ℕ → Slot
@@ -57,7 +59,8 @@ module _ (p : Program) (t : Tables) (i : ℕ) where
 
   -- a spawn at row r of the function of flow entry j
   unfoldable pub spawn-slot : ℕ → ℕ → ℕ → Slot
-  spawn-slot r to j = filled (takes p (right (t .flow) j) 0) (Starts i to (state-index t (state r (body p (right (t .flow) j)))))
+  spawn-slot r to j = filled (takes p (right (t .flow) j) 0)
+      (Starts i to (state-index t (state r (body p (right (t .flow) j)))))
 
   -- the branch at row q, for a value of the name n
   unfoldable pub case-slot : ℕ → ℕ → ℕ → Slot
@@ -98,7 +101,8 @@ pub record Receive-asks (p : Program) (c q m j l : ℕ) : Type 0 where
 -- the codes of the branch of a receive at row q, for each entry of mail
 pub record Codes (p : Program) (t : Tables) (q : ℕ) (receives : List ℕ) : Type 0 where
   pub room : q / 2 * t .mail .size + t .mail .size ≤ length receives
-  pub code : (k : ℕ) → k < t .mail .size → getD receives (q / 2 * t .mail .size + k) 0 ≡ value-code p t q (right (t .mail) k)
+  pub code :
+      (k : ℕ) → k < t .mail .size → getD receives (q / 2 * t .mail .size + k) 0 ≡ value-code p t q (right (t .mail) k)
 
 -- the tables that the slots are read from
 pub record Slots-ask (p : Program) (t : Tables) (afters cases receives names index : List ℕ) : Type 0 where

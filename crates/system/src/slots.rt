@@ -151,7 +151,9 @@ fn case_slot(
     requires { ⌜ Branches (program (now ws) s) (tables (now ws) s) (now cases) (now receives) ⌝ }
     requires { ⌜ Case-rows (program (now ws) s) n r m ⌝ }
     requires { ⌜ j < m ⌝ }
-    ensures { λ x. ⌜ x ≡ case-slot (program (now (ws .entry)) s) (tables (now (ws .entry)) s) i c n (branch-row (program (now (ws .entry)) s) r j) ⌝ }
+    ensures { λ x. ⌜ x ≡
+        case-slot (program (now (ws .entry)) s) (tables (now (ws .entry)) s) i c n
+        (branch-row (program (now (ws .entry)) s) r j) ⌝ }
 {
     let q = branch_row(ws, s, afters, r, j);
     if cases[q] == 0 {
@@ -181,7 +183,9 @@ fn takes_letter(ws: &[u16], s: Sizes, receives: &[u8], c: usize, q: usize, l: us
     requires { ⌜ Ready (now ws) s ⌝ }
     requires { ⌜ Codes (program (now ws) s) (tables (now ws) s) q (now receives) ⌝ }
     requires { ⌜ (q < s .rows) × (c ≤ s .rows) ⌝ }
-    ensures { λ b. ⌜ b ≡ letter-of-some (program (now (ws .entry)) s) (tables (now (ws .entry)) s .mail) c (may-take (program (now (ws .entry)) s) (tables (now (ws .entry)) s) q) l ⌝ }
+    ensures { λ b. ⌜ b ≡
+        letter-of-some (program (now (ws .entry)) s) (tables (now (ws .entry)) s .mail) c
+        (may-take (program (now (ws .entry)) s) (tables (now (ws .entry)) s) q) l ⌝ }
 {
     let to = mail_to(ws, s, c);
     let mut k = mail_from(ws, s, c);
@@ -214,7 +218,9 @@ fn receive_slot(
     requires { ⌜ Branches (program (now ws) s) (tables (now ws) s) (now cases) (now receives) ⌝ }
     requires { ⌜ Letters (program (now ws) s) (tables (now ws) s) (now index) ⌝ }
     requires { ⌜ Receive-asks (program (now ws) s) c r m j l ⌝ }
-    ensures { λ x. ⌜ x ≡ receive-slot (program (now (ws .entry)) s) (tables (now (ws .entry)) s) i c (branch-row (program (now (ws .entry)) s) r j) l ⌝ }
+    ensures { λ x. ⌜ x ≡
+        receive-slot (program (now (ws .entry)) s) (tables (now (ws .entry)) s) i c
+        (branch-row (program (now (ws .entry)) s) r j) l ⌝ }
 {
     let q = branch_row(ws, s, afters, r, j);
     if !takes_letter(ws, s, receives, c, q, l) {
@@ -239,7 +245,8 @@ pub fn slot_at(
     k: usize,
 ) -> Slot
     requires { ⌜ Ready (now ws) s ⌝ }
-    requires { ⌜ Slots-ask (program (now ws) s) (tables (now ws) s) (now afters) (now cases) (now receives) (now names) (now index) ⌝ }
+    requires { ⌜ Slots-ask (program (now ws) s) (tables (now ws) s) (now afters) (now cases) (now receives)
+        (now names) (now index) ⌝ }
     requires { ⌜ Sound (program (now ws) s) x ⌝ }
     requires { ⌜ (j < outer-to x) × (k < inner-count (program (now ws) s) x) ⌝ }
     ensures { λ y. ⌜ y ≡ slot (program (now (ws .entry)) s) (tables (now (ws .entry)) s) i x j k ⌝ }

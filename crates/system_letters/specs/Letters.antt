@@ -1,4 +1,5 @@
--- Tables made once from the lists: where the entries of a name or class begin, the letters of a name's values, the letters of a class's mail.
+-- Tables made once from the lists: where the entries of a name or class begin, the letters of a name's values, the
+-- letters of a class's mail.
 use Prim.Native.Nat.{ℕ, _+_, _*_, _≤_, _<_}
 use mathlib.Core.Path.{_≡_}
 use mathlib.Core.Bool.{true}
@@ -28,8 +29,8 @@ pub record Name-letters (p : Program) (t : Tables) (names : List ℕ) : Type 0 w
 unfoldable pub letters-before : Program → Tables → ℕ → ℕ → ℕ
 letters-before p t c l = count 0 (letter-key p c l) (has-letter p t)
 
--- The (class, letter) pairs of mail in order: word y of `ls` is the letter of pair y, and word c of `starts` is the first pair of class c.
--- The counter of pair y is S + y.
+-- The (class, letter) pairs of mail in order: word y of `ls` is the letter of pair y, and word c of `starts` is the
+-- first pair of class c. The counter of pair y is S + y.
 pub record Class-letters (p : Program) (t : Tables) (starts ls : List ℕ) : Type 0 where
   pub starts-room : size p + 1 < length starts
   pub room : letter-count p t ≤ length ls

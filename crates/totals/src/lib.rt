@@ -52,7 +52,8 @@ fn inner_totals(
     j: usize,
 ) -> Totals
     requires { ⌜ Ready (now ws) s ⌝ }
-    requires { ⌜ Slots-ask (program (now ws) s) (tables (now ws) s) (now afters) (now cases) (now receives) (now names) (now index) ⌝ }
+    requires { ⌜ Slots-ask (program (now ws) s) (tables (now ws) s) (now afters) (now cases) (now receives)
+        (now names) (now index) ⌝ }
     requires { ⌜ Sourced (program (now ws) s) x ⌝ }
     requires { ⌜ j < outer-to x ⌝ }
     ensures { λ n. ⌜ n ≡ counted (inner-rules (program (now (ws .entry)) s) (tables (now (ws .entry)) s) i x j) ⌝ }
@@ -83,7 +84,8 @@ fn source_totals(
     x: Source,
 ) -> Totals
     requires { ⌜ Ready (now ws) s ⌝ }
-    requires { ⌜ Slots-ask (program (now ws) s) (tables (now ws) s) (now afters) (now cases) (now receives) (now names) (now index) ⌝ }
+    requires { ⌜ Slots-ask (program (now ws) s) (tables (now ws) s) (now afters) (now cases) (now receives)
+        (now names) (now index) ⌝ }
     requires { ⌜ Sourced (program (now ws) s) x ⌝ }
     ensures { λ n. ⌜ n ≡ counted (source-rules (program (now (ws .entry)) s) (tables (now (ws .entry)) s) i x) ⌝ }
 {

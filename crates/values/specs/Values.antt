@@ -16,7 +16,8 @@ use Rattle.lists.specs.Lists.{range-from}
 unfoldable pub width : ℕ → ℕ
 width r = r / 64 + 1
 
--- the number of the set of a class: that of the name that its spawn row binds, which no other row binds; the one behind all names for the start
+-- the number of the set of a class: that of the name that its spawn row binds, which no other row binds; the one
+-- behind all names for the start
 unfoldable pub mail-set : Program → ℕ → ℕ
 mail-set p c = elim (eqb c (size p)) [ true ↦ p .names | false ↦ num p c ]
 

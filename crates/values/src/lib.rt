@@ -1,10 +1,10 @@
 // The values of names and of classes as sets of bits: one set of `width` words for each, which refusal 8 stands on.
+use lists::Span;
 use lists::flow;
 use lists::left;
 use lists::mail;
 use lists::right;
 use model::Sizes;
-use lists::Span;
 use program::rows::num;
 use sets::put;
 ghost use mathlib.Core.Path.{_≡_};
@@ -30,11 +30,7 @@ pub fn mail_set(ws: &[u16], s: Sizes, c: usize) -> usize
     requires { ⌜ Whole (now ws) s ⌝ }
     ensures { λ n. ⌜ n ≡ mail-set (program (now (ws .entry)) s) c ⌝ }
 {
-    if c == s.rows {
-        s.names
-    } else {
-        num(ws, s, c)
-    }
+    if c == s.rows { s.names } else { num(ws, s, c) }
 }
 
 // The sets of all names, in a table of zeros.

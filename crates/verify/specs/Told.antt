@@ -1,5 +1,5 @@
--- Document 01, "Station A": what the program prints. "A program reads the message from standard input, lends 16,384 words, and prints
--- number and place, then, if safe, the four system sizes, then a tag and number a line."
+-- Document 01, "Station A": what the program prints. "A program reads the message from standard input, lends 16,384
+-- words, and prints number and place, then, if safe, the four system sizes, then a tag and number a line."
 use Prim.Native.Nat.{ℕ}
 use mathlib.Core.List.{List, [], _++_}
 use lib.ListN.{replicate}

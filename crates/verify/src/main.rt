@@ -1,11 +1,12 @@
-// Reads a message from standard input, lends 16,384 words, and prints the verdict's number and place; if it is safe, the system too.
+// Reads a message from standard input, lends 16,384 words, and prints the verdict's number and place; if it is safe,
+// the system too.
 mod tell;
 
 use tell::room;
 use tell::tell;
 
-// A message has 58,390 bytes at the most. What is longer is settled by its beginning: the sizes that the limits allow end before
-// the buffer does, so the answer is the same as for the whole.
+// A message has 58,390 bytes at the most. What is longer is settled by its beginning: the sizes that the limits allow
+// end before the buffer does, so the answer is the same as for the whole.
 fn main() {
     let mut message = io::large_buffer();
     let n = io::read_full(0, &mut message);

@@ -25,7 +25,8 @@ pub fn word(bytes: &[u8], i: usize) -> u16
 // The words of the bytes, to the front of `into`, which has room for them; what stands behind them stays.
 pub fn decode(bytes: &[u8], into: &mut [u16])
     requires { ⌜ length (now bytes) ≤ 2 * length (now into) ⌝ }
-    ensures { λ r. ⌜ now (into .exit) ≡ words (now (bytes .entry)) ++ drop (length (words (now (bytes .entry)))) (now (into .entry)) ⌝ }
+    ensures { λ r. ⌜ now (into .exit) ≡
+        words (now (bytes .entry)) ++ drop (length (words (now (bytes .entry)))) (now (into .entry)) ⌝ }
 {
     let count = bytes.len() / 2;
     let mut i = 0;

@@ -49,8 +49,10 @@ returns c =
     let a = c .before .before .before .before .before .before .before .before .before .before .before .before .before .before .before .before .before .before .before .before .before .before .args in
     let most = c .before .before .before .before .before .before .before .before .before .before .before .before .before .before .before .before .highest .ensures .0 in (
       exceeds-as _ _ _ _ _ most _ _ _ (c .before .below .ensures) (c .before .before .before .before .before .before .before .before .before .before .before .before .before .before .before .allowing .ensures) (c .without2 .ensures),
-      (set-as _ _ _ _ _ (c .before .before .before .before .before .before .before .before .store .ensures) (by-one-as _ _ _ _ _ most _ _ _ _ (c .before .before .before .before .before .before .before .before .before .before .before .before .before .before .one-less .ensures) (c .before .before .before .before .before .before .before .before .before .before .before .before .before .allowing2 .ensures) (c .before .before .before .before .before .before .before .before .before .before .before .before .before .before .before .allowing .ensures) (c .before .before .before .before .before .before .before .before .before .without .ensures)),
-      set-as _ _ _ _ _ (c .before .before .before .before .store2 .ensures) (more-as _ _ _ _ _ most _ _ (c .before .before .before .before .before .before .before .before .before .before .before .before .one-more .ensures) (c .before .before .before .before .before .before .before .before .before .before .before .allowing3 .ensures))),
+      (
+        set-as _ _ _ _ _ (c .before .before .before .before .before .before .before .before .store .ensures) (by-one-as _ _ _ _ _ most _ _ _ _ (c .before .before .before .before .before .before .before .before .before .before .before .before .before .before .one-less .ensures) (c .before .before .before .before .before .before .before .before .before .before .before .before .before .allowing2 .ensures) (c .before .before .before .before .before .before .before .before .before .before .before .before .before .before .before .allowing .ensures) (c .before .before .before .before .before .before .before .before .before .without .ensures)),
+        set-as _ _ _ _ _ (c .before .before .before .before .store2 .ensures) (more-as _ _ _ _ _ most _ _ (c .before .before .before .before .before .before .before .before .before .before .before .before .one-more .ensures) (c .before .before .before .before .before .before .before .before .before .before .before .allowing3 .ensures)),
+      ),
     )
 
 pub put-counter-spec : {M : Type 1} → statement M
