@@ -1,4 +1,5 @@
 pub mod Stepping
+pub mod Raising
 pub mod Suspects
 pub mod PairTable
 pub mod Limited

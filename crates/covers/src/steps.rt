@@ -10,29 +10,51 @@ ghost use mathlib.Core.Bool.{_&&_};
 ghost use Prim.Native.Nat.{_+_, _-_, _≤_, _<_};
 ghost use lib.ListN.{length};
 ghost use Rattle.model.specs.Limits.{maxBounds, maxCounters, omega-limit};
-ghost use Rattle.model.specs.Markings.{fire, usable};
+ghost use Rattle.model.specs.Markings.{usable};
 ghost use Rattle.model.specs.Bounds.{allowed, highest};
 ghost use Rattle.bounds.specs.Limits.{limit-cells, row};
 ghost use Rattle.covers.specs.Pairs.{pair-cells, passes, suspect, suspects};
 ghost use Rattle.covers.specs.Candidates.{has-room, may-cover, Candidates};
 ghost use Rattle.covers.specs.Steps.{rule-of-step, Step-within, takes-other, adds-other, less-if, more-if};
+ghost use Rattle.covers.specs.Steps.{raised, raise-if, as-limit, limit-after};
 
 // So many counters could exceed.
 pub const SUSPECTS: usize = 6;
 
-// One more of a count: 65,534 goes on to 65,535, which lies under unbounded alone.
-fn one_more(count: usize) -> usize
-    requires { ⌜ count ≤ omega-limit + 2 ⌝ }
-    ensures { λ r. ⌜ r ≡ count + 1 ⌝ }
+// The limit that means unbounded.
+const UNBOUNDED: u16 = 65535;
+
+// One more of a limit: one times the truth of being below the unbounded mark is added, in a wider number. So 65,534
+// goes on to 65,535, which lies under unbounded alone, and the mark stays.
+fn raised(limit: u16) -> u32
+    ensures { λ r. ⌜ r ≡ raised limit ⌝ }
+    ensures { λ r. ⌜ r ≤ omega-limit ⌝ }
 {
-    count + 1
+    limit as u32 + 1 * (limit < UNBOUNDED) as u32
+}
+
+fn raise_if(test: bool, limit: u16) -> u16
+    ensures { λ r. ⌜ r ≡ raise-if test limit ⌝ }
+{
+    if test { raised(limit) as u16 } else { limit }
+}
+
+// A count as a limit: unbounded where it is past every limit.
+fn as_limit(count: usize) -> u16
+    ensures { λ r. ⌜ r ≡ as-limit count ⌝ }
+{
+    if count < 65535 {
+        count as u16
+    } else {
+        UNBOUNDED
+    }
 }
 
 fn more_if(test: bool, count: usize) -> usize
     requires { ⌜ count ≤ omega-limit + 2 ⌝ }
     ensures { λ r. ⌜ r ≡ more-if test count ⌝ }
 {
-    if test { one_more(count) } else { count }
+    if test { count + 1 } else { count }
 }
 
 fn less_if(test: bool, count: usize) -> usize
@@ -57,16 +79,15 @@ fn adds_other(step: Step, y: usize) -> bool
     2 <= step.kind && y == step.other
 }
 
-// The count of counter y after the step, where it was `count` before.
-fn count_after(count: usize, step: Step, y: usize) -> usize
-    requires { ⌜ count ≤ omega-limit + 1 ⌝ }
-    requires { ⌜ step .kind ≤ 3 ⌝ }
-    ensures { λ r. ⌜ r ≡ fire (rule-of-step step) (λ _. count) y ⌝ }
+// The limit of counter y after the step, where its highest count was `count`: what the step takes is taken from the
+// count, what it adds raises the limit.
+fn limit_after(count: usize, step: Step, y: usize) -> u16
+    ensures { λ r. ⌜ r ≡ limit-after count step y ⌝ }
 {
     let left = less_if(y == step.from, count);
     let taken = less_if(takes_other(step, y), left);
-    let moved = more_if(y == step.to, taken);
-    more_if(adds_other(step, y), moved)
+    let moved = raise_if(y == step.to, as_limit(taken));
+    raise_if(adds_other(step, y), moved)
 }
 
 // The step can be used at the highest counts of ceiling k.
@@ -92,8 +113,8 @@ pub fn passes(limits: &[u16], k: usize, k2: usize, step: Step, y: usize) -> bool
     requires { ⌜ (limit-cells (k + 1) ≤ length (now limits)) × (limit-cells (k2 + 1) ≤ length (now limits)) ⌝ }
     ensures { λ r. ⌜ r ≡ passes (now (limits .entry)) k k2 step y ⌝ }
 {
-    let count = count_after(highest(limits, k, y), step, y);
-    is_allowed(limit(limits, k2, y), count)
+    let after = limit_after(highest(limits, k, y), step, y);
+    is_allowed(limit(limits, k2, y), after as usize)
 }
 
 // Counter i of those that could exceed: the three kept for the two ceilings, and the three that the step names.
