@@ -528,6 +528,30 @@ two-spawned-listing =
     (50 ∷ 51 ∷ 50 ∷ 51 ∷ 54 ∷ 50 ∷ 51 ∷ 54 ∷ 50 ∷ 51 ∷ 50 ∷ 51 ∷ 50 ∷ 51 ∷ 50 ∷ 51 ∷ []) ++
     (0 ∷ 1 ∷ 3 ∷ 4 ∷ 0 ∷ 3 ∷ 4 ∷ 2 ∷ 4 ∷ 6 ∷ 4 ∷ 7 ∷ 5 ∷ 3 ∷ 6 ∷ 3 ∷ [])
 
+-- f() = f; P = spawn(f); P. The spawn's name is word 13.
+unfoldable pub spawned-name-program : List ℕ
+spawned-name-program =
+    program-words 2 0 1
+    ((11, 0) ∷ (22, 0) ∷ (1, 0) ∷ (6, 1) ∷ (21, 0) ∷ (1, 1) ∷ [])
+
+unfoldable pub spawned-name-words : List ℕ
+spawned-name-words =
+    spawned-name-program ++
+    bad-words 1
+    ((40, 6) ∷ (41, 3) ∷ (43, 2) ∷ (44, 0) ∷ []) ++
+    table-words
+    ((0, 0) ∷ (1, 3) ∷ [])
+    []
+    ((3, 2) ∷ (6, 3) ∷ (6, 5) ∷ []) ++
+    bound-words 2
+    ((1, 1) ∷ (3, 0) ∷ (0, 1) ∷ (2, 1) ∷ (3, 0) ∷ [])
+
+unfoldable pub spawned-name-listing : List ℕ
+spawned-name-listing =
+    (3 ∷ 0 ∷ 1 ∷ 3 ∷ []) ++
+    (50 ∷ 51 ∷ 54 ∷ []) ++
+    (1 ∷ 2 ∷ 0 ∷ [])
+
 -- A case of which two branches may match one value, and a third may not.
 --     constructors a/0, b/0.
 --     start ->
@@ -602,6 +626,48 @@ two-letters-listing =
     52 ∷ 50 ∷ 51 ∷ 52 ∷ 50 ∷ 51 ∷ 52 ∷ []) ++
     (0 ∷ 1 ∷ 10 ∷ 0 ∷ 1 ∷ 11 ∷ 1 ∷ 6 ∷ 1 ∷ 7 ∷ 2 ∷ 3 ∷ 3 ∷ 4 ∷ 4 ∷ 5 ∷ 5 ∷ 0 ∷ 6 ∷ 0 ∷ 7 ∷ 8 ∷ 11 ∷ 7 ∷ 9 ∷ 10 ∷ 7 ∷
     9 ∷ 11 ∷ [])
+
+-- A send that may go to two classes with two letters.
+--     constructors a/0, b/0.
+--     function idle() -> receive X -> X end.
+--     function send(To, Y) -> To ! Y.
+--     start ->
+--         Me = self(),
+--         P = spawn(idle),
+--         B = b,
+--         A = a,
+--         send(P, B),
+--         send(Me, A).
+--     bad none: start holds function >= 1.
+unfoldable pub classes-then-letters-program : List ℕ
+classes-then-letters-program =
+    program-words 12 2 2
+    ((10, 0) ∷ (10, 0) ∷ (11, 0) ∷ (22, 0) ∷ (9, 1) ∷ (30, 1) ∷ (1, 1) ∷ (11, 2) ∷ (22, 2) ∷ (23, 3) ∷ (23, 4) ∷
+    (5, 5) ∷ (21, 3) ∷ (21, 4) ∷ (1, 5) ∷ (7, 6) ∷ (6, 7) ∷ (21, 0) ∷ (2, 8) ∷ (20, 1) ∷ (2, 9) ∷ (20, 0) ∷ (4, 10) ∷
+    (21, 2) ∷ (22, 2) ∷ (21, 7) ∷ (21, 8) ∷ (4, 11) ∷ (21, 2) ∷ (22, 2) ∷ (21, 6) ∷ (21, 9) ∷ (1, 11) ∷ [])
+
+unfoldable pub classes-then-letters-words : List ℕ
+classes-then-letters-words =
+    classes-then-letters-program ++
+    bad-words 1
+    ((40, 33) ∷ (42, 2) ∷ (43, 1) ∷ (44, 0) ∷ []) ++
+    table-words
+    ((0, 2) ∷ (1, 18) ∷ (1, 20) ∷ (2, 7) ∷ (3, 16) ∷ (3, 33) ∷ (4, 18) ∷ (4, 20) ∷ (5, 18) ∷ (5, 20) ∷ (6, 33) ∷
+    (7, 16) ∷ (8, 18) ∷ (9, 20) ∷ (10, 18) ∷ (10, 20) ∷ (11, 18) ∷ (11, 20) ∷ [])
+    ((16, 18) ∷ (16, 20) ∷ (33, 18) ∷ (33, 20) ∷ [])
+    ((16, 4) ∷ (16, 6) ∷ (33, 11) ∷ (33, 14) ∷ (33, 15) ∷ (33, 16) ∷ (33, 18) ∷ (33, 20) ∷ (33, 22) ∷ (33, 27) ∷
+    (33, 32) ∷ []) ++
+    bound-words 1
+    ((0, 65535) ∷ (1, 65535) ∷ (2, 65535) ∷ (3, 65535) ∷ (4, 65535) ∷ (5, 65535) ∷ (6, 65535) ∷ (7, 65535) ∷
+    (8, 65535) ∷ (9, 65535) ∷ (10, 65535) ∷ (11, 65535) ∷ (12, 65535) ∷ (13, 65535) ∷ (14, 65535) ∷ (15, 0) ∷ [])
+
+unfoldable pub classes-then-letters-listing : List ℕ
+classes-then-letters-listing =
+    (11 ∷ 4 ∷ 14 ∷ 35 ∷ []) ++
+    (50 ∷ 51 ∷ 52 ∷ 50 ∷ 51 ∷ 52 ∷ 50 ∷ 51 ∷ 53 ∷ 50 ∷ 51 ∷ 53 ∷ 50 ∷ 51 ∷ 53 ∷ 50 ∷ 51 ∷ 53 ∷ 50 ∷ 51 ∷ 50 ∷ 51 ∷
+    50 ∷ 51 ∷ 50 ∷ 51 ∷ 54 ∷ 50 ∷ 51 ∷ 50 ∷ 51 ∷ 50 ∷ 51 ∷ 50 ∷ 51 ∷ []) ++
+    (0 ∷ 1 ∷ 11 ∷ 0 ∷ 1 ∷ 12 ∷ 2 ∷ 3 ∷ 11 ∷ 2 ∷ 3 ∷ 12 ∷ 2 ∷ 3 ∷ 13 ∷ 2 ∷ 3 ∷ 14 ∷ 3 ∷ 9 ∷ 3 ∷ 10 ∷ 4 ∷ 5 ∷ 5 ∷ 6 ∷
+    0 ∷ 6 ∷ 7 ∷ 7 ∷ 8 ∷ 8 ∷ 2 ∷ 9 ∷ 2 ∷ [])
 
 -- A send of what may be two values of one letter.
 --     constructors a/0, b/0.
@@ -793,6 +859,10 @@ verdict-cases =
     at 1 21 (to-bytes (ceilings-sizes-words ++ (0 ∷ 0 ∷ 0 ∷ []))) ∷
     -- 3, a tag: the first row is to have tag 10.
     at 3 4 (to-bytes (changed station-a-words ((4, 11) ∷ []))) ∷
+    -- 3: a build binds a name from V up.
+    at 3 6 (to-bytes (changed station-a-words ((16, 3) ∷ []))) ∷
+    -- 3: a send does.
+    at 3 8 (to-bytes (changed station-a-words ((18, 3) ∷ []))) ∷
     -- 3: no expression begins with tag 12.
     at 3 8 (to-bytes (changed station-a-words ((8, 12) ∷ []))) ∷
     -- 3: with C 0 the first row is to begin the start expression.
@@ -997,6 +1067,8 @@ verdict-cases =
     at 3 5 (to-bytes (changed eight-parameters-words ((17, 9) ∷ []))) ∷
     -- 9 arguments: 3 at their count.
     at 3 10 (to-bytes (changed eight-arguments-words ((26, 9) ∷ []))) ∷
+    -- 3: a call binds a name from V up.
+    at 3 8 (to-bytes (changed eight-arguments-words ((24, 3) ∷ []))) ∷
     -- 16 branches of either, the most.
     at 8 148 (to-bytes sixteen-branches-words) ∷
     -- 17 branches of a case: 3 at their count.
@@ -1044,6 +1116,18 @@ verdict-cases =
     at 8 51 (to-bytes (changed scopes-words ((28, 0) ∷ []))) ∷
     -- 4: a parameter binds a tag 11 name again.
     at 4 9 (to-bytes (changed scopes-words ((24, 0) ∷ []))) ∷
+    -- 3: a tag 11 row binds a name from V up.
+    at 3 4 (to-bytes (changed scopes-words ((19, 6) ∷ []))) ∷
+    -- 3: a parameter does.
+    at 3 6 (to-bytes (changed scopes-words ((21, 6) ∷ []))) ∷
+    -- 3: a function row does.
+    at 3 7 (to-bytes (changed scopes-words ((22, 6) ∷ []))) ∷
+    -- 3: a case reads one.
+    at 3 13 (to-bytes (changed scopes-words ((28, 6) ∷ []))) ∷
+    -- 3: giving back reads one.
+    at 3 18 (to-bytes (changed scopes-words ((33, 6) ∷ []))) ∷
+    -- 3: a spawn binds a name from V up.
+    at 3 7 (to-bytes (changed spawned-name-words ((13, 2) ∷ []))) ∷
     []
 
 unfoldable pub listing-cases : List Case
@@ -1068,11 +1152,15 @@ listing-cases =
     safe 2 two-callees-program (to-bytes two-callees-words) two-callees-listing ∷
     -- One rule for each function, each with its own new state.
     safe 2 two-spawned-program (to-bytes two-spawned-words) two-spawned-listing ∷
+    -- As it is: one process spawned.
+    safe 2 spawned-name-program (to-bytes spawned-name-words) spawned-name-listing ∷
     -- A rule for the first and the third branch.
     safe 2 two-branches-program (to-bytes two-branches-words) two-branches-listing ∷
     -- One rule for each letter, ascending by letter and not by the values' rows; the receive reads one by its first
     -- branch, both by its second.
     safe 2 two-letters-program (to-bytes two-letters-words) two-letters-listing ∷
+    -- Four rules of the one send, by class and then by letter.
+    safe 2 classes-then-letters-program (to-bytes classes-then-letters-words) classes-then-letters-listing ∷
     -- The two values share one counter and one rule.
     safe 2 one-letter-program (to-bytes one-letter-words) one-letter-listing ∷
     -- Counter (child, b) before counter (start, a): by letter first it would be the other way round.
@@ -1083,5 +1171,5 @@ listing-cases =
 
 -- the definitions above opened at once, for the theorems that compute the table
 unfoldable pub verdict-cases-opens : Unit {0}
-unfolding bads-sizes-program bads-sizes-words tables-sizes-program tables-sizes-words ceilings-sizes-program ceilings-sizes-words station-a-program station-a-words two-bads-program two-bads-words two-bads-listing unbounded-program unbounded-words one-taken-program one-taken-words arity-of-eight-program arity-of-eight-words eight-parameters-program eight-parameters-words eight-arguments-program eight-arguments-words eight-arguments-listing sixteen-branches-program sixteen-branches-words depth-four-program depth-four-words depth-five-program depth-five-words scopes-program scopes-words scopes-listing values-program values-words values-listing letters-program letters-words letters-listing function-letter-program function-letter-words function-letter-listing address-letter-program address-letter-words address-letter-listing wrong-counts-program wrong-counts-words wrong-counts-listing two-callees-program two-callees-words two-callees-listing two-spawned-program two-spawned-words two-spawned-listing two-branches-program two-branches-words two-branches-listing two-letters-program two-letters-words two-letters-listing one-letter-program one-letter-words one-letter-listing class-before-letter-program class-before-letter-words class-before-letter-listing read-before-program read-before-words read-before-listing verdict-cases listing-cases
+unfolding bads-sizes-program bads-sizes-words tables-sizes-program tables-sizes-words ceilings-sizes-program ceilings-sizes-words station-a-program station-a-words two-bads-program two-bads-words two-bads-listing unbounded-program unbounded-words one-taken-program one-taken-words arity-of-eight-program arity-of-eight-words eight-parameters-program eight-parameters-words eight-arguments-program eight-arguments-words eight-arguments-listing sixteen-branches-program sixteen-branches-words depth-four-program depth-four-words depth-five-program depth-five-words scopes-program scopes-words scopes-listing values-program values-words values-listing letters-program letters-words letters-listing function-letter-program function-letter-words function-letter-listing address-letter-program address-letter-words address-letter-listing wrong-counts-program wrong-counts-words wrong-counts-listing two-callees-program two-callees-words two-callees-listing two-spawned-program two-spawned-words two-spawned-listing spawned-name-program spawned-name-words spawned-name-listing two-branches-program two-branches-words two-branches-listing two-letters-program two-letters-words two-letters-listing classes-then-letters-program classes-then-letters-words classes-then-letters-listing one-letter-program one-letter-words one-letter-listing class-before-letter-program class-before-letter-words class-before-letter-listing read-before-program read-before-words read-before-listing verdict-cases listing-cases
 verdict-cases-opens = tt
