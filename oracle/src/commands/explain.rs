@@ -12,7 +12,7 @@ pub fn command(args: &[String]) -> Answer {
         match arg.as_str() {
             "--lend" => lent = number(args.next().ok_or("--lend: a number is missing")?)?,
             "--station" => station = Some(args.next().ok_or("--station: a file is missing")?),
-            _ => files.push(arg),
+            _ => files.push(super::file(arg)?),
         }
     }
     let [file] = files[..] else { return Err("oracle explain [--lend N] [--station FILE] FILE".to_string()) };

@@ -71,6 +71,14 @@ pub fn printable(path: &str) -> String {
     path.chars().map(|c| if c.is_control() { '?' } else { c }).collect()
 }
 
+/// A word that names a file. One that begins with - is an option that there is none of; - alone is standard input.
+pub fn file(word: &String) -> Result<&String, String> {
+    match word.starts_with('-') && word != "-" {
+        true => Err(format!("unknown option: {}", printable(word))),
+        false => Ok(word),
+    }
+}
+
 pub fn number<T: std::str::FromStr>(text: &str) -> Result<T, String> {
     text.parse().map_err(|_| format!("{text}: not a number"))
 }

@@ -31,8 +31,7 @@ fn options(args: &[String]) -> Result<Option<Options>, String> {
             "-q" | "--quiet" => options.quiet = true,
             "-h" | "--help" => return Ok(None),
             "--" => options.files.extend(args.by_ref().cloned()),
-            word if word.starts_with('-') && word != "-" => return Err(format!("verify: unknown option {word}")),
-            _ => options.files.push(arg.clone()),
+            _ => options.files.push(super::file(arg)?.clone()),
         }
     }
     if options.files.is_empty() {
