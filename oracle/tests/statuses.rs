@@ -55,6 +55,7 @@ fn without_a_verdict_it_is_2() {
     assert_eq!(status(&["hostile"]), Some(2));
     assert_eq!(status(&["--nonsense", "station-a.msg"]), Some(2));
     assert_eq!(status(&["--lend", "many", "station-a.msg"]), Some(2));
+    assert_eq!(status(&["--lend", "99999999999999", "station-a.msg"]), Some(2));
     assert_eq!(status(&["--help"]), Some(2));
 }
 
@@ -120,6 +121,7 @@ fn explain_has_the_same_statuses_and_takes_the_names_beside_the_message() {
     assert!(words.contains("names:  numbers only: pool.station is the text of another program"), "{words}");
     assert_eq!(told(&["explain", "pool.msg"]).0, Some(0));
     assert_eq!(told(&["explain", "nowhere.msg"]).0, Some(2));
+    assert_eq!(told(&["explain", "--lend", "99999999999999", "pool.msg"]).0, Some(2));
     assert_eq!(told(&["explain", "--station", "nowhere.station", "pool.msg"]).0, Some(2));
 }
 

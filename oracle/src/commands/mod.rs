@@ -79,6 +79,17 @@ pub fn file(word: &String) -> Result<&String, String> {
     }
 }
 
+/// How many words `--lend` asks for, if the machine has room for as many. That is tried here, as later it would be no word
+/// but the end of the program.
+pub fn lent(word: Option<&String>) -> Result<usize, String> {
+    let text = word.ok_or("--lend: a number is missing")?;
+    let words = number(text)?;
+    let mut room = Vec::<u32>::new();
+    room.try_reserve_exact(words).map_err(|e| format!("--lend {text}: {e}"))?;
+    std::hint::black_box(&room); // else nothing would be tried
+    Ok(words)
+}
+
 pub fn number<T: std::str::FromStr>(text: &str) -> Result<T, String> {
     text.parse().map_err(|_| format!("{text}: not a number"))
 }
