@@ -50,7 +50,7 @@ enum delungkaw_verdict {
  *     uint32_t number = delungkaw_verify(message, length, &none, 0, &place, &part);
  *     if (number == DELUNGKAW_SPACE) {
  *         size_t words = place;
- *         uint32_t *lent = calloc(words, sizeof *lent);
+ *         uint32_t *lent = (uint32_t *)calloc(words, sizeof *lent);
  *         if (lent != NULL) number = delungkaw_verify(message, length, lent, words, &place, &part);
  *     }
  *

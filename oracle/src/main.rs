@@ -6,6 +6,7 @@ use commands::output::say;
 use commands::{
     Answer, NO_VERDICT, against, assemble, cases, corpus, disassemble, explain, fuzz, hostile, run, time, told, verify,
 };
+use std::ffi::OsString;
 use std::process::ExitCode;
 
 const USAGE: &str = "oracle verify [--lend N] [--quiet] [FILE...]
@@ -28,9 +29,12 @@ oracle run-cases SOURCE                the model's table of runs, with what this
 oracle verdict-cases SOURCE            the model's table of verdicts, with what this verifier answers
 oracle bench [OUT]                     times of the proved code and of `verify`, a page of its own (feature `proved`)";
 
-fn answer(command: &str, args: &[String]) -> Answer {
-    match command {
+/// What the command answers. Only `verify` has a help of its own; as nothing is done, the status is no verdict's.
+fn answer(words: &[String]) -> Answer {
+    let Some((command, args)) = words.split_first() else { return Err(USAGE.to_string()) };
+    match command.as_str() {
         "verify" => verify::command(args),
+        _ if args.iter().any(|arg| arg == "-h" || arg == "--help") => told(&format!("{USAGE}\n")).map(|_| NO_VERDICT),
         "run" => run::command(args),
         #[cfg(feature = "proved")]
         "fuzz" => fuzz::command(args),
@@ -54,13 +58,14 @@ fn answer(command: &str, args: &[String]) -> Answer {
     }
 }
 
+/// The words that the program is called with. One that is no text is refused: put into text it would name another file.
+fn args() -> Result<Vec<String>, String> {
+    let words = std::env::args_os().skip(1).map(OsString::into_string);
+    words.collect::<Result<_, _>>().map_err(|word| format!("not UTF-8: {word:?}"))
+}
+
 fn main() -> ExitCode {
-    let args: Vec<String> = std::env::args_os().skip(1).map(|arg| arg.to_string_lossy().into_owned()).collect();
-    let (command, rest) = match args.split_first() {
-        Some((command, rest)) => (command.as_str(), rest),
-        None => ("", &[][..]),
-    };
-    let status = match std::panic::catch_unwind(|| answer(command, rest)) {
+    let status = match std::panic::catch_unwind(|| answer(&args()?)) {
         Ok(Ok(status)) => status,
         Ok(Err(word)) => {
             say(&word);

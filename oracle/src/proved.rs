@@ -13,9 +13,9 @@ unsafe extern "C" {
     ) -> u32;
 }
 
-/// Stack for a thread that calls the proved code, which has no heap and keeps its tables there: 2 MB are promised to be
-/// enough. What the callers here use themselves must fit beside it.
-pub const STACK: usize = 2 << 20;
+/// Stack for a thread that calls the proved code, which has no heap and keeps its tables there: the 2 MB that are promised
+/// to be enough, and one more for what the callers here use themselves.
+pub const STACK: usize = 3 << 20;
 
 /// The proved code's verdict, in the form of `verify::verify`. Call it on a thread with `STACK`.
 pub fn verify(message: &[u8], system: &mut [u32]) -> Outcome {

@@ -3,8 +3,14 @@
 mod common;
 
 use common::path;
-use std::fs::File;
+use std::ffi::OsStr;
+use std::fs::{File, copy};
+use std::os::unix::ffi::OsStrExt;
+use std::path::Path;
 use std::process::{Command, Output, Stdio};
+
+/// A folder for what the tests write.
+const ROOM: &str = env!("CARGO_TARGET_TMPDIR");
 
 /// The program in the folder of the examples.
 fn oracle(args: &[&str]) -> Command {
@@ -49,7 +55,18 @@ fn without_a_verdict_it_is_2() {
     assert_eq!(status(&["hostile"]), Some(2));
     assert_eq!(status(&["--nonsense", "station-a.msg"]), Some(2));
     assert_eq!(status(&["--lend", "many", "station-a.msg"]), Some(2));
+    assert_eq!(status(&["--lend", "99999999999999", "station-a.msg"]), Some(2));
     assert_eq!(status(&["--help"]), Some(2));
+}
+
+#[test]
+fn a_name_that_is_no_text_is_2_and_no_other_file_is_verified() {
+    let (no_text, shown) = (Path::new(ROOM).join(OsStr::from_bytes(b"\xff.msg")), Path::new(ROOM).join("\u{fffd}.msg"));
+    copy(path("examples/overflow.msg"), &no_text).unwrap();
+    copy(path("examples/station-a.msg"), &shown).unwrap();
+    let status = |file: &Path| verify(&["--quiet", "--"]).arg(file).status().unwrap().code();
+    assert_eq!(status(&shown), Some(0));
+    assert_eq!(status(&no_text), Some(2));
 }
 
 #[test]
@@ -104,7 +121,26 @@ fn explain_has_the_same_statuses_and_takes_the_names_beside_the_message() {
     assert!(words.contains("names:  numbers only: pool.station is the text of another program"), "{words}");
     assert_eq!(told(&["explain", "pool.msg"]).0, Some(0));
     assert_eq!(told(&["explain", "nowhere.msg"]).0, Some(2));
+    assert_eq!(told(&["explain", "--lend", "99999999999999", "pool.msg"]).0, Some(2));
     assert_eq!(told(&["explain", "--station", "nowhere.station", "pool.msg"]).0, Some(2));
+}
+
+#[test]
+fn an_option_that_there_is_none_of_is_2_and_so_is_help() {
+    for command in ["explain", "run", "assemble", "disassemble"] {
+        let output = oracle(&[command, "--other"]).output().unwrap();
+        assert_eq!(output.status.code(), Some(2));
+        assert_eq!(String::from_utf8_lossy(&output.stderr), "unknown option: --other\n");
+        let (status, words) = told(&[command, "--help"]);
+        assert_eq!(status, Some(2));
+        assert!(words.contains(&format!("oracle {command} ")), "{words}");
+    }
+    for option in ["--other", "--help"] {
+        let text = path("examples/pool.station");
+        let status = oracle(&["assemble"]).arg(text).arg(option).current_dir(ROOM).status().unwrap();
+        assert_eq!(status.code(), Some(2));
+        assert!(!Path::new(ROOM).join(option).exists());
+    }
 }
 
 #[test]

@@ -6,6 +6,7 @@ use std::fs::File;
 use std::io::{self, Read, Write};
 use std::path::Path;
 use std::process::ExitCode;
+use std::sync::atomic::{AtomicBool, Ordering};
 use std::thread;
 
 // include/delungkaw.h says what this function takes, what it promises and what its caller owes.
@@ -19,6 +20,27 @@ unsafe extern "C" {
         place: *mut usize,
         part: *mut usize,
     ) -> u32;
+}
+
+// Of the C library, which is linked anyway.
+unsafe extern "C" {
+    fn fcntl(file: i32, command: i32, ...) -> i32;
+}
+
+/// Whether standard output was open when the program began. Before `main` the standard library puts /dev/null in the place
+/// of a closed one, where a verdict would be lost and nothing would fail; so it is asked before that.
+static OUTPUT_IS_OPEN: AtomicBool = AtomicBool::new(true);
+
+#[used]
+#[unsafe(link_section = ".init_array")]
+static AT_THE_BEGINNING: extern "C" fn() = look_at_output;
+
+extern "C" fn look_at_output() {
+    const STANDARD_OUTPUT: i32 = 1;
+    const F_GETFD: i32 = 1;
+    // SAFETY: this command takes nothing more and changes nothing.
+    let flags = unsafe { fcntl(STANDARD_OUTPUT, F_GETFD) };
+    OUTPUT_IS_OPEN.store(flags != -1, Ordering::Relaxed);
 }
 
 const SAFE: u32 = 0;
@@ -65,24 +87,33 @@ fn read_message(path: &Path) -> io::Result<Vec<u8>> {
     Ok(message)
 }
 
+/// A line on standard error. Where that can't be written nobody reads it, and the status still tells.
+fn say(line: &str) {
+    let _ = writeln!(io::stderr(), "{line}");
+}
+
 /// Prints the verdict on the message in the file; true if it is safe.
 fn tell(path: &Path) -> io::Result<bool> {
     let message = read_message(path)?;
     let (verdict, system) = verdict_and_system(&message);
+    if !OUTPUT_IS_OPEN.load(Ordering::Relaxed) {
+        return Err(io::Error::other("standard output is closed"));
+    }
     let mut out = io::stdout().lock();
     writeln!(out, "{} {}", verdict.number, verdict.place)?;
     if verdict.number == SAFE {
         writeln!(out, "{} {} {} {}", system[0], system[1], system[2], system[3])?;
         // A loader would now load the program.
-        eprintln!("{} bytes to load", verdict.part.len());
+        say(&format!("{} bytes to load", verdict.part.len()));
     }
     out.flush()?;
     Ok(verdict.number == SAFE)
 }
 
 fn main() -> ExitCode {
-    let Some(path) = env::args_os().nth(1) else {
-        eprintln!("usage: verify-rust FILE");
+    let mut words = env::args_os().skip(1);
+    let (Some(path), None) = (words.next(), words.next()) else {
+        say("usage: verify-rust FILE");
         return ExitCode::from(2);
     };
     let thread = thread::Builder::new().stack_size(STACK).spawn(move || tell(path.as_ref()));
@@ -91,7 +122,7 @@ fn main() -> ExitCode {
         Ok(true) => ExitCode::from(0),
         Ok(false) => ExitCode::from(1),
         Err(why) => {
-            eprintln!("no verdict: {why}");
+            say(&format!("no verdict: {why}"));
             ExitCode::from(2)
         }
     }

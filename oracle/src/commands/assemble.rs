@@ -1,7 +1,7 @@
 //! `oracle assemble [--budget N] FILE [OUT]`
 
 use super::output::{print, say};
-use super::{Answer, DONE, REFUSED, number, read_text};
+use super::{Answer, DONE, REFUSED, file, number, read_text};
 use oracle::text::assemble::{BUDGET, assemble_within};
 
 /// Writes the message to OUT, or to standard output; words for the author go to standard error.
@@ -10,16 +10,16 @@ pub fn command(args: &[String]) -> Answer {
         [option, budget, files @ ..] if option == "--budget" => (number(budget)?, files),
         _ => (BUDGET, args),
     };
-    let (file, out) = match files {
-        [file] => (file, None),
-        [file, out] => (file, Some(out)),
+    let (input, out) = match files {
+        [input] => (file(input)?, None),
+        [input, out] => (file(input)?, Some(file(out)?)),
         _ => return Err("oracle assemble [--budget N] FILE [OUT]".to_string()),
     };
-    let assembled = assemble_within(&read_text(file)?, budget).map_err(|e| format!("{file}: {e}"))?;
+    let assembled = assemble_within(&read_text(input)?, budget).map_err(|e| format!("{input}: {e}"))?;
     match out {
         Some(out) => std::fs::write(out, &assembled.message).map_err(|e| format!("{out}: {e}")),
         None => print(&assembled.message),
     }?;
-    assembled.notes.iter().for_each(|note| say(&format!("{file}: {note}")));
+    assembled.notes.iter().for_each(|note| say(&format!("{input}: {note}")));
     Ok(if assembled.safe { DONE } else { REFUSED })
 }

@@ -2,7 +2,7 @@
 
 use super::output::print;
 use super::station::{self, Names};
-use super::{Answer, number, read_message, status};
+use super::{Answer, read_message, status};
 use oracle::{explain, limits};
 
 pub fn command(args: &[String]) -> Answer {
@@ -10,9 +10,9 @@ pub fn command(args: &[String]) -> Answer {
     let mut args = args.iter();
     while let Some(arg) = args.next() {
         match arg.as_str() {
-            "--lend" => lent = number(args.next().ok_or("--lend: a number is missing")?)?,
+            "--lend" => lent = super::lent(args.next())?,
             "--station" => station = Some(args.next().ok_or("--station: a file is missing")?),
-            _ => files.push(arg),
+            _ => files.push(super::file(arg)?),
         }
     }
     let [file] = files[..] else { return Err("oracle explain [--lend N] [--station FILE] FILE".to_string()) };

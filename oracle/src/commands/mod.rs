@@ -71,6 +71,25 @@ pub fn printable(path: &str) -> String {
     path.chars().map(|c| if c.is_control() { '?' } else { c }).collect()
 }
 
+/// A word that names a file. One that begins with - is an option that there is none of; - alone is standard input.
+pub fn file(word: &String) -> Result<&String, String> {
+    match word.starts_with('-') && word != "-" {
+        true => Err(format!("unknown option: {}", printable(word))),
+        false => Ok(word),
+    }
+}
+
+/// How many words `--lend` asks for, if the machine has room for as many. That is tried here, as later it would be no word
+/// but the end of the program.
+pub fn lent(word: Option<&String>) -> Result<usize, String> {
+    let text = word.ok_or("--lend: a number is missing")?;
+    let words = number(text)?;
+    let mut room = Vec::<u32>::new();
+    room.try_reserve_exact(words).map_err(|e| format!("--lend {text}: {e}"))?;
+    std::hint::black_box(&room); // else nothing would be tried
+    Ok(words)
+}
+
 pub fn number<T: std::str::FromStr>(text: &str) -> Result<T, String> {
     text.parse().map_err(|_| format!("{text}: not a number"))
 }

@@ -23,7 +23,7 @@ pub fn command(args: &[String]) -> Answer {
             "--station" => station = Some(value()?),
             "--random" => wanted.random = number(value()?)?,
             "--seed" => wanted.seed = number(value()?)?,
-            _ if file.is_none() => file = Some(arg),
+            _ if file.is_none() => file = Some(super::file(arg)?),
             _ => wanted.numbers.extend(repeated(arg)?),
         }
     }

@@ -1,7 +1,7 @@
 //! `oracle verify [--lend N] [--quiet] [--] [FILE...]`
 
 use super::output::{print, say};
-use super::{Answer, NO_VERDICT, number, printable, read_bytes, status};
+use super::{Answer, NO_VERDICT, file, lent, printable, read_bytes, status};
 use oracle::explain::trade_word;
 use oracle::refusal::SPACE;
 use oracle::verify::{Outcome, verify};
@@ -27,12 +27,11 @@ fn options(args: &[String]) -> Result<Option<Options>, String> {
     let mut args = args.iter();
     while let Some(arg) = args.next() {
         match arg.as_str() {
-            "--lend" => options.lent = number(args.next().ok_or("--lend: a number is missing")?)?,
+            "--lend" => options.lent = lent(args.next())?,
             "-q" | "--quiet" => options.quiet = true,
             "-h" | "--help" => return Ok(None),
             "--" => options.files.extend(args.by_ref().cloned()),
-            word if word.starts_with('-') && word != "-" => return Err(format!("verify: unknown option {word}")),
-            _ => options.files.push(arg.clone()),
+            _ => options.files.push(file(arg)?.clone()),
         }
     }
     if options.files.is_empty() {
