@@ -5,7 +5,8 @@ use mathlib.Core.Path.{_≡_, refl, sym, ap, _∙_}
 use mathlib.Core.Bool.{Bool, true, false}
 use mathlib.Core.List.{List}
 use lib.Dec.{leb, ltb, eqb}
-use mir.Val.{boolByte}
+use mir.Val.{boolByte, Fits}
+use mir.Syntax.{w32}
 use borrow.Author.Tests.{eqb-false, lt-ltb, le-ltb, ltb-true, ltb-false, lt-leb}
 use Rattle.model.specs.Limits.{omega-limit}
 use Rattle.model.specs.Markings.{Marking, fire}
@@ -19,9 +20,16 @@ use Rattle.covers.proofs.Stepping.{fire-stages}
 use Rattle.covers.proofs.Escapes.{passes-is}
 
 -- the truth as a number
-pub truth-small : (b : Bool) → 1 * boolByte b ≤ 1
+truth-small : (b : Bool) → 1 * boolByte b ≤ 1
 truth-small true = omega arith
 truth-small false = omega arith
+
+-- it fits the wider number, whatever is tested, and so does its sum with a limit
+pub truth-fits : (b : Bool) → Fits w32 (1 * boolByte b)
+truth-fits b = record { fits = omega (arith, truth-small b) }
+
+pub sum-fits : (b : Bool) (limit : ℕ) → limit < 65536 → Fits w32 (limit + 1 * boolByte b)
+sum-fits b limit h = record { fits = omega (arith, truth-small b) }
 
 sum-raised : (b : Bool) (limit : ℕ) → limit + 1 * boolByte b ≡ elim b [ true ↦ limit + 1 | false ↦ limit ]
 sum-raised true limit = omega arith
