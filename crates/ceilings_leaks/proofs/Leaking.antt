@@ -26,7 +26,7 @@ use Rattle.model.proofs.Index.{any-end, any-hit, any-miss, any-elim, any-intro,
 use Rattle.model.proofs.Numbering.Letters.{low-keys}
 use Rattle.model.proofs.Bounded.Fire.{Shaped, Apart}
 use Rattle.model.proofs.Bounded.Shaped.{rules-shaped}
-use Rattle.counters.proofs.Keys.{letter-low, class-low}
+use Rattle.system_letters.proofs.Pairs.{letter-low, class-low}
 use Rattle.lists.specs.Ready.{Ready}
 use Rattle.bits.proofs.Loops.{both}
 use Rattle.masks.specs.declared.Mask.{Mask}

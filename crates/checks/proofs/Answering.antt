@@ -11,52 +11,88 @@ use Rattle.model.specs.declared.Verdict.{Verdict}
 use Rattle.model.specs.Verdict.{Check, _>>_}
 use Rattle.model.specs.Words.{words}
 use Rattle.model.specs.Message.{sizes, parts-check, bounds-at, end-at}
-use Rattle.model.specs.Rows.{program}
+use Rattle.model.specs.Rows.{Program, program, row-check}
+use Rattle.model.specs.Scopes.{name-check, scope-check}
+use Rattle.model.specs.Bads.{bad-rows}
+use Rattle.model.specs.Rules.{rules}
 use Rattle.model.specs.Tables.{tables}
 use Rattle.model.specs.Counters.{counter-count}
-use Rattle.model.specs.Bounds.{bound-check}
+use Rattle.model.specs.Bounds.{bounds, bound-check, start-check, met-check, leak-check}
 use Rattle.model.specs.Listing.{system-words, written}
 use Rattle.model.specs.Verify.{program-check, evidence-check, bounds-check, message, message-check, check, answer, verdict, if-safe, lent-after}
 use Rattle.model.proofs.Logic.{test}
-use Rattle.model.proofs.Exact.Answer.{check-refuses}
+use Rattle.model.proofs.Exact.Answer.{Refuses, program-refuses, bounds-refuse, check-refuses}
 use Rattle.words.proofs.Words.{words-length}
 use Rattle.message.specs.Whole.{Whole-message}
 use Rattle.evidence.specs.Whole.{Parts-whole}
-use Rattle.space.specs.Space.{words-after}
+use Rattle.system_space.specs.Space.{words-after}
 use Rattle.answers.specs.Safe.{is-safe}
-use Rattle.checks.specs.Stages.{taken, tables-check, limits-on, bounds-on, counters-on, evidence-on}
-use Rattle.answers.proofs.Passing.{safe-only, else-is, ends, goes-on}
+use Rattle.checks.specs.Order.{taken, ceilings, from-3, from-4, from-5, from-6, from-7, from-8, from-9, from-10, from-11, from-12, from-13, from-14}
+use Rattle.answers.proofs.Passing.{safe-only, else-is, ends}
+
+-- the checks in the order in which the code takes them
+assoc : (a b c : Check) → (a >> b) >> c ≡ a >> (b >> c)
+unfolding _>>_
+assoc none b c = refl
+assoc (some v) b c = refl
+
+three : (a b c r : Check) → (a >> (b >> c)) >> r ≡ a >> (b >> (c >> r))
+three a b c r = assoc a (b >> c) r ∙ ap (λ x. a >> x) (assoc b c r)
+
+four : (a b c d r : Check) → (a >> (b >> (c >> d))) >> r ≡ a >> (b >> (c >> (d >> r)))
+four a b c d r = assoc a (b >> (c >> d)) r ∙ ap (λ x. a >> x) (three b c d r)
+
+in-threes : (a b c d e f g h i j k l : Check) → (a >> (b >> c)) >> ((d >> (e >> (f >> g))) >> ((h >> (i >> (j >> k))) >> l)) ≡ a >> (b >> (c >> (d >> (e >> (f >> (g >> (h >> (i >> (j >> (k >> l))))))))))
+in-threes a b c d e f g h i j k l =
+    three a b c _ ∙ ap (λ x. a >> (b >> (c >> x))) (four d e f g _ ∙ ap (λ x. d >> (e >> (f >> (g >> x)))) (four h i j k l))
+
+pub in-order : (ws : List ℕ) (s : Sizes) (n : ℕ) → message-check (taken ws s) n ≡ from-3 ws s n
+unfolding message-check taken program-check evidence-check bounds-check ceilings from-3 from-4 from-5 from-6 from-7 from-8 from-9 from-10 from-11 from-12 from-13 from-14
+in-order ws s n = in-threes _ _ _ _ _ _ _ _ _ _ _ _
+
+-- a check that finds nothing leaves those behind it
+pub goes-by : (m c r : Check) → m ≡ c >> r → c ≡ none → m ≡ r
+unfolding _>>_
+goes-by m c r e h = e ∙ ap (λ x. x >> r) h
+
+-- of two checks that never answer safe one after the other, nor does the second
+pub behind : (a b : Check) → Refuses (a >> b) → a ≡ none → Refuses b
+unfolding _>>_
+behind a b r h = subst Refuses (ap (λ x. x >> b) h) r
+
+-- nor do 5 and 13 by themselves
+pub scopes-refuse : (p : Program) → row-check p ≡ none → name-check p ≡ none → Refuses (scope-check p)
+unfolding program-check
+scopes-refuse p r n = behind _ _ (behind _ _ (program-refuses p) r) n
+
+pub leaks-refuse : (ws : List ℕ) (s : Sizes) → bound-check ws s (counter-count (program ws s) (tables ws s)) ≡ none → start-check s (program ws s) (tables ws s) (ceilings ws s) ≡ none → met-check s (program ws s) (tables ws s) (ceilings ws s) (bad-rows ws s) ≡ none → Refuses (leak-check ws s (ceilings ws s) (rules (program ws s) (tables ws s)))
+unfolding bounds-check taken ceilings
+leaks-refuse ws s b h m = behind _ _ (behind _ _ (behind _ _ (bounds-refuse (taken ws s)) b) h) m
+
+-- what the code finds of the n counters that it has counted is what the model says of the message
+module _ (ws : List ℕ) (s : Sizes) (n : ℕ) (v : Verdict) where
+  told : (f : ℕ → Check) → v ≡ answer (f n) → n ≡ counter-count (program ws s) (tables ws s) → v ≡ answer (f (counter-count (program ws s) (tables ws s)))
+  told f h e = h ∙ ap (λ k. answer (f k)) e
+
+  pub bound-told : v ≡ answer (bound-check ws s n) → n ≡ counter-count (program ws s) (tables ws s) → v ≡ answer (bound-check ws s (counter-count (program ws s) (tables ws s)))
+  bound-told = told (bound-check ws s)
+
+  pub start-told : v ≡ answer (start-check s (program ws s) (tables ws s) (bounds ws s n)) → n ≡ counter-count (program ws s) (tables ws s) → v ≡ answer (start-check s (program ws s) (tables ws s) (ceilings ws s))
+  unfolding ceilings
+  start-told = told (λ k. start-check s (program ws s) (tables ws s) (bounds ws s k))
+
+  pub met-told : v ≡ answer (met-check s (program ws s) (tables ws s) (bounds ws s n) (bad-rows ws s)) → n ≡ counter-count (program ws s) (tables ws s) → v ≡ answer (met-check s (program ws s) (tables ws s) (ceilings ws s) (bad-rows ws s))
+  unfolding ceilings
+  met-told = told (λ k. met-check s (program ws s) (tables ws s) (bounds ws s k) (bad-rows ws s))
+
+  pub leak-told : v ≡ answer (leak-check ws s (bounds ws s n) (rules (program ws s) (tables ws s))) → n ≡ counter-count (program ws s) (tables ws s) → v ≡ answer (leak-check ws s (ceilings ws s) (rules (program ws s) (tables ws s)))
+  unfolding ceilings
+  leak-told = told (λ k. leak-check ws s (bounds ws s k) (rules (program ws s) (tables ws s)))
 
 -- a refusal ends the checks, and the lent words stay
-pub ends-with : (a b : Check) (v : Verdict) (f : Bool) (ws : List ℕ) (s : Sizes) (lent : List ℕ) → v ≡ answer a → f ≡ is-safe v → f ≡ false → (v ≡ answer (a >> b)) × (lent ≡ words-after v ws s lent)
+pub ends-with : (m c r : Check) (v : Verdict) (f : Bool) (ws : List ℕ) (s : Sizes) (lent : List ℕ) → m ≡ c >> r → v ≡ answer c → f ≡ is-safe v → f ≡ false → (v ≡ answer m) × (lent ≡ words-after v ws s lent)
 unfolding words-after
-ends-with a b v f ws s lent e t h = (ends a b v f e t h, sym (else-is v _ lent (sym t ∙ h)))
-
--- the stages take the checks in other brackets
-rebracket : (a b c d r : Check) → (a >> (b >> c)) >> (d >> r) ≡ (a >> (b >> (c >> d))) >> r
-unfolding _>>_
-rebracket (some v) b c d r = refl
-rebracket none (some v) c d r = refl
-rebracket none none (some v) d r = refl
-rebracket none none none d r = refl
-
-evidence-is : (ws : List ℕ) (s : Sizes) (n : ℕ) → message-check (taken ws s) n ≡ program-check (program ws s) >> evidence-on ws s n
-unfolding message-check taken evidence-check tables-check bounds-on counters-on evidence-on
-evidence-is ws s n = ap (λ c. program-check (program ws s) >> c) (sym (rebracket _ _ _ _ _))
-
--- refusals 10 to 13, of n counters
-pub bounds-is : (ws : List ℕ) (s : Sizes) (n : ℕ) → n ≡ counter-count (program ws s) (tables ws s) → bounds-check (taken ws s) ≡ bound-check ws s n >> limits-on ws s n
-unfolding bounds-check taken limits-on
-bounds-is ws s n e = ap (λ k. bound-check ws s k >> limits-on ws s k) (sym e)
-
--- refusals 3 to 5
-pub program-refused : (ws : List ℕ) (s : Sizes) (lent : List ℕ) (v : Verdict) (f : Bool) → v ≡ answer (program-check (program ws s)) → f ≡ is-safe v → f ≡ false → (v ≡ answer (message-check (taken ws s) (length lent))) × (lent ≡ words-after v ws s lent)
-program-refused ws s lent v f e t h =
-    let (a, b) = ends-with (program-check (program ws s)) (evidence-on ws s (length lent)) v f ws s lent e t h in
-    (a ∙ sym (ap answer (evidence-is ws s (length lent))), b)
-
-pub evidence-told : (ws : List ℕ) (s : Sizes) (n : ℕ) (v : Verdict) → program-check (program ws s) ≡ none → v ≡ answer (evidence-on ws s n) → v ≡ answer (message-check (taken ws s) n)
-evidence-told ws s n v p h = goes-on (program-check (program ws s)) _ v p h ∙ sym (ap answer (evidence-is ws s n))
+ends-with m c r v f ws s lent z e t h = (ends c r v f e t h ∙ sym (ap answer z), sym (else-is v _ lent (sym t ∙ h)))
 
 -- the words of the message, at the front of the array
 front : (ws rest : List ℕ) → take (length ws) (ws ++ rest) ≡ ws

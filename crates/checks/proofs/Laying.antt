@@ -1,5 +1,6 @@
 -- What one layer's tables say is what the next one asks.
-use Prim.Native.Nat.{ℕ, _≤_, _<_}
+use Prim.Native.Nat.{ℕ, zero, suc, _+_, _*_, _/_, _%_, _≤_, _<_}
+use native.Mathlib.Nat.{mul-le-mul-left, mul-le-mul-right}
 use native.Mathlib.Omega.{arith}
 use mathlib.Core.Path.{_≡_, refl, sym, ap, subst, _∙_}
 use mathlib.Core.List.{List}
@@ -7,97 +8,64 @@ use mathlib.Core.Option.{Option, some, none}
 use lib.ListN.{length}
 use lib.Dec.{eqb}
 use Rattle.model.specs.declared.Sizes.{Sizes}
+use Rattle.model.specs.Verdict.{_>>_}
 use Rattle.model.specs.Words.{Columns, columns}
 use Rattle.model.specs.Rows.{Program, size, tag, num, program, row-check}
 use Rattle.model.specs.Limits.{maxCounters}
-use Rattle.model.specs.Tables.{Tables, tables, entry-check, has, state, state-index}
+use Rattle.model.specs.Tables.{Tables, tables, entries, entry-check, has, state, state-index}
 use Rattle.model.specs.Index.{all, implies}
+use Rattle.model.specs.Scopes.{name-check, scope-check}
 use Rattle.model.specs.Heads.{innermost, start}
-use Rattle.model.specs.Bads.{bad-check}
 use Rattle.model.specs.Closed.{opening-closed, open-check}
-use Rattle.model.specs.Counters.{counter-count, counter-check}
+use Rattle.model.specs.Counters.{counter-count, counter-check, letter-count, letter-keys}
 use Rattle.model.specs.Verify.{program-check}
-use Rattle.model.proofs.Exact.Answer.{Refuses, then-refuses, bad-refuses, entry-refuses, open-refuses}
 use Rattle.model.proofs.Exact.Checks.{then-none, unless-none}
 use Rattle.model.proofs.Logic.{and-right}
 use Rattle.model.proofs.Numbering.States.{index-below}
 use borrow.Author.Tests.{leb-true}
 use Rattle.program.specs.Rows.{from}
-use Rattle.program.specs.Layout.{Layout, owner}
+use Rattle.program.specs.Layout.{owner}
 use Rattle.layout.specs.Tables.{After-table, Inner-upto, or-end}
-use Rattle.patterns.specs.Patterns as patterns
-use Rattle.entries.specs.Entries.{Ground}
+use Rattle.positions.specs.Positions.{Ends, Owners}
 use Rattle.bounds.specs.Parts as bounds
-use Rattle.met.specs.Items.{Items-counted}
 use Rattle.lists.specs.Ready.{Ready}
-use Rattle.system.specs.Prepared.{Prepared}
-use Rattle.system.proofs.Preparing.{prepared}
-use Rattle.checks.specs.Stages.{tables-check, Formed, Closed, Counted}
+use Rattle.evidence.specs.Whole.{Parts-whole}
+use Rattle.values.specs.Values as values
+use Rattle.values.specs.Values.{width}
+use Rattle.bits.specs.Bits.{Row, bit, member}
+use Rattle.bits.proofs.Bits.{bit-zero}
+use Rattle.rooms.specs.Cleared.{Cleared}
+use Rattle.rules.specs.Derived as rules
+use Rattle.system_letters.specs.Letters.{Starts}
+use Rattle.system_letters.proofs.Pairs.{letters-few}
+use Rattle.closure.specs.Lent.{Unsettled}
+use Rattle.ceilings_met.specs.Items.{Items-counted}
+use Rattle.rules.specs.Derived.{Rule-room}
+use Rattle.model.specs.Demands.{Within-limits}
+use Rattle.checks.specs.Scratch.{Countable, Mask-room, Small}
 
-module _ (ws : List ℕ) (s : Sizes) where
-  -- refusal 7 found nothing
-  pub entries-pass : tables-check ws s ≡ none → entry-check s (program ws s) (tables ws s) ≡ none
-  unfolding tables-check
-  entries-pass h = then-none _ _ .0 (then-none _ _ .0 h .1) .0
+-- refusals 3 to 5 found nothing
+pub program-passes : (p : Program) → row-check p ≡ none → name-check p ≡ none → scope-check p ≡ none → program-check p ≡ none
+unfolding program-check _>>_
+program-passes p r n h = rw (r, n, h)
 
-  pub bads-pass : tables-check ws s ≡ none → bad-check ws s (program ws s) ≡ none
-  unfolding tables-check
-  bads-pass h = then-none _ _ .0 h .0
+pub ready : (ws : List ℕ) (s : Sizes) → Parts-whole ws s → program-check (program ws s) ≡ none → entry-check s (program ws s) (tables ws s) ≡ none → Ready ws s
+ready ws s w p e =
+    record { whole = w .program; held = w .held; limits = w .limits; well-formed = p; in-form = e }
 
-  pub opens-pass : tables-check ws s ≡ none → open-check s (program ws s) (tables ws s) ≡ none
-  unfolding tables-check
-  opens-pass h = then-none _ _ .0 (then-none _ _ .0 h .1) .1
-
-  pub ready : {afters inners cases receives : List ℕ} → Closed ws s afters inners cases receives → Ready ws s
-  ready c =
-      let f = c .formed in
-      record {
-        whole = f .parts .program;
-        held = f .parts .held;
-        limits = f .parts .limits;
-        well-formed = f .passes;
-        in-form = entries-pass (c .tables-pass);
-      }
-
-  pub all-prepared : {afters inners cases receives names index : List ℕ} → Counted ws s afters inners cases receives names index → Prepared ws s afters inners cases receives names index
-  all-prepared c =
-      prepared _ _ _ _ _ _ _ _ (ready (c .closed)) (c .closed .formed .layout) (c .closed .branches) (c .named) (c .letters)
-
-pub rows-pass : (p : Program) → program-check p ≡ none → row-check p ≡ none
-unfolding program-check
-rows-pass p h = then-none _ _ .0 h .0
-
-module _ (ws : List ℕ) (s : Sizes) {afters inners : List ℕ} (f : Formed ws s afters inners) where
-  -- what the tables of branches ask
-  pub flow-ready : entry-check s (program ws s) (tables ws s) ≡ none → patterns.Ready ws s afters
-  flow-ready e =
-      let l = f .layout in
-      record {
-        whole = f .parts .program;
-        evidence = record { held = f .parts .held; entries = e };
-        rows-fit = rows-pass (program ws s) (f .passes);
-        after = record { room = l .afters-room; after-expression = l .after-expression; after-pattern = l .after-pattern };
-      }
-
-  -- what the closed tables ask
-  pub ground : entry-check s (program ws s) (tables ws s) ≡ none → Ground ws s
-  ground e =
-      record {
-        whole = f .parts .program;
-        limits = f .parts .limits;
-        held = f .parts .held;
-        program-passes = f .passes;
-        entries-pass = e;
-      }
-
-  -- what the ceilings ask
-  pub bounds-whole : bounds.Whole ws s
-  bounds-whole = record { limits = f .parts .limits; held = f .parts .held }
+pub bounds-whole : (ws : List ℕ) (s : Sizes) → Parts-whole ws s → bounds.Whole ws s
+bounds-whole ws s w = record { limits = w .limits; held = w .held }
 
 -- refusal 9 found nothing
 pub few : (s : Sizes) (p : Program) (t : Tables) → counter-check s p t ≡ none → counter-count p t ≤ maxCounters
 unfolding counter-check
 few s p t h = leb-true _ _ (unless-none _ _ .0 h)
+
+-- a message has no more counters than states and mail
+pub countable : (ws : List ℕ) (s : Sizes) (n : ℕ) → Ready ws s → counter-check s (program ws s) (tables ws s) ≡ none → n ≡ counter-count (program ws s) (tables ws s) → Countable s n
+unfolding counter-count letter-count tables entries columns
+countable ws s n h c e =
+    record { few = omega (arith, e, few _ _ _ c); listed = omega (arith, e, letters-few h (letter-keys (program ws s))) }
 
 -- refusal 8 found nothing, so the start has a counter
 pub start-counted : (s : Sizes) (p : Program) (t : Tables) → open-check s p t ≡ none → state-index t (state (size p) (start p)) < counter-count p t
@@ -107,31 +75,152 @@ start-counted s p t h =
     let below = index-below t (state (size p) (start p)) listed in
     omega arith
 
-pub tables-refuse : (ws : List ℕ) (s : Sizes) → Refuses (tables-check ws s)
-unfolding tables-check
-tables-refuse ws s = then-refuses _ _ (bad-refuses _ _ _) (then-refuses _ _ (entry-refuses _ _ _) (open-refuses _ _ _))
-
 owner-is : (p : Program) (o : Option ℕ) → or-end (size p) o ≡ elim o [ none ↦ size p | some f ↦ f ]
 unfolding or-end
 owner-is p none = refl
 owner-is p (some f) = refl
 
-pub layout : (ws : List ℕ) (s : Sizes) (afters inners : List ℕ) → s .rows ≤ length afters → s .rows ≤ length inners → After-table (program ws s) afters → Inner-upto (program ws s) (s .rows) inners → Layout (program ws s) afters inners
-unfolding from owner program columns
-layout ws s afters inners a i after inner =
-    record {
-      afters-room = a;
-      inners-room = i;
-      after-expression = λ r e h. after .expressions r e (omega arith) h;
-      after-pattern = λ q d e h. after .patterns d q e (omega arith) h;
-      inner = λ r h. inner .inners r h ∙ owner-is (program ws s) (innermost (program ws s) r);
-    }
+-- the tables of the layout
+module _ (ws : List ℕ) (s : Sizes) (table : List ℕ) (room : s .rows ≤ length table) where
+  pub ends : After-table (program ws s) table → Ends (program ws s) table
+  unfolding from program columns
+  ends after =
+      record {
+        room = room;
+        after-expression = λ r e h. after .expressions r e (omega arith) h;
+        after-pattern = λ q d e h. after .patterns d q e (omega arith) h;
+      }
+
+  pub owners : Inner-upto (program ws s) (s .rows) table → Owners (program ws s) table
+  unfolding owner program columns
+  owners inner =
+      record { room = room; inner = λ r h. inner .inners r h ∙ owner-is (program ws s) (innermost (program ws s) r) }
 
 -- the counter of the start, by its row
 pub start-told : (ws : List ℕ) (s : Sizes) (r x : ℕ) → r ≡ start (program ws s) → x ≡ state-index (tables ws s) (state (s .rows) r) → x ≡ state-index (tables ws s) (state (size (program ws s)) (start (program ws s)))
 unfolding program columns
 start-told ws s r x e h = h ∙ ap (λ q. state-index (tables ws s) (state (s .rows) q)) e
 
+-- the values of names, as the rules ask for them
+pub flow-starts : (ws : List ℕ) (s : Sizes) (starts : List ℕ) → values.Flow-starts (program ws s) (tables ws s) starts → Starts (tables ws s .flow) (s .names) starts
+unfolding program
+flow-starts ws s starts h = record { room = h .room; start = h .from }
+
+sets-room : (k w : ℕ) (t : List ℕ) → ((n : ℕ) → n < k → Row t w n) → k * w ≤ length t
+sets-room zero w t h = omega arith
+sets-room (suc k) w t h = let z = h k (omega arith) .room in omega arith
+
+-- a set has a bit for each row and one more
+pub width-holds : (r : ℕ) → r < 64 * width r
+unfolding width
+width-holds r = omega arith
+
+pub flow-sets : (ws : List ℕ) (s : Sizes) (w : ℕ) (flow : List ℕ) → w ≡ width (s .rows) → values.Flow-sets (program ws s) (tables ws s) flow → rules.Flow-sets (program ws s) (tables ws s) w flow
+unfolding program columns
+flow-sets ws s w flow e h =
+    subst (λ x. rules.Flow-sets (program ws s) (tables ws s) x flow) (sym e)
+    (record {
+      wide = width-holds (s .rows);
+      room = sets-room (s .names) (width (s .rows)) flow (λ n b. h .of-name n b .row);
+      has = λ n v b c. h .of-name n b .holds v (let z = width-holds (s .rows) in omega arith);
+    })
+
+-- a cleared table holds empty sets
+pub empty-sets : (n w : ℕ) (t : List ℕ) → Cleared n t → values.Empty w t
+unfolding member
+empty-sets n w t h = record { none = λ k v. ap (λ x. bit x (v % 64)) (h .zero (k * w + v / 64)) ∙ bit-zero (v % 64) }
+
+-- a product of no more than these is no more
+pub product-most : (a b x y : ℕ) → a ≤ x → b ≤ y → a * b ≤ x * y
+product-most a b x y h k = omega (arith, mul-le-mul-right b h, mul-le-mul-left x k)
+
+-- so many sets of no more than so many words have room
+pub sets-fit : (k w K W n : ℕ) (t : List ℕ) → Cleared n t → k ≤ K → w ≤ W → K * W ≤ n → values.Room w k t
+sets-fit k w K W n t h a b c =
+    record { row = λ j l. record { room = let z = product-most (j + 1) w K W (omega arith) b in let y = h .room in omega arith } }
+
+-- the width of a set of a message of no more than so many rows
+pub width-most : (r R : ℕ) → r ≤ R → width r ≤ width R
+unfolding width
+width-most r R h = omega arith
+
+-- what refusal 8 is lent beside the tables that others read, of a message of no more than R rows and N names
+pub record Opens (s : Sizes) (mail firsts nexts may held codes here : List ℕ) : Type 0 where
+  pub mail-sets : values.Empty (width (s .rows)) mail × values.Room (width (s .rows)) (s .names + 1) mail
+  pub firsts-room : s .constructors ≤ length firsts
+  pub nexts-room : s .rows ≤ length nexts
+  pub may-sets : values.Empty (width (s .rows)) may × values.Room (width (s .rows)) (s .rows) may
+  pub held-sets : values.Empty (width (s .rows)) held × values.Room (width (s .rows)) (s .rows) held
+  pub codes-clear : Unsettled s codes
+  pub class-row : Row here (width (s .rows)) 0
+
+pub opens : (s : Sizes) (R N a b d e h : ℕ) (mail firsts nexts may held codes here : List ℕ) → s .rows ≤ R → s .names ≤ N → s .constructors ≤ b → Cleared a mail → Cleared b firsts → Cleared d nexts → Cleared e may → Cleared e held → Cleared d codes → Cleared h here → (N + 1) * width R ≤ a → R * width R ≤ e → R ≤ d → width R ≤ h → Opens s mail firsts nexts may held codes here
+opens s R N a b d e h mail firsts nexts may held codes here r n c m f x y z k l am er rd wh =
+    let w = width-most (s .rows) R r in
+    record {
+      mail-sets = (empty-sets a _ mail m, sets-fit (s .names + 1) _ (N + 1) (width R) a mail m (omega arith) w am);
+      firsts-room = let q = f .room in omega arith;
+      nexts-room = let q = x .room in omega arith;
+      may-sets = (empty-sets e _ may y, sets-fit (s .rows) _ R (width R) e may y r w er);
+      held-sets = (empty-sets e _ held z, sets-fit (s .rows) _ R (width R) e held z r w er);
+      codes-clear = record { room = let q = k .room in omega arith; none = k .zero };
+      class-row = record { room = let q = l .room in omega arith };
+    }
+
+pub bounds-of-ready : (ws : List ℕ) (s : Sizes) → Ready ws s → bounds.Whole ws s
+bounds-of-ready ws s h = record { limits = h .limits; held = h .held }
+
 -- a table of items, by another name of the number of counters
 pub items-of : (p : Program) (t : Tables) (rows : Columns) (n k : ℕ) (items : List ℕ) → n ≡ k → Items-counted p t rows k items → Items-counted p t rows n items
 items-of p t rows n k items e h = subst (λ x. Items-counted p t rows x items) (sym e) h
+
+-- room for the rules of a state
+pub rule-room : (s : Sizes) (tos others : List ℕ) → Within-limits s → Cleared 1056 tos → Cleared 1056 others → Rule-room s tos others
+rule-room s tos others l t o =
+    let a = t .room in
+    let b = o .room in
+    record {
+      values = let r = l .rows .1 in omega arith;
+      letters = let c = l .constructors in omega arith;
+      counters = omega arith;
+      alike = b ∙ sym a;
+    }
+
+-- sets of ceilings for n counters
+pub mask-room : (k n : ℕ) (holders unbounded group short more : List ℕ) → n * 4 ≤ k → Cleared k holders → Cleared k unbounded → Cleared k group → Cleared k short → Cleared k more → Mask-room n holders unbounded group short more
+mask-room k n holders unbounded group short more h a b c d e =
+    record {
+      held = let q = a .room in omega arith;
+      free = let q = b .room in omega arith;
+      states = let q = c .room in omega arith;
+      one-less = let q = d .room in omega arith;
+      one-more = let q = e .room in omega arith;
+    }
+
+-- room after a call that keeps the lengths
+pub rule-room-kept : (s : Sizes) (tos others tos′ others′ : List ℕ) → Rule-room s tos others → length tos′ ≡ length tos → length others′ ≡ length others → Rule-room s tos′ others′
+rule-room-kept s tos others tos′ others′ r a b =
+    record {
+      values = let z = r .values in omega arith;
+      letters = let z = r .letters in omega arith;
+      counters = let z = r .counters in omega arith;
+      alike = b ∙ (r .alike ∙ sym a);
+    }
+
+-- each state is a counter
+pub states-few : (ws : List ℕ) (s : Sizes) (n : ℕ) → n ≡ counter-count (program ws s) (tables ws s) → s .states ≤ n
+unfolding counter-count tables entries columns
+states-few ws s n e = omega (arith, e)
+
+-- limits of each counter under each ceiling
+pub small-cells : (s : Sizes) (limits : List ℕ) → Small s → Cleared 2048 limits → (n : ℕ) → Countable s n → n * s .bounds ≤ length limits
+small-cells s limits m c n h =
+    let z = product-most n (s .bounds) 128 16 (let a = h .listed in let b = m .states in let d = m .mails in omega arith) (m .bounds) in
+    let q = c .room in
+    omega arith
+
+pub all-cells : (s : Sizes) (limits : List ℕ) → Within-limits s → Cleared 131072 limits → (n : ℕ) → Countable s n → n * s .bounds ≤ length limits
+all-cells s limits l c n h =
+    let z = product-most n (s .bounds) 512 256 (let a = h .few in omega arith) (l .bounds) in
+    let q = c .room in
+    omega arith

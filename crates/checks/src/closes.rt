@@ -1,148 +1,152 @@
-// Refusals 6 to 8.
-use answers::is_safe;
-use bads::bad_check;
-use closed::states::open_check;
-use evidence::entries::entry_check;
-use flow::branches::fill_branches;
+// Refusal 8 over scratch by need: the sets of mail and of patterns, and what each head asks.
+use closure::open_check;
 use model::Sizes;
 use model::Verdict;
-use rooms::bytes_32768;
-use rooms::bytes_131072;
-use rooms::bytes_524288;
+use rooms::words16_66;
+use rooms::words16_1056;
+use rooms::words32_66;
+use rooms::words32_1056;
+use rooms::words64_130;
+use rooms::words64_8721;
+use rooms::words64_17408;
 ghost use mathlib.Core.Path.{_≡_};
-ghost use mathlib.Core.Bool.{true};
-ghost use Prim.Native.Nat.{_+_, _*_, _/_, _≤_};
+ghost use Prim.Native.Nat.{_≤_, _<_};
 ghost use lib.ListN.{length};
-ghost use Rattle.model.specs.Limits.{maxNames};
+ghost use Rattle.model.specs.declared.Verdict.the-variants.{Safe};
 ghost use Rattle.model.specs.Rows.{program};
 ghost use Rattle.model.specs.Tables.{tables};
+ghost use Rattle.model.specs.Closed.{open-check};
 ghost use Rattle.model.specs.Verify.{answer};
-ghost use Rattle.flow.specs.Branches.{Branches};
-ghost use Rattle.answers.specs.Safe.{is-safe};
-ghost use Rattle.checks.specs.Stages.{tables-check, Formed};
+ghost use Rattle.lists.specs.Ready.{Ready};
+ghost use Rattle.positions.specs.Positions.{Ends, Owners};
+ghost use Rattle.positions.specs.Branches.{Branch-bits};
+ghost use Rattle.values.specs.Values.{Flow-sets, Flow-starts};
+ghost use Rattle.checks.specs.Scratch.{Flow-room};
 
-// Over lent cells, for the codes of patterns and then for the inclusions of names.
-fn tables_on(
+// Refusal 8 of a small message.
+fn small_open(
     ws: &[u16],
     s: Sizes,
     afters: &[u16],
     inners: &[u16],
-    cells: &mut [u8],
-    cases: &mut [u8],
-    receives: &mut [u8],
+    starts: &mut [u16],
+    flow: &mut [u64],
+    branches: &mut [u16],
 ) -> Verdict
-    requires { ⌜ Formed (now ws) s (now afters) (now inners) ⌝ }
-    requires { ⌜ (s .rows * maxNames ≤ length (now cells)) × (s .names * maxNames ≤ length (now cells)) ⌝ }
-    requires { ⌜ (s .rows ≤ length (now cases)) × ((s .rows / 2 + 1) * s .mails ≤ length (now receives)) ⌝ }
-    ensures { λ v. ⌜ v ≡ answer (tables-check (now (ws .entry)) s) ⌝ }
-    ensures { λ v. ⌜
-        (is-safe v ≡ true →
-        Branches (program (now (ws .entry)) s) (tables (now (ws .entry)) s) (now (cases .exit))
-        (now (receives .exit))) ⌝ }
-{
-    let bads = bad_check(ws, s);
-    if !is_safe(bads) {
-        return bads;
-    }
-    let entries = entry_check(ws, s);
-    if !is_safe(entries) {
-        return entries;
-    }
-    fill_branches(ws, s, afters, cells, cases, receives);
-    open_check(ws, s, afters, inners, cases, receives, cells)
-}
-
-// Of a small message.
-fn small_tables(
-    ws: &[u16],
-    s: Sizes,
-    afters: &[u16],
-    inners: &[u16],
-    cases: &mut [u8],
-    receives: &mut [u8],
-) -> Verdict
-    requires { ⌜ Formed (now ws) s (now afters) (now inners) ⌝ }
-    requires { ⌜ (s .rows ≤ length (now cases)) × ((s .rows / 2 + 1) * s .mails ≤ length (now receives)) ⌝ }
+    requires { ⌜ Ready (now ws) s ⌝ }
+    requires { ⌜ Ends (program (now ws) s) (now afters) ⌝ }
+    requires { ⌜ Owners (program (now ws) s) (now inners) ⌝ }
+    requires { ⌜ Flow-room s (now flow) ⌝ }
+    requires { ⌜ (s .names < length (now starts)) × (s .states ≤ length (now branches)) ⌝ }
     requires { ⌜ (s .rows ≤ 64) × (s .names ≤ 64) ⌝ }
-    ensures { λ v. ⌜ v ≡ answer (tables-check (now (ws .entry)) s) ⌝ }
-    ensures { λ v. ⌜
-        (is-safe v ≡ true →
-        Branches (program (now (ws .entry)) s) (tables (now (ws .entry)) s) (now (cases .exit))
-        (now (receives .exit))) ⌝ }
+    ensures { λ v. ⌜ v ≡ answer (open-check s (program (now (ws .entry)) s) (tables (now (ws .entry)) s)) ⌝ }
+    ensures { λ v. ⌜ (v ≡ Safe →
+        Flow-starts (program (now (ws .entry)) s) (tables (now (ws .entry)) s) (now (starts .exit))) ⌝ }
+    ensures { λ v. ⌜ (v ≡ Safe →
+        Flow-sets (program (now (ws .entry)) s) (tables (now (ws .entry)) s) (now (flow .exit))) ⌝ }
+    ensures { λ v. ⌜ (v ≡ Safe →
+        Branch-bits (program (now (ws .entry)) s) (tables (now (ws .entry)) s) (now (branches .exit))) ⌝ }
 {
-    let mut cells = bytes_32768();
-    tables_on(ws, s, afters, inners, &mut cells, cases, receives)
+    let mut mail = words64_130();
+    let mut firsts = words16_66();
+    let mut nexts = words16_66();
+    let mut may = words64_130();
+    let mut held = words64_130();
+    let mut codes = words32_66();
+    let mut here = words64_130();
+    open_check(
+        ws,
+        s,
+        afters,
+        inners,
+        starts,
+        flow,
+        &mut mail,
+        &mut firsts,
+        &mut nexts,
+        &mut may,
+        &mut held,
+        &mut codes,
+        &mut here,
+        branches,
+    )
 }
 
-// Of a middling message.
-fn middle_tables(
+// Refusal 8 of any message.
+fn large_open(
     ws: &[u16],
     s: Sizes,
     afters: &[u16],
     inners: &[u16],
-    cases: &mut [u8],
-    receives: &mut [u8],
+    starts: &mut [u16],
+    flow: &mut [u64],
+    branches: &mut [u16],
 ) -> Verdict
-    requires { ⌜ Formed (now ws) s (now afters) (now inners) ⌝ }
-    requires { ⌜ (s .rows ≤ length (now cases)) × ((s .rows / 2 + 1) * s .mails ≤ length (now receives)) ⌝ }
-    requires { ⌜ (s .rows ≤ 256) × (s .names ≤ 256) ⌝ }
-    ensures { λ v. ⌜ v ≡ answer (tables-check (now (ws .entry)) s) ⌝ }
-    ensures { λ v. ⌜
-        (is-safe v ≡ true →
-        Branches (program (now (ws .entry)) s) (tables (now (ws .entry)) s) (now (cases .exit))
-        (now (receives .exit))) ⌝ }
+    requires { ⌜ Ready (now ws) s ⌝ }
+    requires { ⌜ Ends (program (now ws) s) (now afters) ⌝ }
+    requires { ⌜ Owners (program (now ws) s) (now inners) ⌝ }
+    requires { ⌜ Flow-room s (now flow) ⌝ }
+    requires { ⌜ (s .names < length (now starts)) × (s .states ≤ length (now branches)) ⌝ }
+    ensures { λ v. ⌜ v ≡ answer (open-check s (program (now (ws .entry)) s) (tables (now (ws .entry)) s)) ⌝ }
+    ensures { λ v. ⌜ (v ≡ Safe →
+        Flow-starts (program (now (ws .entry)) s) (tables (now (ws .entry)) s) (now (starts .exit))) ⌝ }
+    ensures { λ v. ⌜ (v ≡ Safe →
+        Flow-sets (program (now (ws .entry)) s) (tables (now (ws .entry)) s) (now (flow .exit))) ⌝ }
+    ensures { λ v. ⌜ (v ≡ Safe →
+        Branch-bits (program (now (ws .entry)) s) (tables (now (ws .entry)) s) (now (branches .exit))) ⌝ }
 {
-    let mut cells = bytes_131072();
-    tables_on(ws, s, afters, inners, &mut cells, cases, receives)
+    let mut mail = words64_8721();
+    let mut firsts = words16_66();
+    let mut nexts = words16_1056();
+    let mut may = words64_17408();
+    let mut held = words64_17408();
+    let mut codes = words32_1056();
+    let mut here = words64_130();
+    open_check(
+        ws,
+        s,
+        afters,
+        inners,
+        starts,
+        flow,
+        &mut mail,
+        &mut firsts,
+        &mut nexts,
+        &mut may,
+        &mut held,
+        &mut codes,
+        &mut here,
+        branches,
+    )
 }
 
-// Of any message.
-fn large_tables(
+// Refusal 8; after none the tables that later checks read are filled.
+pub fn open_verdict(
     ws: &[u16],
     s: Sizes,
     afters: &[u16],
     inners: &[u16],
-    cases: &mut [u8],
-    receives: &mut [u8],
+    starts: &mut [u16],
+    flow: &mut [u64],
+    branches: &mut [u16],
 ) -> Verdict
-    requires { ⌜ Formed (now ws) s (now afters) (now inners) ⌝ }
-    requires { ⌜ (s .rows ≤ length (now cases)) × ((s .rows / 2 + 1) * s .mails ≤ length (now receives)) ⌝ }
-    ensures { λ v. ⌜ v ≡ answer (tables-check (now (ws .entry)) s) ⌝ }
-    ensures { λ v. ⌜
-        (is-safe v ≡ true →
-        Branches (program (now (ws .entry)) s) (tables (now (ws .entry)) s) (now (cases .exit))
-        (now (receives .exit))) ⌝ }
-{
-    let mut cells = bytes_524288();
-    tables_on(ws, s, afters, inners, &mut cells, cases, receives)
-}
-
-// Refusals 6 to 8: bads, entries, closed tables; with the tables of branches.
-pub fn tables_verdict(
-    ws: &[u16],
-    s: Sizes,
-    afters: &[u16],
-    inners: &[u16],
-    cases: &mut [u8],
-    receives: &mut [u8],
-) -> Verdict
-    requires { ⌜ Formed (now ws) s (now afters) (now inners) ⌝ }
-    requires { ⌜ (s .rows ≤ length (now cases)) × ((s .rows / 2 + 1) * s .mails ≤ length (now receives)) ⌝ }
-    ensures { λ v. ⌜ v ≡ answer (tables-check (now (ws .entry)) s) ⌝ }
-    ensures { λ v. ⌜
-        (is-safe v ≡ true →
-        Branches (program (now (ws .entry)) s) (tables (now (ws .entry)) s) (now (cases .exit))
-        (now (receives .exit))) ⌝ }
+    requires { ⌜ Ready (now ws) s ⌝ }
+    requires { ⌜ Ends (program (now ws) s) (now afters) ⌝ }
+    requires { ⌜ Owners (program (now ws) s) (now inners) ⌝ }
+    requires { ⌜ Flow-room s (now flow) ⌝ }
+    requires { ⌜ (s .names < length (now starts)) × (s .states ≤ length (now branches)) ⌝ }
+    ensures { λ v. ⌜ v ≡ answer (open-check s (program (now (ws .entry)) s) (tables (now (ws .entry)) s)) ⌝ }
+    ensures { λ v. ⌜ (v ≡ Safe →
+        Flow-starts (program (now (ws .entry)) s) (tables (now (ws .entry)) s) (now (starts .exit))) ⌝ }
+    ensures { λ v. ⌜ (v ≡ Safe →
+        Flow-sets (program (now (ws .entry)) s) (tables (now (ws .entry)) s) (now (flow .exit))) ⌝ }
+    ensures { λ v. ⌜ (v ≡ Safe →
+        Branch-bits (program (now (ws .entry)) s) (tables (now (ws .entry)) s) (now (branches .exit))) ⌝ }
 {
     if s.rows <= 64 {
         if s.names <= 64 {
-            return small_tables(ws, s, afters, inners, cases, receives);
+            return small_open(ws, s, afters, inners, starts, flow, branches);
         }
     }
-    if s.rows <= 256 {
-        if s.names <= 256 {
-            return middle_tables(ws, s, afters, inners, cases, receives);
-        }
-    }
-    large_tables(ws, s, afters, inners, cases, receives)
+    large_open(ws, s, afters, inners, starts, flow, branches)
 }

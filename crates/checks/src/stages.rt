@@ -1,91 +1,63 @@
-// The checks behind the program's, one after the other.
-use crate::ceilings::bounds_verdict;
-use crate::closes::tables_verdict;
-use crate::counts::counters_verdict;
-use answers::is_safe;
+// Refusals 11 and 12, each with the tables that it alone needs.
+use ceilings_met::met_check;
+use ceilings_met::start_check;
+use lists::state_index;
 use model::Sizes;
 use model::Verdict;
-use space::space_verdict;
+use opening::start;
+use system_items::fill_items;
 ghost use mathlib.Core.Path.{_≡_};
-ghost use Prim.Native.Nat.{_+_, _*_, _/_, _≤_, _<_};
-ghost use lib.ListN.{length};
+ghost use mathlib.Core.Option.{none};
 ghost use Rattle.model.specs.Rows.{program};
-ghost use Rattle.model.specs.Letters.{letters};
-ghost use Rattle.model.specs.Counters.{letter-keys};
+ghost use Rattle.model.specs.Bads.{bad-rows};
+ghost use Rattle.model.specs.Tables.{tables};
+ghost use Rattle.model.specs.Closed.{open-check};
+ghost use Rattle.model.specs.Counters.{counter-count};
+ghost use Rattle.model.specs.Bounds.{bounds, start-check, met-check};
+ghost use Rattle.model.specs.Limits.{maxCounters};
 ghost use Rattle.model.specs.Verify.{answer};
-ghost use Rattle.space.specs.Space.{words-after};
-ghost use Rattle.checks.specs.Stages.{bounds-on, counters-on, evidence-on, Formed, Closed, Counted};
+ghost use Rattle.lists.specs.Ready.{Ready};
+ghost use Rattle.positions.specs.Positions.{Ends};
+ghost use Rattle.system_letters.specs.Letters.{Class-letters};
+ghost use Rattle.ceilings.specs.Table.{Limits-table};
+ghost use Rattle.ceilings_met.specs.Items.{Bads-in-form};
+ghost use Prim.Native.Nat.{_≤_};
 
-// Refusals 10 to 14, and the listing written after none.
-fn bounds_on(
-    ws: &[u16],
-    s: Sizes,
-    afters: &[u16],
-    inners: &[u16],
-    cases: &[u8],
-    receives: &[u8],
-    names: &[u16],
-    index: &[u16],
-    lent: &mut [u32],
-) -> Verdict
-    requires { ⌜ Counted (now ws) s (now afters) (now inners) (now cases) (now receives) (now names) (now index) ⌝ }
-    ensures { λ v. ⌜ v ≡ answer (bounds-on (now (ws .entry)) s (length (now (lent .entry)))) ⌝ }
-    ensures { λ v. ⌜ now (lent .exit) ≡ words-after v (now (ws .entry)) s (now (lent .entry)) ⌝ }
+// Refusal 11, by the counter of the start.
+pub fn start_verdict(ws: &[u16], s: Sizes, afters: &[u16], n: usize, limits: &[u16]) -> Verdict
+    requires { ⌜ Ready (now ws) s ⌝ }
+    requires { ⌜ Ends (program (now ws) s) (now afters) ⌝ }
+    requires { ⌜ open-check s (program (now ws) s) (tables (now ws) s) ≡ none ⌝ }
+    requires { ⌜ (n ≡ counter-count (program (now ws) s) (tables (now ws) s)) × (n ≤ maxCounters) ⌝ }
+    requires { ⌜ Limits-table (bounds (now ws) s n) (now limits) ⌝ }
+    ensures { λ v. ⌜ v ≡
+        answer (start-check s (program (now (ws .entry)) s) (tables (now (ws .entry)) s)
+        (bounds (now (ws .entry)) s n)) ⌝ }
 {
-    let bounds = bounds_verdict(ws, s, afters, inners, cases, receives, names, index);
-    if !is_safe(bounds) {
-        return bounds;
-    }
-    space_verdict(ws, s, afters, inners, cases, receives, names, index, lent)
+    let first = start(ws, s, afters);
+    let counter = state_index(ws, s, s.rows, first);
+    start_check(ws, s, n, limits, counter)
 }
 
-// Refusals 9 to 14, and the listing written after none.
-fn counters_on(
+// Refusal 12, by the counters of the bads' items.
+pub fn met_verdict(
     ws: &[u16],
     s: Sizes,
-    afters: &[u16],
-    inners: &[u16],
-    cases: &[u8],
-    receives: &[u8],
-    names: &mut [u16],
-    index: &mut [u16],
-    lent: &mut [u32],
+    letter_at: &[u16],
+    letters: &[u16],
+    n: usize,
+    limits: &[u16],
 ) -> Verdict
-    requires { ⌜ Closed (now ws) s (now afters) (now inners) (now cases) (now receives) ⌝ }
-    requires { ⌜ s .names * letters (program (now ws) s) ≤ length (now names) ⌝ }
-    requires { ⌜ letter-keys (program (now ws) s) < length (now index) ⌝ }
-    ensures { λ v. ⌜ v ≡ answer (counters-on (now (ws .entry)) s (length (now (lent .entry)))) ⌝ }
-    ensures { λ v. ⌜ now (lent .exit) ≡ words-after v (now (ws .entry)) s (now (lent .entry)) ⌝ }
+    requires { ⌜ Ready (now ws) s ⌝ }
+    requires { ⌜ Bads-in-form (now ws) s ⌝ }
+    requires { ⌜ Class-letters (program (now ws) s) (tables (now ws) s) (now «letter_at») (now letters) ⌝ }
+    requires { ⌜ (n ≡ counter-count (program (now ws) s) (tables (now ws) s)) × (n ≤ maxCounters) ⌝ }
+    requires { ⌜ Limits-table (bounds (now ws) s n) (now limits) ⌝ }
+    ensures { λ v. ⌜ v ≡
+        answer (met-check s (program (now (ws .entry)) s) (tables (now (ws .entry)) s) (bounds (now (ws .entry)) s n)
+        (bad-rows (now (ws .entry)) s)) ⌝ }
 {
-    let counters = counters_verdict(ws, s, names, index);
-    if !is_safe(counters) {
-        return counters;
-    }
-    bounds_on(ws, s, afters, inners, cases, receives, names, index, lent)
-}
-
-// Refusals 6 to 14, and the listing written after none.
-pub fn evidence_on(
-    ws: &[u16],
-    s: Sizes,
-    afters: &[u16],
-    inners: &[u16],
-    cases: &mut [u8],
-    receives: &mut [u8],
-    names: &mut [u16],
-    index: &mut [u16],
-    lent: &mut [u32],
-) -> Verdict
-    requires { ⌜ Formed (now ws) s (now afters) (now inners) ⌝ }
-    requires { ⌜ (s .rows ≤ length (now cases)) × ((s .rows / 2 + 1) * s .mails ≤ length (now receives)) ⌝ }
-    requires { ⌜ s .names * letters (program (now ws) s) ≤ length (now names) ⌝ }
-    requires { ⌜ letter-keys (program (now ws) s) < length (now index) ⌝ }
-    ensures { λ v. ⌜ v ≡ answer (evidence-on (now (ws .entry)) s (length (now (lent .entry)))) ⌝ }
-    ensures { λ v. ⌜ now (lent .exit) ≡ words-after v (now (ws .entry)) s (now (lent .entry)) ⌝ }
-{
-    let tables = tables_verdict(ws, s, afters, inners, cases, receives);
-    if !is_safe(tables) {
-        return tables;
-    }
-    counters_on(ws, s, afters, inners, cases, receives, names, index, lent)
+    let mut items = [0u16; 256];
+    fill_items(ws, s, letter_at, letters, &mut items);
+    met_check(ws, s, n, limits, &items)
 }

@@ -1,39 +1,17 @@
 // The verdict on a message, and the lent words.
-use crate::reads::program_verdict;
-use crate::scratch::evidence_verdict;
-use answers::is_safe;
-use layout::ends::ends;
-use layout::inner::inners;
+use crate::scratch::sized_verdict;
 use message::Parts;
 use message::parts_of;
 use model::Sizes;
 use model::Verdict;
-use rooms::words_2048;
-use rooms::words_29195;
+use rooms::words16_2048;
+use rooms::words16_29195;
 use words::decode;
 ghost use mathlib.Core.Path.{_≡_};
 ghost use Prim.Native.Nat.{_*_, _≤_};
 ghost use lib.ListN.{length};
-ghost use Rattle.model.specs.Verify.{message-check, answer, verdict, lent-after};
+ghost use Rattle.model.specs.Verify.{verdict, lent-after};
 ghost use Rattle.message.specs.Whole.{Whole-message};
-ghost use Rattle.evidence.specs.Whole.{Parts-whole};
-ghost use Rattle.space.specs.Space.{words-after};
-ghost use Rattle.checks.specs.Stages.{taken};
-
-// Refusals 3 to 14 of the words of a message whose parts are whole.
-fn words_verdict(ws: &[u16], s: Sizes, lent: &mut [u32]) -> Verdict
-    requires { ⌜ Parts-whole (now ws) s ⌝ }
-    ensures { λ v. ⌜ v ≡ answer (message-check (taken (now (ws .entry)) s) (length (now (lent .entry)))) ⌝ }
-    ensures { λ v. ⌜ now (lent .exit) ≡ words-after v (now (ws .entry)) s (now (lent .entry)) ⌝ }
-{
-    let afters = ends(ws, s);
-    let program = program_verdict(ws, s, &afters);
-    if !is_safe(program) {
-        return program;
-    }
-    let owners = inners(ws, s, &afters);
-    evidence_verdict(ws, s, &afters, &owners, lent)
-}
 
 // The verdict on a message whose parts are whole; its words are decoded into lent ones.
 fn decoded_verdict(bytes: &[u8], s: Sizes, words: &mut [u16], lent: &mut [u32]) -> Verdict
@@ -44,7 +22,7 @@ fn decoded_verdict(bytes: &[u8], s: Sizes, words: &mut [u16], lent: &mut [u32]) 
 {
     decode(bytes, words);
     let count = bytes.len() / 2;
-    words_verdict(&words[..count], s, lent)
+    sized_verdict(&words[..count], s, lent)
 }
 
 // Of a short message.
@@ -54,7 +32,7 @@ fn short_verdict(bytes: &[u8], s: Sizes, lent: &mut [u32]) -> Verdict
     ensures { λ v. ⌜ v ≡ verdict (now (bytes .entry)) (length (now (lent .entry))) ⌝ }
     ensures { λ v. ⌜ now (lent .exit) ≡ lent-after (now (bytes .entry)) (now (lent .entry)) ⌝ }
 {
-    let mut words = words_2048();
+    let mut words = words16_2048();
     decoded_verdict(bytes, s, &mut words, lent)
 }
 
@@ -64,7 +42,7 @@ fn long_verdict(bytes: &[u8], s: Sizes, lent: &mut [u32]) -> Verdict
     ensures { λ v. ⌜ v ≡ verdict (now (bytes .entry)) (length (now (lent .entry))) ⌝ }
     ensures { λ v. ⌜ now (lent .exit) ≡ lent-after (now (bytes .entry)) (now (lent .entry)) ⌝ }
 {
-    let mut words = words_29195();
+    let mut words = words16_29195();
     decoded_verdict(bytes, s, &mut words, lent)
 }
 

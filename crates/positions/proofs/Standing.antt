@@ -32,7 +32,7 @@ parameter-one p t n more h = fits-some _ _ more h .1
 
 module _ {p : Program} where
   -- items that take a row each
-  single : (x : Item) → ((t n : ℕ) (more : List Item) → step p x t n ≡ some more → [] ≡ more) → (n r : ℕ) {xs : List Item} {e : ℕ} → Spans p (replicate n x ++ xs) r e → Spans p xs (r + n) e
+  pub single : (x : Item) → ((t n : ℕ) (more : List Item) → step p x t n ≡ some more → [] ≡ more) → (n r : ℕ) {xs : List Item} {e : ℕ} → Spans p (replicate n x ++ xs) r e → Spans p xs (r + n) e
   single x one zero r s = let z : r ≡ r + zero = omega arith in rw z at s
   single x one (suc n) r {xs} {e} s =
       let f = spans-first s in

@@ -1,3 +1,4 @@
 pub mod Counts
+pub mod Filling
 pub mod Pairs
 pub mod Tables

@@ -1,9 +1,10 @@
 -- The (class, letter) pairs of mail: what is so of them, and what the tables of them tell.
 use Prim.Native.Nat.{ℕ, zero, suc, _+_, _*_, _≤_, _<_}
+use native.Mathlib.Decide.{decLt}
 use native.Mathlib.Nat.{suc-mul}
 use native.Mathlib.Omega.{arith}
-use mathlib.Core.Path.{_≡_, refl, sym, _∙_, ap}
-use mathlib.Core.Bool.{Bool, true, false, _&&_}
+use mathlib.Core.Path.{_≡_, sym, _∙_, ap}
+use mathlib.Core.Bool.{Bool, true}
 use mathlib.Core.List.{List}
 use lib.ListN.{length, getD}
 use lib.Dec.{eqb}
@@ -16,7 +17,7 @@ use Rattle.model.specs.Letters.{letters, row-letter}
 use Rattle.model.specs.Tables.{Tables, tables, entries}
 use Rattle.model.specs.Counters.{letter-key, letter-keys, has-letter, letter-count}
 use Rattle.model.proofs.Logic.{test, and-right}
-use Rattle.model.proofs.Index.{count-end, count-split, count-last, count-last-miss, count-reached}
+use Rattle.model.proofs.Index.{count-end, count-split, count-last, count-last-miss, count-before, count-reached}
 use Rattle.model.proofs.Numbering.Letters.{Keys, key-room, letter-entry, low-keys}
 use Rattle.model.proofs.Numbering.Counters.{row-letter-low, class-at-most, tag-inside}
 use Rattle.model.proofs.Parse.Reached.{stands-row}
@@ -29,7 +30,7 @@ use Rattle.system_letters.specs.Letters.{letters-before, Class-letters}
 use Rattle.system_letters.proofs.Counts.{count-named}
 
 -- no more indices pass than there are
-count-most : (f : ℕ → Bool) (a n : ℕ) → count a (a + n) f ≤ n
+pub count-most : (f : ℕ → Bool) (a n : ℕ) → count a (a + n) f ≤ n
 count-most f a zero = let z : a + zero ≡ a = omega arith in let e = count-end a (a + zero) f (omega arith) in omega arith
 count-most f a (suc n) =
     let z : a + suc n ≡ a + n + 1 = omega arith in
@@ -132,3 +133,46 @@ module _ {ws : List ℕ} {s : Sizes} (h : Ready ws s) where
     pub letter-told : (d to y l : ℕ) → d ≤ s .rows → to ≡ getD starts (d + 1) 0 → y < to → l ≡ getD ls y 0 → l < s .constructors + 2
     unfolding program columns letters
     letter-told d to y l b f m same = let (a, c, e) = start-order d b in let z = pair-low y (omega arith) in omega arith
+
+    -- a letter of a class's mail has its pair among those of the class
+    pub pair-inside : (d l : ℕ) → d ≤ size p → l < letters p → has-letter p t (letter-key p d l) ≡ true →
+        (getD starts d 0 ≤ letters-before p t d l) × (letters-before p t d l < getD starts (d + 1) 0)
+    unfolding letters-before letter-key
+    pair-inside d l b low has =
+        let f : ℕ → Bool = has-letter p t in
+        let n = next-key d in
+        let x = g .start d (omega arith) in
+        let y = g .start (d + 1) (omega arith) in
+        let split = count-split 0 (d * letters p + 0) (d * letters p + l) f (omega arith) (omega arith) in
+        let more = count-before (d * letters p + l) ((d + 1) * letters p + 0) f (omega arith) has in
+        (omega arith, omega arith)
+
+    class-is : (c a y : ℕ) → c ≤ size p → a < letters p → has-letter p t (letter-key p c a) ≡ true → count 0 (letter-key p c a) (has-letter p t) ≡ y →
+        (d : ℕ) → d ≤ size p → getD starts d 0 ≤ y → y < getD starts (d + 1) 0 → c ≡ d
+    unfolding letters-before
+    class-is c a y b low has at d m from to = elim (decLt c d) [
+      | yes z ↦ let (u, v) = pair-inside c a b low has in let w = start-later c d z m in absurd (omega arith)
+      | no z ↦ elim (decLt d c) [
+        | yes x ↦ let (u, v) = pair-inside c a b low has in let w = start-later d c x b in absurd (omega arith)
+        | no x ↦ omega arith
+      ]
+    ]
+
+    -- a pair that stands among those of a class with this letter is (class, letter)
+    pub pair-known : (d l y : ℕ) → d ≤ size p → getD starts d 0 ≤ y → y < getD starts (d + 1) 0 → getD ls y 0 ≡ l →
+        (l < letters p) × (has-letter p t (letter-key p d l) ≡ true) × (y ≡ letters-before p t d l)
+    unfolding letter-count letters-before
+    pair-known d l y b from to same =
+        let f : ℕ → Bool = has-letter p t in
+        let order = start-order d b in
+        let (k, kb, has, before) = count-reached (letter-keys p) y f (omega (arith, order .1)) in
+        let (i, m, e) = letter-entry p t k has in
+        let c = left (t .mail) i in
+        let a = row-letter p (right (t .mail) i) in
+        let low = letter-low (right (t .mail) i) in
+        let here : f (letter-key p c a) ≡ true = ap f e ∙ has in
+        let z = g .letter c a (class-low i m) low here in
+        let x : a ≡ l = sym z ∙ (ap (λ j. getD ls j 0) (ap (λ j. count 0 j f) e ∙ before) ∙ same) in
+        let at : count 0 (letter-key p c a) f ≡ y = ap (λ j. count 0 j f) e ∙ before in
+        let w : c ≡ d = class-is c a y (class-low i m) low here at d b from to in
+        (omega arith, sym (ap (λ j. f (letter-key p j l)) w) ∙ (sym (ap (λ j. f (letter-key p c j)) x) ∙ here), sym at ∙ (ap (λ j. count 0 (letter-key p c j) f) x ∙ ap (λ j. count 0 (letter-key p j l) f) w))

@@ -2,14 +2,15 @@
 -- letters of a class's mail.
 use Prim.Native.Nat.{ℕ, _+_, _*_, _≤_, _<_}
 use mathlib.Core.Path.{_≡_}
-use mathlib.Core.Bool.{true}
+use mathlib.Core.Bool.{Bool, true}
 use mathlib.Core.List.{List}
 use lib.ListN.{length, getD}
+use lib.Dec.{eqb}
 use Rattle.bits.specs.Bits.{member}
-use Rattle.model.specs.Index.{count}
-use Rattle.model.specs.Words.{Columns}
+use Rattle.model.specs.Index.{any, count}
+use Rattle.model.specs.Words.{Columns, right}
 use Rattle.model.specs.Rows.{Program, size}
-use Rattle.model.specs.Letters.{letters}
+use Rattle.model.specs.Letters.{letters, row-letter}
 use Rattle.model.specs.Tables.{Tables}
 use Rattle.model.specs.Counters.{letter-key, has-letter, letter-count}
 use Rattle.model.specs.Rules.{letter-of-some}
@@ -24,6 +25,17 @@ pub record Starts (c : Columns) (n : ℕ) (starts : List ℕ) : Type 0 where
 pub record Name-letters (p : Program) (t : Tables) (names : List ℕ) : Type 0 where
   pub room : p .names * 2 ≤ length names
   pub has : (n l : ℕ) → n < p .names → l < letters p → member names 2 n l ≡ letter-of-some p (t .flow) n (λ v. true) l
+
+-- one of the mail entries from..to has this letter
+unfoldable pub mail-letter : Program → Tables → ℕ → ℕ → ℕ → Bool
+mail-letter p t from to l = any from to (λ i. eqb l (row-letter p (right (t .mail) i)))
+
+-- t is u with the numbers below e that pass the test, ascending, from word n on up to word m
+pub record Written (f : ℕ → Bool) (e n : ℕ) (u t : List ℕ) (m : ℕ) : Type 0 where
+  pub long : length t ≡ length u
+  pub ends : m ≡ n + count 0 e f
+  pub new : (k : ℕ) → k < e → f k ≡ true → getD t (n + count 0 k f) 0 ≡ k
+  pub old : (y : ℕ) → y < n → getD t y 0 ≡ getD u y 0
 
 -- how many (class, letter) pairs of mail stand before this one
 unfoldable pub letters-before : Program → Tables → ℕ → ℕ → ℕ

@@ -2,9 +2,15 @@
 use lists::Span;
 use lists::flow;
 use lists::left;
+use lists::mail;
 use lists::right;
 use lists::tables_at;
 use lists::word;
+use masks::Mask;
+use masks::next_in;
+use masks::none;
+use masks::only;
+use masks::or;
 use model::MAX_COUNTERS;
 use model::Sizes;
 use model::Verdict;
@@ -12,8 +18,9 @@ use program::rows::num;
 use program::rows::tag;
 use sets::put;
 ghost use mathlib.Core.Path.{_≡_};
-ghost use Prim.Native.Nat.{ℕ, _*_, _≤_, _<_};
+ghost use Prim.Native.Nat.{ℕ, _+_, _*_, _≤_, _<_};
 ghost use lib.ListN.{length, getD};
+ghost use Rattle.model.specs.Index.{count};
 ghost use Rattle.model.specs.Rows.{program};
 ghost use Rattle.model.specs.Letters.{row-letter};
 ghost use Rattle.model.specs.Tables.{tables};
@@ -22,7 +29,8 @@ ghost use Rattle.model.specs.Verify.{answer};
 ghost use Rattle.program.specs.Rows.{Whole};
 ghost use Rattle.lists.specs.Lists.{Ascending, listed, Held, range-from};
 ghost use Rattle.lists.specs.Ready.{Ready};
-ghost use Rattle.system_letters.specs.Letters.{Starts, Name-letters, Class-letters};
+ghost use Rattle.masks.specs.Masks.{has};
+ghost use Rattle.system_letters.specs.Letters.{Starts, Name-letters, mail-letter, Written, Class-letters};
 
 // The letter of a value of the tables: a constructor's number, C for a function, C + 1 for an address.
 pub fn row_letter(ws: &[u16], s: Sizes, v: usize) -> usize
@@ -92,6 +100,73 @@ pub fn fill_names(ws: &[u16], s: Sizes, names: &mut [u64])
         let l = row_letter(ws, s, right(ws, list, i));
         put(names, 2, n, l);
     }
+}
+
+// The letters of the mail entries from..to.
+fn mail_letters(ws: &[u16], s: Sizes, from: usize, to: usize) -> Mask
+    requires { ⌜ Ready (now ws) s ⌝ }
+    requires { ⌜ (from ≤ to) × (to ≤ s .mails) ⌝ }
+    ensures { λ x. ⌜ ((l : ℕ) → l < 256 →
+        has x l ≡ mail-letter (program (now (ws .entry)) s) (tables (now (ws .entry)) s) from to l) ⌝ }
+{
+    let list = mail(s);
+    let mut x = none();
+    for i in from..to {
+        let l = row_letter(ws, s, right(ws, list, i));
+        x = or(x, only(l));
+    }
+    x
+}
+
+// Writes the numbers of the mask, ascending, from entry n on; gives where they end.
+fn write_letters(x: Mask, n: usize, letters: &mut [u16]) -> usize
+    requires { ⌜ n < 65536 ⌝ }
+    requires { ⌜ n + count 0 256 (has x) ≤ length (now letters) ⌝ }
+    ensures { λ m. ⌜ Written (has x) 256 n (now (letters .entry)) (now (letters .exit)) m ⌝ }
+{
+    let mut at = n;
+    let mut l = next_in(x, 0);
+    while l < 256 {
+        letters[at] = l as u16;
+        at += 1;
+        l = next_in(x, l + 1);
+    }
+    at
+}
+
+// Writes the letters of the mail entries from..to, each once, ascending, from pair n on; gives where they end.
+fn write_class(ws: &[u16], s: Sizes, from: usize, to: usize, n: usize, letters: &mut [u16]) -> usize
+    requires { ⌜ Ready (now ws) s ⌝ }
+    requires { ⌜ (from ≤ to) × (to ≤ s .mails) × (n < 65536) ⌝ }
+    requires { ⌜ n + count 0 256 (mail-letter (program (now ws) s) (tables (now ws) s) from to)
+        ≤ length (now letters) ⌝ }
+    ensures { λ m. ⌜ Written (mail-letter (program (now (ws .entry)) s) (tables (now (ws .entry)) s) from to) 256 n
+        (now (letters .entry)) (now (letters .exit)) m ⌝ }
+{
+    if from == to {
+        return n;
+    }
+    write_letters(mail_letters(ws, s, from, to), n, letters)
+}
+
+// The (class, letter) pairs of mail, and where those of each class begin.
+pub fn fill_letters(ws: &[u16], s: Sizes, letter_at: &mut [u16], letters: &mut [u16])
+    requires { ⌜ Ready (now ws) s ⌝ }
+    requires { ⌜ s .rows + 1 < length (now «letter_at») ⌝ }
+    requires { ⌜ s .mails ≤ length (now letters) ⌝ }
+    ensures { λ _. ⌜ Class-letters (program (now (ws .entry)) s) (tables (now (ws .entry)) s)
+        (now («letter_at» .exit)) (now (letters .exit)) ⌝ }
+{
+    let list = mail(s);
+    let mut e = 0;
+    let mut n = 0;
+    for c in 0..s.rows + 1 {
+        letter_at[c] = n as u16;
+        let to = start_from(ws, list, c + 1, e);
+        n = write_class(ws, s, e, to, n, letters);
+        e = to;
+    }
+    letter_at[s.rows + 1] = n as u16;
 }
 
 // How many counters there are: the states, then the letters of mail.

@@ -9,16 +9,14 @@ use Rattle.checks.proofs.verdict.decoded_verdict.Tie as tie
 decode-requires : tie.Need-decode-requires
 decode-requires c κs = search needs
 
-slice-reshare-prefix-words-verdict : tie.Need-slice-reshare-prefix-words-verdict
-slice-reshare-prefix-words-verdict c = search needs
+slice-reshare-prefix-sized-verdict : tie.Need-slice-reshare-prefix-sized-verdict
+slice-reshare-prefix-sized-verdict c = search needs
 
-slice-aggregate-words-verdict : tie.Need-slice-aggregate-words-verdict
-slice-aggregate-words-verdict c =
-    sym (words-length _) ∙ sym (ap length (decoded _ _ _ (c .before .before .before .decode .ensures)))
+slice-aggregate-sized-verdict : tie.Need-slice-aggregate-sized-verdict
+slice-aggregate-sized-verdict c = sym (words-length _) ∙ sym (ap length (decoded _ _ _ (c .before .before .before .decode .ensures)))
 
-words-verdict-requires : tie.Need-words-verdict-requires
-words-verdict-requires c κs =
-    parts-whole _ _ _ (c .before .before .before .before .before .before .before .before .before .pre .0) (decoded _ _ _ (c .before .before .before .before .decode .ensures))
+sized-verdict-requires : tie.Need-sized-verdict-requires
+sized-verdict-requires c κs = parts-whole _ _ _ (c .before .before .before .before .before .before .before .before .before .pre .0) (decoded _ _ _ (c .before .before .before .before .decode .ensures))
 
 same-length : tie.Need-same-length
 same-length c = search needs
@@ -28,19 +26,18 @@ same-length-2 c = search needs
 
 returns : tie.Need-returns
 returns c =
-    let o = c .before .before .before .before .before .before .before .before .before .before .before .before in
-    let e = decoded (o .args .bytes .now) _ _ (c .before .before .before .before .before .before .before .decode .ensures) in
-    let v = c .before .before .words-verdict .ensures in
-    (whole-told (o .args .bytes .now) (o .args .s) _ (o .pre .0) e _ _ (v .0), whole-written (o .args .bytes .now) (o .args .s) _ (o .pre .0) e _ _ _ (v .0) (v .1))
+    let e = decoded (c .before .before .before .before .before .before .before .before .before .before .before .before .args .bytes .now) _ _ (c .before .before .before .before .before .before .before .decode .ensures) in
+    let v = c .before .before .sized-verdict .ensures in
+    (whole-told (c .before .before .before .before .before .before .before .before .before .before .before .before .args .bytes .now) (c .before .before .before .before .before .before .before .before .before .before .before .before .args .s) _ (c .before .before .before .before .before .before .before .before .before .before .before .before .pre .0) e _ _ (v .0), whole-written (c .before .before .before .before .before .before .before .before .before .before .before .before .args .bytes .now) (c .before .before .before .before .before .before .before .before .before .before .before .before .args .s) _ (c .before .before .before .before .before .before .before .before .before .before .before .before .pre .0) e _ _ _ (v .0) (v .1))
 
 pub decoded-verdict-spec : {M : Type 1} → statement M
 decoded-verdict-spec =
     tie.close
     (tie.spec
     decode-requires
-    slice-reshare-prefix-words-verdict
-    slice-aggregate-words-verdict
-    words-verdict-requires
+    slice-reshare-prefix-sized-verdict
+    slice-aggregate-sized-verdict
+    sized-verdict-requires
     same-length
     same-length-2
     returns)

@@ -3,14 +3,14 @@ use borrow.Author.Needs.{needs}
 use Rattle.checks.proofs.verdict.long_verdict.Statement.{statement}
 use Rattle.checks.proofs.verdict.long_verdict.Tie as tie
 
-words-29195-requires : tie.Need-words-29195-requires
-words-29195-requires c κs = search needs
+words16-29195-requires : tie.Need-words16-29195-requires
+words16-29195-requires c κs = search needs
 
 slice-aggregate-decoded-verdict : tie.Need-slice-aggregate-decoded-verdict
 slice-aggregate-decoded-verdict c = search needs
 
 decoded-verdict-requires : tie.Need-decoded-verdict-requires
-decoded-verdict-requires c κs = let w = c .before .before .before .before .before .pre in (w, omega (arith, w .bytes-end, w .longest, c .before .before .words-29195 .ensures .room))
+decoded-verdict-requires c κs = (c .before .before .before .before .before .pre, omega (arith, c .before .before .before .before .before .pre .bytes-end, c .before .before .before .before .before .pre .longest, c .before .before .words16-29195 .ensures .room))
 
 same-length : tie.Need-same-length
 same-length c = search needs
@@ -21,4 +21,9 @@ returns c = search needs
 pub long-verdict-spec : {M : Type 1} → statement M
 long-verdict-spec =
     tie.close
-    (tie.spec words-29195-requires slice-aggregate-decoded-verdict decoded-verdict-requires same-length returns)
+    (tie.spec
+    words16-29195-requires
+    slice-aggregate-decoded-verdict
+    decoded-verdict-requires
+    same-length
+    returns)

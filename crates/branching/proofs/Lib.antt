@@ -1,2 +1,0 @@
-mod Codes
-mod Branching

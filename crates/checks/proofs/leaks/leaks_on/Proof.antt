@@ -1,0 +1,99 @@
+use native.Mathlib.Omega.{arith}
+use Rattle.model.specs.Bounds.{bounds}
+use Rattle.checks.proofs.Laying.{rule-room, rule-room-kept, states-few}
+use borrow.Author.Needs.{needs}
+use Rattle.checks.proofs.leaks.leaks_on.Statement.{statement}
+use Rattle.checks.proofs.leaks.leaks_on.Tie as tie
+
+fill-holders-requires : tie.Need-fill-holders-requires
+unfolding bounds
+fill-holders-requires c κs =
+    let l = c .before .before .before .before .before .before .before .before .before .before .before .before .before .before .before .before .before .before .pre .1 .0 in
+    let m = c .before .before .before .before .before .before .before .before .before .before .before .before .before .before .before .before .before .before .pre .1 .1 in
+    ((c .before .before .before .before .before .before .before .before .before .before .before .before .before .before .before .before .before .before .pre .0 .ready .limits .bounds, omega (arith, l .counted, c .before .before .before .before .before .before .before .before .before .before .before .before .before .before .before .before .before .before .pre .0 .few)), (l .limits-table .room, (m .held, m .free)))
+
+words16-1056-requires : tie.Need-words16-1056-requires
+words16-1056-requires c κs = search needs
+
+words16-1056-requires-2 : tie.Need-words16-1056-requires-2
+words16-1056-requires-2 c κs = search needs
+
+words16-1056-requires-3 : tie.Need-words16-1056-requires-3
+words16-1056-requires-3 c κs = search needs
+
+slice-aggregate-no-class : tie.Need-slice-aggregate-no-class
+slice-aggregate-no-class c = search needs
+
+no-class-requires : tie.Need-no-class-requires
+no-class-requires c κs = (c .before .before .before .before .before .before .before .before .before .before .before .before .before .before .before .before .before .before .before .before .before .before .before .before .before .before .before .pre .0 .ready, omega (arith, c .before .before .before .before .before .before .before .before .before .before .before .before .before .before .before .before .before .before .before .before .before .before .before .before .before .before .before .pre .0 .ready .limits .rows .1, c .before .before .before .words16-1056 .ensures .room))
+
+slice-aggregate-fill-groups : tie.Need-slice-aggregate-fill-groups
+slice-aggregate-fill-groups c = search needs
+
+slice-aggregate-fill-groups-2 : tie.Need-slice-aggregate-fill-groups-2
+slice-aggregate-fill-groups-2 c = search needs
+
+slice-aggregate-fill-groups-3 : tie.Need-slice-aggregate-fill-groups-3
+slice-aggregate-fill-groups-3 c = search needs
+
+fill-groups-requires : tie.Need-fill-groups-requires
+fill-groups-requires c κs =
+    let l = c .before .before .before .before .before .before .before .before .before .before .before .before .before .before .before .before .before .before .before .before .before .before .before .before .before .before .before .before .before .before .before .before .before .before .before .pre .1 .0 in
+    (c .before .before .before .before .before .before .before .before .before .before .before .before .before .before .before .before .before .before .before .before .before .before .before .before .before .before .before .before .before .before .before .before .before .before .before .pre .0, (record { counted = l .counted; in-form = l .in-form; limits-table = l .limits-table; starts-table = l .starts-table; held-by = c .before .before .before .before .before .before .before .before .before .before .before .before .before .before .before .before .fill-holders .ensures }, (c .before .before .before .before .before .before .before .no-class .ensures, (rule-room _ _ _ (c .before .before .before .before .before .before .before .before .before .before .before .before .before .before .before .before .before .before .before .before .before .before .before .before .before .before .before .before .before .before .before .before .before .before .before .pre .0 .ready .limits) (c .before .before .before .before .before .before .before .before .before .before .words16-10562 .ensures) (c .before .before .before .before .before .before .before .before .before .words16-10563 .ensures), omega (arith, c .before .before .before .before .before .before .before .before .before .before .before .before .before .before .before .before .before .before .before .before .before .before .before .before .before .before .before .before .before .before .before .before .before .before .before .pre .1 .1 .states, states-few _ _ _ (l .counted))))))
+
+slice-aggregate-leak-check : tie.Need-slice-aggregate-leak-check
+slice-aggregate-leak-check c = search needs
+
+slice-aggregate-leak-check-2 : tie.Need-slice-aggregate-leak-check-2
+slice-aggregate-leak-check-2 c = search needs
+
+slice-aggregate-leak-check-3 : tie.Need-slice-aggregate-leak-check-3
+slice-aggregate-leak-check-3 c = search needs
+
+leak-check-requires : tie.Need-leak-check-requires
+leak-check-requires c κs =
+    let l = c .before .before .before .before .before .before .before .before .before .before .before .before .before .before .before .before .before .before .before .before .before .before .before .before .before .before .before .before .before .before .before .before .before .before .before .before .before .before .before .before .before .before .before .before .before .before .before .before .before .pre .1 .0 in
+    (c .before .before .before .before .before .before .before .before .before .before .before .before .before .before .before .before .before .before .before .before .before .before .before .before .before .before .before .before .before .before .before .before .before .before .before .before .before .before .before .before .before .before .before .before .before .before .before .before .before .pre .0, (record { counted = l .counted; in-form = l .in-form; limits-table = l .limits-table; starts-table = l .starts-table; held-by = c .before .before .before .before .before .before .before .before .before .before .before .before .before .before .before .before .before .before .before .before .before .before .before .before .before .before .before .before .before .before .fill-holders .ensures }, (c .before .before .before .before .before .before .before .before .before .before .before .before .before .fill-groups .ensures .0, (c .before .before .before .before .before .before .before .before .before .before .before .before .before .fill-groups .ensures .1, (omega (arith, c .before .before .before .before .before .before .before .before .before .before .before .before .before .before .before .before .before .before .before .before .before .before .before .before .before .before .before .before .before .before .before .before .before .before .before .before .before .before .before .before .before .before .before .before .before .before .before .before .before .pre .1 .1 .states, states-few _ _ _ (l .counted)), record { rules = rule-room-kept _ _ _ _ _ (rule-room _ _ _ (c .before .before .before .before .before .before .before .before .before .before .before .before .before .before .before .before .before .before .before .before .before .before .before .before .before .before .before .before .before .before .before .before .before .before .before .before .before .before .before .before .before .before .before .before .before .before .before .before .before .pre .0 .ready .limits) (c .before .before .before .before .before .before .before .before .before .before .before .before .before .before .before .before .before .before .before .before .before .before .before .before .words16-10562 .ensures) (c .before .before .before .before .before .before .before .before .before .before .before .before .before .before .before .before .before .before .before .before .before .before .before .words16-10563 .ensures)) (c .before .before .before .before .before .before .before .before .before .before .before .before .before .fill-groups .kept .1 .1 .1 .1 .1 .1 .1 .1 .1 .1 .1 .1 .1 .1 .1 .1 .1 .1 .0) (c .before .before .before .before .before .before .before .before .before .before .before .before .before .fill-groups .kept .1 .1 .1 .1 .1 .1 .1 .1 .1 .1 .1 .1 .1 .1 .1 .1 .1 .1 .1 .0); short-room = c .before .before .before .before .before .before .before .before .before .before .before .before .before .before .before .before .before .before .before .before .before .before .before .before .before .before .before .before .before .before .before .before .before .before .before .before .before .before .before .before .before .before .before .before .before .before .before .before .before .pre .1 .1 .one-less; more-room = c .before .before .before .before .before .before .before .before .before .before .before .before .before .before .before .before .before .before .before .before .before .before .before .before .before .before .before .before .before .before .before .before .before .before .before .before .before .before .before .before .before .before .before .before .before .before .before .before .before .pre .1 .1 .one-more })))))
+
+same-length : tie.Need-same-length
+same-length c = c .before .before .before .before .before .before .before .before .before .before .before .before .before .before .before .before .before .before .before .before .before .before .before .before .before .before .before .before .before .before .before .before .before .before .before .before .before .before .fill-holders .kept .1 .1 .1 .0
+
+same-length-2 : tie.Need-same-length-2
+same-length-2 c = c .before .before .before .before .before .before .before .before .before .before .before .before .before .before .before .before .before .before .before .before .before .before .before .before .before .before .before .before .before .before .before .before .before .before .before .before .before .before .fill-holders .kept .1 .1 .1 .1 .0
+
+same-length-3 : tie.Need-same-length-3
+same-length-3 c = search needs
+
+same-length-4 : tie.Need-same-length-4
+same-length-4 c = search needs
+
+same-length-5 : tie.Need-same-length-5
+same-length-5 c = search needs
+
+returns : tie.Need-returns
+returns c = search needs
+
+pub leaks-on-spec : {M : Type 1} → statement M
+leaks-on-spec =
+    tie.close
+    (tie.spec
+    fill-holders-requires
+    words16-1056-requires
+    words16-1056-requires-2
+    words16-1056-requires-3
+    slice-aggregate-no-class
+    no-class-requires
+    slice-aggregate-fill-groups
+    slice-aggregate-fill-groups-2
+    slice-aggregate-fill-groups-3
+    fill-groups-requires
+    slice-aggregate-leak-check
+    slice-aggregate-leak-check-2
+    slice-aggregate-leak-check-3
+    leak-check-requires
+    same-length
+    same-length-2
+    same-length-3
+    same-length-4
+    same-length-5
+    returns)

@@ -1,0 +1,68 @@
+-- The checks of a message whose parts are whole, in their order: each with all that come behind it.
+use Prim.Native.Nat.{ℕ}
+use mathlib.Core.List.{List}
+use Rattle.model.specs.declared.Sizes.{Sizes}
+use Rattle.model.specs.Verdict.{Check, _>>_}
+use Rattle.model.specs.Rows.{Program, program, row-check}
+use Rattle.model.specs.Scopes.{name-check, scope-check}
+use Rattle.model.specs.Bads.{bad-rows, bad-check}
+use Rattle.model.specs.Tables.{Tables, tables, entry-check}
+use Rattle.model.specs.Closed.{open-check}
+use Rattle.model.specs.Counters.{counter-count, counter-check}
+use Rattle.model.specs.Rules.{rules}
+use Rattle.model.specs.Bounds.{Bounds, bounds, bound-check, start-check, met-check, leak-check}
+use Rattle.model.specs.Listing.{space-check}
+use Rattle.model.specs.Verify.{Message}
+
+-- the message of these words and sizes
+unfoldable pub taken : List ℕ → Sizes → Message
+taken ws s =
+    record {
+      words = ws;
+      sizes = s;
+      program = program ws s;
+      bads = bad-rows ws s;
+      tables = tables ws s;
+      bounds = bounds ws s (counter-count (program ws s) (tables ws s));
+    }
+
+-- the ceilings of the message
+unfoldable pub ceilings : List ℕ → Sizes → Bounds
+ceilings ws s = bounds ws s (counter-count (program ws s) (tables ws s))
+
+module _ (ws : List ℕ) (s : Sizes) (lent : ℕ) where
+  unfoldable pub from-14 : Check
+  from-14 = space-check (program ws s) (tables ws s) lent
+
+  unfoldable pub from-13 : Check
+  from-13 = leak-check ws s (ceilings ws s) (rules (program ws s) (tables ws s)) >> from-14
+
+  unfoldable pub from-12 : Check
+  from-12 = met-check s (program ws s) (tables ws s) (ceilings ws s) (bad-rows ws s) >> from-13
+
+  unfoldable pub from-11 : Check
+  from-11 = start-check s (program ws s) (tables ws s) (ceilings ws s) >> from-12
+
+  unfoldable pub from-10 : Check
+  from-10 = bound-check ws s (counter-count (program ws s) (tables ws s)) >> from-11
+
+  unfoldable pub from-9 : Check
+  from-9 = counter-check s (program ws s) (tables ws s) >> from-10
+
+  unfoldable pub from-8 : Check
+  from-8 = open-check s (program ws s) (tables ws s) >> from-9
+
+  unfoldable pub from-7 : Check
+  from-7 = entry-check s (program ws s) (tables ws s) >> from-8
+
+  unfoldable pub from-6 : Check
+  from-6 = bad-check ws s (program ws s) >> from-7
+
+  unfoldable pub from-5 : Check
+  from-5 = scope-check (program ws s) >> from-6
+
+  unfoldable pub from-4 : Check
+  from-4 = name-check (program ws s) >> from-5
+
+  unfoldable pub from-3 : Check
+  from-3 = row-check (program ws s) >> from-4

@@ -1,0 +1,269 @@
+// Refusal 13: the masks of the ceilings and the rules of each state, over scratch by need.
+use ceilings_leaks::fill_groups;
+use ceilings_leaks::leak_check;
+use ceilings_masks::fill_holders;
+use model::Sizes;
+use model::Verdict;
+use rooms::words16_1056;
+use rooms::words64_512;
+use rooms::words64_2048;
+use rules::no_class;
+ghost use mathlib.Core.Path.{_≡_};
+ghost use Prim.Native.Nat.{_≤_};
+ghost use Rattle.model.specs.Rows.{program};
+ghost use Rattle.model.specs.Tables.{tables};
+ghost use Rattle.model.specs.Rules.{rules};
+ghost use Rattle.model.specs.Bounds.{bounds, leak-check};
+ghost use Rattle.model.specs.Verify.{answer};
+ghost use Rattle.rules.specs.Derived.{Rule-tables};
+ghost use Rattle.checks.specs.Scratch.{Limited, Mask-room};
+
+// Over lent sets of ceilings: one for each counter or state.
+fn leaks_on(
+    ws: &[u16],
+    s: Sizes,
+    afters: &[u16],
+    inners: &[u16],
+    flow_at: &[u16],
+    w: usize,
+    flows: &[u64],
+    names: &[u64],
+    letter_at: &[u16],
+    letters: &[u16],
+    branches: &[u16],
+    n: usize,
+    limits: &[u16],
+    ceiling_at: &[u16],
+    holders: &mut [u64],
+    unbounded: &mut [u64],
+    group: &mut [u64],
+    short: &mut [u64],
+    more: &mut [u64],
+) -> Verdict
+    requires { ⌜ Rule-tables (now ws) s (now afters) (now inners) (now «flow_at») w (now flows) (now names)
+        (now «letter_at») (now letters) (now branches) ⌝ }
+    requires { ⌜ Limited (now ws) s n (now limits) (now «ceiling_at») ⌝ }
+    requires { ⌜ Mask-room n (now holders) (now unbounded) (now group) (now short) (now more) ⌝ }
+    ensures { λ v. ⌜ v ≡
+        answer (leak-check (now (ws .entry)) s (bounds (now (ws .entry)) s n)
+        (rules (program (now (ws .entry)) s) (tables (now (ws .entry)) s))) ⌝ }
+{
+    fill_holders(limits, s.bounds, n, holders, unbounded);
+    let mut at = words16_1056();
+    let mut tos = words16_1056();
+    let mut others = words16_1056();
+    let none = no_class(ws, s, &mut at);
+    let last = fill_groups(
+        ws,
+        s,
+        afters,
+        inners,
+        flow_at,
+        w,
+        flows,
+        names,
+        letter_at,
+        letters,
+        branches,
+        n,
+        limits,
+        ceiling_at,
+        holders,
+        unbounded,
+        none,
+        &mut at,
+        &mut tos,
+        &mut others,
+        group,
+    );
+    leak_check(
+        ws,
+        s,
+        afters,
+        inners,
+        flow_at,
+        w,
+        flows,
+        names,
+        letter_at,
+        letters,
+        branches,
+        n,
+        limits,
+        ceiling_at,
+        holders,
+        unbounded,
+        group,
+        last,
+        &mut at,
+        &mut tos,
+        &mut others,
+        short,
+        more,
+    )
+}
+
+// Refusal 13 of few counters.
+fn few_leaks(
+    ws: &[u16],
+    s: Sizes,
+    afters: &[u16],
+    inners: &[u16],
+    flow_at: &[u16],
+    w: usize,
+    flows: &[u64],
+    names: &[u64],
+    letter_at: &[u16],
+    letters: &[u16],
+    branches: &[u16],
+    n: usize,
+    limits: &[u16],
+    ceiling_at: &[u16],
+) -> Verdict
+    requires { ⌜ Rule-tables (now ws) s (now afters) (now inners) (now «flow_at») w (now flows) (now names)
+        (now «letter_at») (now letters) (now branches) ⌝ }
+    requires { ⌜ Limited (now ws) s n (now limits) (now «ceiling_at») ⌝ }
+    requires { ⌜ n ≤ 128 ⌝ }
+    ensures { λ v. ⌜ v ≡
+        answer (leak-check (now (ws .entry)) s (bounds (now (ws .entry)) s n)
+        (rules (program (now (ws .entry)) s) (tables (now (ws .entry)) s))) ⌝ }
+{
+    let mut holders = words64_512();
+    let mut unbounded = words64_512();
+    let mut group = words64_512();
+    let mut short = words64_512();
+    let mut more = words64_512();
+    leaks_on(
+        ws,
+        s,
+        afters,
+        inners,
+        flow_at,
+        w,
+        flows,
+        names,
+        letter_at,
+        letters,
+        branches,
+        n,
+        limits,
+        ceiling_at,
+        &mut holders,
+        &mut unbounded,
+        &mut group,
+        &mut short,
+        &mut more,
+    )
+}
+
+// Refusal 13 of any number of counters.
+fn many_leaks(
+    ws: &[u16],
+    s: Sizes,
+    afters: &[u16],
+    inners: &[u16],
+    flow_at: &[u16],
+    w: usize,
+    flows: &[u64],
+    names: &[u64],
+    letter_at: &[u16],
+    letters: &[u16],
+    branches: &[u16],
+    n: usize,
+    limits: &[u16],
+    ceiling_at: &[u16],
+) -> Verdict
+    requires { ⌜ Rule-tables (now ws) s (now afters) (now inners) (now «flow_at») w (now flows) (now names)
+        (now «letter_at») (now letters) (now branches) ⌝ }
+    requires { ⌜ Limited (now ws) s n (now limits) (now «ceiling_at») ⌝ }
+    ensures { λ v. ⌜ v ≡
+        answer (leak-check (now (ws .entry)) s (bounds (now (ws .entry)) s n)
+        (rules (program (now (ws .entry)) s) (tables (now (ws .entry)) s))) ⌝ }
+{
+    let mut holders = words64_2048();
+    let mut unbounded = words64_2048();
+    let mut group = words64_2048();
+    let mut short = words64_2048();
+    let mut more = words64_2048();
+    leaks_on(
+        ws,
+        s,
+        afters,
+        inners,
+        flow_at,
+        w,
+        flows,
+        names,
+        letter_at,
+        letters,
+        branches,
+        n,
+        limits,
+        ceiling_at,
+        &mut holders,
+        &mut unbounded,
+        &mut group,
+        &mut short,
+        &mut more,
+    )
+}
+
+// Refusal 13.
+pub fn leak_verdict(
+    ws: &[u16],
+    s: Sizes,
+    afters: &[u16],
+    inners: &[u16],
+    flow_at: &[u16],
+    w: usize,
+    flows: &[u64],
+    names: &[u64],
+    letter_at: &[u16],
+    letters: &[u16],
+    branches: &[u16],
+    n: usize,
+    limits: &[u16],
+    ceiling_at: &[u16],
+) -> Verdict
+    requires { ⌜ Rule-tables (now ws) s (now afters) (now inners) (now «flow_at») w (now flows) (now names)
+        (now «letter_at») (now letters) (now branches) ⌝ }
+    requires { ⌜ Limited (now ws) s n (now limits) (now «ceiling_at») ⌝ }
+    ensures { λ v. ⌜ v ≡
+        answer (leak-check (now (ws .entry)) s (bounds (now (ws .entry)) s n)
+        (rules (program (now (ws .entry)) s) (tables (now (ws .entry)) s))) ⌝ }
+{
+    if n <= 128 {
+        return few_leaks(
+            ws,
+            s,
+            afters,
+            inners,
+            flow_at,
+            w,
+            flows,
+            names,
+            letter_at,
+            letters,
+            branches,
+            n,
+            limits,
+            ceiling_at,
+        );
+    }
+    many_leaks(
+        ws,
+        s,
+        afters,
+        inners,
+        flow_at,
+        w,
+        flows,
+        names,
+        letter_at,
+        letters,
+        branches,
+        n,
+        limits,
+        ceiling_at,
+    )
+}

@@ -1,0 +1,57 @@
+// Refusal 14, and the listing written after none.
+use model::Sizes;
+use model::Verdict;
+use rooms::words16_1056;
+use system_space::space_verdict;
+ghost use mathlib.Core.Path.{_≡_};
+ghost use lib.ListN.{length};
+ghost use Rattle.model.specs.Rows.{program};
+ghost use Rattle.model.specs.Tables.{tables};
+ghost use Rattle.model.specs.Listing.{space-check};
+ghost use Rattle.model.specs.Verify.{answer};
+ghost use Rattle.rules.specs.Derived.{Rule-tables};
+ghost use Rattle.system_space.specs.Space.{words-after};
+
+// Refusal 14, over room for the rules of one state.
+pub fn listing_verdict(
+    ws: &[u16],
+    s: Sizes,
+    afters: &[u16],
+    inners: &[u16],
+    flow_at: &[u16],
+    w: usize,
+    flows: &[u64],
+    names: &[u64],
+    letter_at: &[u16],
+    letters: &[u16],
+    branches: &[u16],
+    lent: &mut [u32],
+) -> Verdict
+    requires { ⌜ Rule-tables (now ws) s (now afters) (now inners) (now «flow_at») w (now flows) (now names)
+        (now «letter_at») (now letters) (now branches) ⌝ }
+    ensures { λ v. ⌜ v ≡
+        answer (space-check (program (now (ws .entry)) s) (tables (now (ws .entry)) s)
+        (length (now (lent .entry)))) ⌝ }
+    ensures { λ v. ⌜ now (lent .exit) ≡ words-after v (now (ws .entry)) s (now (lent .entry)) ⌝ }
+{
+    let mut at = words16_1056();
+    let mut tos = words16_1056();
+    let mut others = words16_1056();
+    space_verdict(
+        ws,
+        s,
+        afters,
+        inners,
+        flow_at,
+        w,
+        flows,
+        names,
+        letter_at,
+        letters,
+        branches,
+        &mut at,
+        &mut tos,
+        &mut others,
+        lent,
+    )
+}

@@ -1,0 +1,135 @@
+// The order of the checks: refusals 3 to 14 of the words of a message whose parts are whole.
+use crate::closes::open_verdict;
+use crate::leaks::leak_verdict;
+use crate::listing::listing_verdict;
+use crate::stages::met_verdict;
+use crate::stages::start_verdict;
+use answers::is_safe;
+use bads::bad_check;
+use bounds::entries::bound_check;
+use ceilings::fill_limits;
+use evidence::entries::entry_check;
+use grammar::row_check;
+use layout::ends::ends;
+use layout::inner::inners;
+use model::Sizes;
+use model::Verdict;
+use rooms::words16_512;
+use rooms::words16_1056;
+use rooms::words64_1024;
+use scopes::names::name_check;
+use scopes::scope::scope_check;
+use system_letters::counter_check;
+use system_letters::counter_count;
+use system_letters::fill_letters;
+use system_letters::fill_names;
+use values::width;
+ghost use mathlib.Core.Path.{_≡_};
+ghost use lib.ListN.{length};
+ghost use Rattle.model.specs.Verify.{message-check, answer};
+ghost use Rattle.evidence.specs.Whole.{Parts-whole};
+ghost use Rattle.system_space.specs.Space.{words-after};
+ghost use Rattle.checks.specs.Order.{taken};
+ghost use Rattle.checks.specs.Scratch.{Flow-room, Limits-room};
+
+// Refusals 3 to 14, one after the other; after none the listing is written.
+pub fn words_verdict(
+    ws: &[u16],
+    s: Sizes,
+    flow: &mut [u64],
+    limits: &mut [u16],
+    lent: &mut [u32],
+) -> Verdict
+    requires { ⌜ Parts-whole (now ws) s ⌝ }
+    requires { ⌜ Flow-room s (now flow) ⌝ }
+    requires { ⌜ Limits-room s (now limits) ⌝ }
+    ensures { λ v. ⌜ v ≡ answer (message-check (taken (now (ws .entry)) s) (length (now (lent .entry)))) ⌝ }
+    ensures { λ v. ⌜ now (lent .exit) ≡ words-after v (now (ws .entry)) s (now (lent .entry)) ⌝ }
+{
+    let rows = row_check(ws, s);
+    if !is_safe(rows) {
+        return rows;
+    }
+    let unique = name_check(ws, s);
+    if !is_safe(unique) {
+        return unique;
+    }
+    let afters = ends(ws, s);
+    let scopes = scope_check(ws, s, &afters);
+    if !is_safe(scopes) {
+        return scopes;
+    }
+    let bads = bad_check(ws, s);
+    if !is_safe(bads) {
+        return bads;
+    }
+    let entries = entry_check(ws, s);
+    if !is_safe(entries) {
+        return entries;
+    }
+    let owners = inners(ws, s, &afters);
+    let mut starts = words16_1056();
+    let mut branches = words16_1056();
+    let open = open_verdict(ws, s, &afters, &owners, &mut starts, flow, &mut branches);
+    if !is_safe(open) {
+        return open;
+    }
+    let mut letter_at = words16_1056();
+    let mut letters = words16_512();
+    fill_letters(ws, s, &mut letter_at, &mut letters);
+    let counters = counter_check(ws, s, &letter_at, &letters);
+    if !is_safe(counters) {
+        return counters;
+    }
+    let n = counter_count(ws, s, &letter_at, &letters);
+    let form = bound_check(ws, s, n);
+    if !is_safe(form) {
+        return form;
+    }
+    let mut ceiling_at = words16_512();
+    fill_limits(ws, s, n, limits, &mut ceiling_at);
+    let begins = start_verdict(ws, s, &afters, n, limits);
+    if !is_safe(begins) {
+        return begins;
+    }
+    let met = met_verdict(ws, s, &letter_at, &letters, n, limits);
+    if !is_safe(met) {
+        return met;
+    }
+    let mut names = words64_1024();
+    fill_names(ws, s, &mut names);
+    let w = width(s);
+    let leak = leak_verdict(
+        ws,
+        s,
+        &afters,
+        &owners,
+        &starts,
+        w,
+        flow,
+        &names,
+        &letter_at,
+        &letters,
+        &branches,
+        n,
+        limits,
+        &ceiling_at,
+    );
+    if !is_safe(leak) {
+        return leak;
+    }
+    listing_verdict(
+        ws,
+        s,
+        &afters,
+        &owners,
+        &starts,
+        w,
+        flow,
+        &names,
+        &letter_at,
+        &letters,
+        &branches,
+        lent,
+    )
+}

@@ -1,3 +1,0 @@
-pub mod Openings
-pub mod Dispatch
-pub mod Answers

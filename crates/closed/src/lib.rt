@@ -1,3 +1,0 @@
-// Closed tables: refusal 8.
-pub mod opening;
-pub mod states;

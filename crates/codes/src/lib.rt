@@ -1,0 +1,47 @@
+// What a head asks whatever the class, settled once for each head.
+use model::Sizes;
+use settled::settle;
+ghost use mathlib.Core.Path.{_≡_};
+ghost use Prim.Native.Nat.{_<_};
+ghost use Rattle.model.specs.Rows.{program};
+ghost use Rattle.model.specs.Tables.{tables};
+ghost use Rattle.lists.specs.Ready.{Ready};
+ghost use Rattle.positions.specs.Positions.{Ends};
+ghost use Rattle.values.specs.Values.{Flow-sets, Mail-sets, Flow-starts};
+ghost use Rattle.matching.specs.Patterns.{Matches};
+ghost use Rattle.settled.specs.Settled.{Settled};
+ghost use Rattle.codes.specs.Codes.{Codes};
+
+// What the head at row r asks: as it is kept, else settled and kept.
+pub fn code_at(
+    ws: &[u16],
+    s: Sizes,
+    afters: &[u16],
+    starts: &[u16],
+    flow: &[u64],
+    mail: &[u64],
+    may: &[u64],
+    held: &[u64],
+    codes: &mut [u32],
+    r: usize,
+) -> usize
+    requires { ⌜ Ready (now ws) s ⌝ }
+    requires { ⌜ Ends (program (now ws) s) (now afters) ⌝ }
+    requires { ⌜ Flow-starts (program (now ws) s) (tables (now ws) s) (now starts) ⌝ }
+    requires { ⌜ Flow-sets (program (now ws) s) (tables (now ws) s) (now flow) ⌝ }
+    requires { ⌜ Mail-sets (program (now ws) s) (tables (now ws) s) (now mail) ⌝ }
+    requires { ⌜ Matches (program (now ws) s) (tables (now ws) s) (now may) (now held) 0 ⌝ }
+    requires { ⌜ Codes (program (now ws) s) (tables (now ws) s) (now codes) ⌝ }
+    requires { ⌜ r < s .rows ⌝ }
+    ensures { λ k. ⌜ Settled (program (now (ws .entry)) s) (tables (now (ws .entry)) s) r k ⌝ }
+    ensures { λ k. ⌜ Codes (program (now (ws .entry)) s) (tables (now (ws .entry)) s) (now (codes .exit)) ⌝ }
+{
+    let known = codes[r] as usize;
+    if known > 0 {
+        return known - 1;
+    }
+    let k = settle(ws, s, afters, starts, flow, mail, may, held, r);
+    let word = k + 1;
+    codes[r] = word as u32;
+    k
+}

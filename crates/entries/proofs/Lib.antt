@@ -1,4 +1,0 @@
-pub mod Narrow
-pub mod Held
-pub mod Turns
-pub mod Filled

@@ -1,6 +1,0 @@
-mod Lent
-mod Apart
-mod Walk
-mod Cases
-mod Mails
-mod Heads

@@ -1,3 +1,0 @@
-pub mod Low
-pub mod Putting
-pub mod Whole

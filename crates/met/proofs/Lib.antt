@@ -1,2 +1,0 @@
-pub mod BadRows
-pub mod Meeting

@@ -1,2 +1,0 @@
-// The rules of each state, as slots.
-pub mod slots;
