@@ -26,6 +26,8 @@ use Rattle.ceilings.specs.Table.{held}
 use Rattle.ceilings_masks.specs.declared.Over.{Over}
 use Rattle.ceilings_masks.specs.Compared.{reaches, allows, most, exceeds, exceeds-by-one, takes-more, Counted, Neighbours}
 use Rattle.ceilings_masks.proofs.Comparing.{allows-one}
+use Rattle.steps.specs.Steps.{limit-after}
+use Rattle.steps.proofs.Raising.{stepped-decides}
 use Rattle.ceilings_covers.specs.Covers.{Beside, covers, passes, Left, Candidates, Step-apart, reading, named}
 use Rattle.ceilings_covers.proofs.Exceeding.{none-others, others-none, one-others, others-one, two-others, others-two}
 
@@ -219,6 +221,11 @@ module _ (limits : List ℕ) (ceilings k : ℕ) where
   pub passes-is : (k′ : ℕ) (σ : Step) (y h count l : ℕ) (b : Bool) → σ .kind ≤ 3 → h ≡ highest (held limits ceilings k) y → count ≡ fire (rule-of-step σ) (λ _. h) y → l ≡ held limits ceilings k′ y → b ≡ allowed l count → b ≡ passes limits ceilings k k′ σ y
   unfolding passes
   passes-is k′ σ y h count l b small e f g r = r ∙ rw (g, f, fire-alone σ (λ _. h) (highest (held limits ceilings k)) y small e)
+
+  -- passes by the limit after the step, where the limit of the other ceiling is a limit
+  pub passes-stepped : (k′ : ℕ) (σ : Step) (y h after l : ℕ) (b : Bool) → σ .kind ≤ 3 → h ≡ highest (held limits ceilings k) y → after ≡ limit-after h σ y → l ≡ held limits ceilings k′ y → l ≤ omega-limit → b ≡ allowed l after → b ≡ passes limits ceilings k k′ σ y
+  passes-stepped k′ σ y h after l b small e f g bound r =
+      passes-is k′ σ y h (fire (rule-of-step σ) (λ _. h) y) l b small e refl g (r ∙ rw f (stepped-decides σ l y h small bound))
 
   -- what is held once at least
   held-one : (x : ℕ) → 1 ≤ highest (held limits ceilings k) x → 1 ≤ held limits ceilings k x

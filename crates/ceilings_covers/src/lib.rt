@@ -11,7 +11,7 @@ use masks::load;
 use masks::or;
 use masks::without;
 use steps::Step;
-use steps::count_after;
+use steps::limit_after;
 use steps::takes_other;
 ghost use mathlib.Core.Path.{_≡_};
 ghost use mathlib.Core.Bool.{true, false, _||_};
@@ -264,6 +264,6 @@ pub fn passes(limits: &[u16], ceilings: usize, k: usize, k2: usize, step: Step, 
     requires { ⌜ step .kind ≤ 3 ⌝ }
     ensures { λ r. ⌜ r ≡ passes (now (limits .entry)) ceilings k k2 step y ⌝ }
 {
-    let count = count_after(highest(limits, ceilings, k, y), step, y);
-    is_allowed(limit(limits, ceilings, k2, y), count)
+    let after = limit_after(highest(limits, ceilings, k, y), step, y);
+    is_allowed(limit(limits, ceilings, k2, y), after as usize)
 }

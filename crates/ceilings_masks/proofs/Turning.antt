@@ -1,12 +1,12 @@
 -- One ceiling beside the others, counter by counter.
-use Prim.Native.Nat.{ℕ, zero, suc, _+_, _-_, _≤_, _<_}
+use Prim.Native.Nat.{ℕ, zero, suc, _+_, _*_, _-_, _≤_, _<_}
 use native.Mathlib.Decide.{ℕ-discrete, decLt}
 use native.Mathlib.Omega.{arith}
 use mathlib.Core.Path.{_≡_, refl, sym, _∙_, ap}
 use mathlib.Core.Bool.{Bool, true, false, not, _&&_, _||_}
 use mathlib.Core.List.{List}
 use lib.Dec.{leb, ltb, eqb}
-use lib.ListN.{length}
+use lib.ListN.{length, getD}
 use borrow.Author.Tests.{eq-eqb, ne-eqb, le-leb, lt-leb, lt-ltb}
 use Rattle.model.specs.Limits.{omega-limit}
 use Rattle.model.specs.Index.{count}
@@ -21,6 +21,8 @@ use Rattle.bounds.proofs.Limited.{highest-limit}
 use Rattle.ceilings.specs.Table.{held}
 use Rattle.ceilings.proofs.Ahead.{Ahead, Counter-here, ahead-counter, ahead-none, ahead-inside}
 use Rattle.ceilings_masks.specs.declared.Over.{Over}
+use Rattle.steps.specs.Steps.{raised, as-limit}
+use Rattle.steps.proofs.Raising.{next-allowed}
 use Rattle.ceilings_masks.specs.Compared.{allows, most, exceeds, exceeds-by-one, takes-more, exceeded, Counted, Neighbours}
 
 -- a set said in other words
@@ -89,9 +91,10 @@ module _ (limits : List ℕ) (ceilings k : ℕ) where
     unfolding exceeds-by-one
     by-one-as m fewer held-by low z a b is j l = is j ∙ rw (a j l, b j l, z, is-most)
 
-    pub more-as : (m : Mask) (high : ℕ) → high ≡ h + 1 → ((j : ℕ) → j < 256 → has m j ≡ allows limits ceilings x high j) → (j : ℕ) → j < 256 → has m j ≡ takes-more limits ceilings k x j
-    unfolding takes-more
-    more-as m high z a j l = a j l ∙ rw (z, is-most)
+    pub more-as : (m : Mask) (high : ℕ) → high ≡ raised (as-limit h) → ((i : ℕ) → getD limits i 0 < 65536) → ((j : ℕ) → j < 256 → has m j ≡ allows limits ceilings x high j) → (j : ℕ) → j < 256 → has m j ≡ takes-more limits ceilings k x j
+    unfolding takes-more allows
+    more-as m high z small a j l =
+        a j l ∙ (ap (λ b. ltb j ceilings && b) (next-allowed (held limits ceilings j x) h high (let b = small (x * ceilings + j) in omega arith) z) ∙ rw is-most)
 
   -- no counter yet
   pub counted-start : (over : Over) → ((j : ℕ) → has (over .once) j ≡ false) → ((j : ℕ) → has (over .twice) j ≡ false) → ((j : ℕ) → has (over .thrice) j ≡ false) → Counted limits ceilings 0 k over

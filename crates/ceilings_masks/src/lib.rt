@@ -12,8 +12,9 @@ use masks::store;
 use masks::without;
 use model::OMEGA;
 use model::Sizes;
+use steps::as_limit;
 use steps::one_less;
-use steps::one_more;
+use steps::raised;
 ghost use mathlib.Core.Path.{_≡_};
 ghost use mathlib.Core.Bool.{_&&_, _||_};
 ghost use Prim.Native.Nat.{ℕ, _+_, _*_, _≤_, _<_};
@@ -174,7 +175,15 @@ fn put_counter(
     let most = highest(limits, ceilings, k, x);
     let held = allowing(limits, ceilings, n, holders, unbounded, x, most);
     let fewer = allowing(limits, ceilings, n, holders, unbounded, x, one_less(most));
-    let next = allowing(limits, ceilings, n, holders, unbounded, x, one_more(most));
+    let next = allowing(
+        limits,
+        ceilings,
+        n,
+        holders,
+        unbounded,
+        x,
+        raised(as_limit(most)) as usize,
+    );
     store(short, x, without(fewer, held));
     store(more, x, next);
     without(below(ceilings), held)

@@ -1,9 +1,9 @@
 // A step of the counts: a rule by value, and the count of a counter after it.
 ghost use mathlib.Core.Path.{_≡_};
-ghost use Prim.Native.Nat.{_+_, _-_, _≤_};
+ghost use Prim.Native.Nat.{_-_, _≤_};
 ghost use Rattle.model.specs.Limits.{omega-limit};
-ghost use Rattle.model.specs.Markings.{fire};
-ghost use Rattle.steps.specs.Steps.{rule-of-step, effect-kind, takes-other, adds-other, less-if, more-if};
+ghost use Rattle.steps.specs.Steps.{effect-kind, takes-other, adds-other, less-if};
+ghost use Rattle.steps.specs.Steps.{raised, raise-if, as-limit, limit-after};
 
 // A rule: from a counter to a counter, and by its kind nothing (0), another counter read (1) or put (2), or a new
 // state (3).
@@ -28,19 +28,33 @@ pub fn effect_kind(tag: usize) -> usize
     if tag == 9 { 1 } else { 0 }
 }
 
-// One more of a count: 65,534 goes on to 65,535, which lies under unbounded alone.
-pub fn one_more(count: usize) -> usize
-    requires { ⌜ count ≤ omega-limit + 2 ⌝ }
-    ensures { λ r. ⌜ r ≡ count + 1 ⌝ }
+// The limit that means unbounded.
+const UNBOUNDED: u16 = 65535;
+
+// One more of a limit: one times the truth of being below the unbounded mark is added, in a wider number. So 65,534
+// goes on to 65,535, which lies under unbounded alone, and the mark stays.
+pub fn raised(limit: u16) -> u32
+    ensures { λ r. ⌜ r ≡ raised limit ⌝ }
+    ensures { λ r. ⌜ r ≤ omega-limit ⌝ }
 {
-    count + 1
+    limit as u32 + 1 * (limit < UNBOUNDED) as u32
 }
 
-fn more_if(test: bool, count: usize) -> usize
-    requires { ⌜ count ≤ omega-limit + 2 ⌝ }
-    ensures { λ r. ⌜ r ≡ more-if test count ⌝ }
+fn raise_if(test: bool, limit: u16) -> u16
+    ensures { λ r. ⌜ r ≡ raise-if test limit ⌝ }
 {
-    if test { one_more(count) } else { count }
+    if test { raised(limit) as u16 } else { limit }
+}
+
+// A count as a limit: unbounded where it is past every limit.
+pub fn as_limit(count: usize) -> u16
+    ensures { λ r. ⌜ r ≡ as-limit count ⌝ }
+{
+    if count < 65535 {
+        count as u16
+    } else {
+        UNBOUNDED
+    }
 }
 
 // One less of a count, and 0 of none.
@@ -68,14 +82,13 @@ fn adds_other(step: Step, y: usize) -> bool
     2 <= step.kind && y == step.other
 }
 
-// The count of counter y after the step, where it was `count` before.
-pub fn count_after(count: usize, step: Step, y: usize) -> usize
-    requires { ⌜ count ≤ omega-limit + 1 ⌝ }
-    requires { ⌜ step .kind ≤ 3 ⌝ }
-    ensures { λ r. ⌜ r ≡ fire (rule-of-step step) (λ _. count) y ⌝ }
+// The limit of counter y after the step, where its highest count was `count`: what the step takes is taken from the
+// count, what it adds raises the limit.
+pub fn limit_after(count: usize, step: Step, y: usize) -> u16
+    ensures { λ r. ⌜ r ≡ limit-after count step y ⌝ }
 {
     let left = less_if(y == step.from, count);
     let taken = less_if(takes_other(step, y), left);
-    let moved = more_if(y == step.to, taken);
-    more_if(adds_other(step, y), moved)
+    let moved = raise_if(y == step.to, as_limit(taken));
+    raise_if(adds_other(step, y), moved)
 }

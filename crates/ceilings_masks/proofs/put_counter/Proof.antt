@@ -1,5 +1,7 @@
 use native.Mathlib.Omega.{arith}
+use mathlib.Core.Path.{_∙_, ap}
 use Rattle.ceilings.proofs.Cells.{row-in}
+use Rattle.steps.specs.Steps.{raised}
 use Rattle.ceilings_masks.proofs.Turning.{set-as, exceeds-as, by-one-as, more-as}
 use borrow.Author.Needs.{needs}
 use Rattle.ceilings_masks.proofs.put_counter.Statement.{statement}
@@ -17,20 +19,26 @@ one-less-requires c κs = search needs
 allowing-requires-2 : tie.Need-allowing-requires-2
 allowing-requires-2 c κs = search needs
 
-one-more-requires : tie.Need-one-more-requires
-one-more-requires c κs = search needs
+as-limit-requires : tie.Need-as-limit-requires
+as-limit-requires c κs = search needs
+
+raised-requires : tie.Need-raised-requires
+raised-requires c κs = search needs
+
+cast-allowing : tie.Need-cast-allowing
+cast-allowing c = search needs
 
 allowing-requires-3 : tie.Need-allowing-requires-3
-allowing-requires-3 c κs = (c .before .before .before .before .before .before .before .before .before .before .pre .0, (c .before .before .before .before .before .before .before .before .before .before .pre .1 .1 .0, c .before .before .before .before .before .before .before .before .before .before .pre .1 .1 .1 .0))
+allowing-requires-3 c κs = (c .before .before .before .before .before .before .before .before .before .before .before .pre .0, (c .before .before .before .before .before .before .before .before .before .before .before .pre .1 .1 .0, c .before .before .before .before .before .before .before .before .before .before .before .pre .1 .1 .1 .0))
 
 without-requires : tie.Need-without-requires
 without-requires c κs = search needs
 
 store-requires : tie.Need-store-requires
-store-requires c κs = record { room = omega (arith, c .before .before .before .before .before .before .before .before .before .before .before .before .before .pre .0 .1, c .before .before .before .before .before .before .before .before .before .before .before .before .before .pre .1 .1 .1 .1 .0) }
+store-requires c κs = record { room = omega (arith, c .before .before .before .before .before .before .before .before .before .before .before .before .before .before .pre .0 .1, c .before .before .before .before .before .before .before .before .before .before .before .before .before .before .pre .1 .1 .1 .1 .0) }
 
 store-requires-2 : tie.Need-store-requires-2
-store-requires-2 c κs = record { room = omega (arith, c .before .before .before .before .before .before .before .before .before .before .before .before .before .before .before .before .before .pre .0 .1, c .before .before .before .before .before .before .before .before .before .before .before .before .before .before .before .before .before .pre .1 .1 .1 .1 .1) }
+store-requires-2 c κs = record { room = omega (arith, c .before .before .before .before .before .before .before .before .before .before .before .before .before .before .before .before .before .before .pre .0 .1, c .before .before .before .before .before .before .before .before .before .before .before .before .before .before .before .before .before .before .pre .1 .1 .1 .1 .1) }
 
 below-requires : tie.Need-below-requires
 below-requires c κs = search needs
@@ -46,12 +54,11 @@ same-length-2 c = search needs
 
 returns : tie.Need-returns
 returns c =
-    let a = c .before .before .before .before .before .before .before .before .before .before .before .before .before .before .before .before .before .before .before .before .before .before .args in
-    let most = c .before .before .before .before .before .before .before .before .before .before .before .before .before .before .before .before .highest .ensures .0 in (
-      exceeds-as _ _ _ _ _ most _ _ _ (c .before .below .ensures) (c .before .before .before .before .before .before .before .before .before .before .before .before .before .before .before .allowing .ensures) (c .without2 .ensures),
+    let most = c .before .before .before .before .before .before .before .before .before .before .before .before .before .before .before .before .before .highest .ensures .0 in (
+      exceeds-as _ _ _ _ _ most _ _ _ (c .before .below .ensures) (c .before .before .before .before .before .before .before .before .before .before .before .before .before .before .before .before .allowing .ensures) (c .without2 .ensures),
       (
-        set-as _ _ _ _ _ (c .before .before .before .before .before .before .before .before .store .ensures) (by-one-as _ _ _ _ _ most _ _ _ _ (c .before .before .before .before .before .before .before .before .before .before .before .before .before .before .one-less .ensures) (c .before .before .before .before .before .before .before .before .before .before .before .before .before .allowing2 .ensures) (c .before .before .before .before .before .before .before .before .before .before .before .before .before .before .before .allowing .ensures) (c .before .before .before .before .before .before .before .before .before .without .ensures)),
-        set-as _ _ _ _ _ (c .before .before .before .before .store2 .ensures) (more-as _ _ _ _ _ most _ _ (c .before .before .before .before .before .before .before .before .before .before .before .before .one-more .ensures) (c .before .before .before .before .before .before .before .before .before .before .before .allowing3 .ensures)),
+        set-as _ _ _ _ _ (c .before .before .before .before .before .before .before .before .store .ensures) (by-one-as _ _ _ _ _ most _ _ _ _ (c .before .before .before .before .before .before .before .before .before .before .before .before .before .before .before .one-less .ensures) (c .before .before .before .before .before .before .before .before .before .before .before .before .before .before .allowing2 .ensures) (c .before .before .before .before .before .before .before .before .before .before .before .before .before .before .before .before .allowing .ensures) (c .before .before .before .before .before .before .before .before .before .without .ensures)),
+        set-as _ _ _ _ _ (c .before .before .before .before .store2 .ensures) (more-as (c .before .before .before .before .before .before .before .before .before .before .before .before .before .before .before .before .before .before .before .before .before .before .before .args .limits .now) _ _ _ _ most _ _ (c .before .before .before .before .before .before .before .before .before .before .before .before .raised .ensures .0 ∙ ap raised (c .before .before .before .before .before .before .before .before .before .before .before .before .before .as-limit .ensures)) (λ i. omega (arith, c .before .before .before .before .before .before .before .before .before .before .before .before .before .before .before .before .before .before .before .before .before .before .shared-slice-known .given i)) (c .before .before .before .before .before .before .before .before .before .before .before .allowing3 .ensures)),
       ),
     )
 
@@ -63,7 +70,9 @@ put-counter-spec =
     allowing-requires
     one-less-requires
     allowing-requires-2
-    one-more-requires
+    as-limit-requires
+    raised-requires
+    cast-allowing
     allowing-requires-3
     without-requires
     store-requires
