@@ -236,6 +236,7 @@ pub fn leak_check(
                     left,
                     step,
                 );
+                // every candidate of a sure step covers
                 if surely_covered(step, mask) {
                     continue 'rules;
                 }
