@@ -7,6 +7,7 @@ use ceilings_covers::is_usable;
 use ceilings_covers::left_after;
 use ceilings_covers::named;
 use ceilings_covers::passes;
+use ceilings_covers::surely_covered;
 use ceilings_groups::open_to_all;
 use ceilings_groups::settled;
 use ceilings_masks::compare;
@@ -235,15 +236,19 @@ pub fn leak_check(
                     left,
                     step,
                 );
+                // every candidate of a sure step covers
+                if surely_covered(step, mask) {
+                    continue 'rules;
+                }
                 let mut a = first_set(mask);
                 'candidates: while a < 256 {
                     let k2 = a;
-                    a = next_in(mask, k2 + 1);
                     for b in 0..NAMED {
                         let y = named(step, b);
                         if y < n {
                             // the first limit exceeded
                             if !passes(limits, s.bounds, k, k2, step, y) {
+                                a = next_in(mask, k2 + 1);
                                 continue 'candidates;
                             }
                         }
