@@ -152,16 +152,6 @@ mask-room k n holders unbounded group short more h a b c d e =
       one-more = let q = e .room in omega arith;
     }
 
--- room after a call that keeps the lengths
-pub rule-room-kept : (s : Sizes) (tos others tos′ others′ : List ℕ) → Rule-room s tos others → length tos′ ≡ length tos → length others′ ≡ length others → Rule-room s tos′ others′
-rule-room-kept s tos others tos′ others′ r a b =
-    record {
-      values = let z = r .values in omega arith;
-      letters = let z = r .letters in omega arith;
-      counters = let z = r .counters in omega arith;
-      alike = b ∙ (r .alike ∙ sym a);
-    }
-
 -- each state is a counter
 pub states-few : (ws : List ℕ) (s : Sizes) (n : ℕ) → n ≡ counter-count (program ws s) (tables ws s) → s .states ≤ n
 unfolding counter-count tables entries columns

@@ -100,7 +100,7 @@ pub fn words_verdict(
     let mut names = words64_1024();
     fill_names(ws, s, &mut names);
     let w = width(s);
-    let leak = leak_verdict(
+    let leaks = leak_verdict(
         ws,
         s,
         &afters,
@@ -116,9 +116,11 @@ pub fn words_verdict(
         limits,
         &ceiling_at,
     );
+    let leak = leaks.verdict;
     if !is_safe(leak) {
         return leak;
     }
+    let totals = leaks.totals;
     listing_verdict(
         ws,
         s,
@@ -131,6 +133,7 @@ pub fn words_verdict(
         &letter_at,
         &letters,
         &branches,
+        totals,
         lent,
     )
 }

@@ -38,7 +38,7 @@ leaks-on-requires : tie.Need-leaks-on-requires
 leaks-on-requires c κs = (c .before .before .before .before .before .before .before .before .before .before .before .before .before .before .before .before .before .before .before .before .before .pre .0, (c .before .before .before .before .before .before .before .before .before .before .before .before .before .before .before .before .before .before .before .before .before .pre .1 .0, mask-room _ _ _ _ _ _ _ (omega (arith, c .before .before .before .before .before .before .before .before .before .before .before .before .before .before .before .before .before .before .before .before .before .pre .1 .1)) (c .before .before .before .before .before .before .before .before .before .words64-512 .ensures) (c .before .before .before .before .before .before .before .before .words64-5122 .ensures) (c .before .before .before .before .before .before .before .words64-5123 .ensures) (c .before .before .before .before .before .before .words64-5124 .ensures) (c .before .before .before .before .before .words64-5125 .ensures)))
 
 returns : tie.Need-returns
-returns c = search needs
+returns c = c .before .before .before .before .before .leaks-on .ensures
 
 pub few-leaks-spec : {M : Type 1} → statement M
 few-leaks-spec =
