@@ -5,7 +5,7 @@ use ceilings_masks::fill_holders;
 use model::Sizes;
 use model::Verdict;
 use rooms::words16_1056;
-use rooms::words64_512;
+use rooms::words64_130;
 use rooms::words64_2048;
 use rules::no_class;
 use system_totals::Totals;
@@ -135,17 +135,17 @@ fn few_leaks(
     requires { ⌜ Rule-tables (now ws) s (now afters) (now inners) (now «flow_at») w (now flows) (now names)
         (now «letter_at») (now letters) (now branches) ⌝ }
     requires { ⌜ Limited (now ws) s n (now limits) (now «ceiling_at») ⌝ }
-    requires { ⌜ n ≤ 128 ⌝ }
+    requires { ⌜ n ≤ 32 ⌝ }
     ensures { λ l. ⌜ l .verdict ≡
         answer (leak-check (now (ws .entry)) s (bounds (now (ws .entry)) s n)
         (rules (program (now (ws .entry)) s) (tables (now (ws .entry)) s))) ⌝ }
     ensures { λ l. ⌜ Totalled (program (now (ws .entry)) s) (tables (now (ws .entry)) s) (l .totals) ⌝ }
 {
-    let mut holders = words64_512();
-    let mut unbounded = words64_512();
-    let mut group = words64_512();
-    let mut short = words64_512();
-    let mut more = words64_512();
+    let mut holders = words64_130();
+    let mut unbounded = words64_130();
+    let mut group = words64_130();
+    let mut short = words64_130();
+    let mut more = words64_130();
     leaks_on(
         ws,
         s,
@@ -247,7 +247,7 @@ pub fn leak_verdict(
         (rules (program (now (ws .entry)) s) (tables (now (ws .entry)) s))) ⌝ }
     ensures { λ l. ⌜ Totalled (program (now (ws .entry)) s) (tables (now (ws .entry)) s) (l .totals) ⌝ }
 {
-    if n <= 128 {
+    if n <= 32 {
         return few_leaks(
             ws,
             s,
