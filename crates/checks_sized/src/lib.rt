@@ -1,7 +1,5 @@
 // The tables that most checks read, in three sizes each, so that a small message does not pay for a large one: the
 // values of names by the rows and names, the limits of the ceilings by the ceilings and the most counters there may be.
-// The largest of each is lent by a function that is called at two places: one with a single caller becomes part of it,
-// and a small message would have the frame of a large one.
 pub mod verdict;
 
 use checks::order::words_verdict;
@@ -68,11 +66,8 @@ fn flow_verdict(ws: &[u16], s: Sizes, flow: &mut [u64], lent: &mut [u32]) -> Ver
     if cells <= 2048 {
         return few_limits(ws, s, flow, lent);
     }
-    if s.bounds <= 64 {
-        if cells <= 16384 {
-            return more_limits(ws, s, flow, lent);
-        }
-        return all_limits(ws, s, flow, lent);
+    if cells <= 16384 {
+        return more_limits(ws, s, flow, lent);
     }
     all_limits(ws, s, flow, lent)
 }
@@ -119,7 +114,6 @@ pub fn sized_verdict(ws: &[u16], s: Sizes, lent: &mut [u32]) -> Verdict
         if s.names <= 64 {
             return small_flow(ws, s, lent);
         }
-        return large_flow(ws, s, lent);
     }
     if s.rows <= 256 {
         if s.names <= 256 {

@@ -172,8 +172,7 @@ fn large_open(
     )
 }
 
-// Refusal 8; after none the tables that later checks read are filled. That of any message is called at two places: a
-// function with one caller becomes part of it, and a small message would have the frame of a large one.
+// Refusal 8; after none the tables that later checks read are filled.
 pub fn open_verdict(
     ws: &[u16],
     s: Sizes,
@@ -200,7 +199,6 @@ pub fn open_verdict(
         if s.names <= 64 {
             return small_open(ws, s, afters, inners, starts, flow, branches);
         }
-        return large_open(ws, s, afters, inners, starts, flow, branches);
     }
     if s.rows <= 256 {
         if s.names <= 256 {

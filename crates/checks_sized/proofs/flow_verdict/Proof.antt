@@ -23,7 +23,7 @@ returns : tie.Need-returns
 returns c = search needs
 
 more-limits-requires : tie.Need-more-limits-requires
-more-limits-requires c κs = (c .before .before .before .before .before .before .before .before .before .before .before .pre .0, (c .before .before .before .before .before .before .before .before .before .before .before .pre .1, c .before .before .if3 .taken))
+more-limits-requires c κs = (c .before .before .before .before .before .before .before .before .before .pre .0, (c .before .before .before .before .before .before .before .before .before .pre .1, c .before .before .if2 .taken))
 
 same-length-3 : tie.Need-same-length-3
 same-length-3 c = search needs
@@ -46,18 +46,6 @@ same-length-6 c = search needs
 returns-3 : tie.Need-returns-3
 returns-3 c = search needs
 
-all-limits-requires-2 : tie.Need-all-limits-requires-2
-all-limits-requires-2 c κs = search needs
-
-same-length-7 : tie.Need-same-length-7
-same-length-7 c = search needs
-
-same-length-8 : tie.Need-same-length-8
-same-length-8 c = search needs
-
-returns-4 : tie.Need-returns-4
-returns-4 c = search needs
-
 pub flow-verdict-spec : {M : Type 1} → statement M
 flow-verdict-spec =
     tie.close
@@ -75,8 +63,4 @@ flow-verdict-spec =
     all-limits-requires
     same-length-5
     same-length-6
-    returns-3
-    all-limits-requires-2
-    same-length-7
-    same-length-8
-    returns-4)
+    returns-3)

@@ -11,8 +11,8 @@ same-length c = search needs
 returns : tie.Need-returns
 returns c = search needs
 
-large-flow-requires : tie.Need-large-flow-requires
-large-flow-requires c κs = search needs
+middle-flow-requires : tie.Need-middle-flow-requires
+middle-flow-requires c κs = (c .before .before .before .before .before .before .before .before .before .pre, (c .before .before .before .if3 .taken, c .before .if4 .taken))
 
 same-length-2 : tie.Need-same-length-2
 same-length-2 c = search needs
@@ -20,23 +20,14 @@ same-length-2 c = search needs
 returns-2 : tie.Need-returns-2
 returns-2 c = search needs
 
-middle-flow-requires : tie.Need-middle-flow-requires
-middle-flow-requires c κs = (c .before .before .before .before .before .before .before .before .before .pre, (c .before .before .before .if3 .taken, c .before .if4 .taken))
+large-flow-requires : tie.Need-large-flow-requires
+large-flow-requires c κs = search needs
 
 same-length-3 : tie.Need-same-length-3
 same-length-3 c = search needs
 
 returns-3 : tie.Need-returns-3
 returns-3 c = search needs
-
-large-flow-requires-2 : tie.Need-large-flow-requires-2
-large-flow-requires-2 c κs = search needs
-
-same-length-4 : tie.Need-same-length-4
-same-length-4 c = search needs
-
-returns-4 : tie.Need-returns-4
-returns-4 c = search needs
 
 pub sized-verdict-spec : {M : Type 1} → statement M
 sized-verdict-spec =
@@ -45,12 +36,9 @@ sized-verdict-spec =
     small-flow-requires
     same-length
     returns
-    large-flow-requires
+    middle-flow-requires
     same-length-2
     returns-2
-    middle-flow-requires
+    large-flow-requires
     same-length-3
-    returns-3
-    large-flow-requires-2
-    same-length-4
-    returns-4)
+    returns-3)

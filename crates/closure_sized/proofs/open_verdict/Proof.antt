@@ -17,8 +17,8 @@ same-length-3 c = search needs
 returns : tie.Need-returns
 returns c = search needs
 
-large-open-requires : tie.Need-large-open-requires
-large-open-requires c κs = search needs
+middle-open-requires : tie.Need-middle-open-requires
+middle-open-requires c κs = (c .before .before .before .before .before .before .before .before .before .before .before .before .before .before .before .pre .0, (c .before .before .before .before .before .before .before .before .before .before .before .before .before .before .before .pre .1 .0, (c .before .before .before .before .before .before .before .before .before .before .before .before .before .before .before .pre .1 .1 .0, (c .before .before .before .before .before .before .before .before .before .before .before .before .before .before .before .pre .1 .1 .1 .0, (c .before .before .before .before .before .before .before .before .before .before .before .before .before .before .before .pre .1 .1 .1 .1, (c .before .before .before .before .before .if3 .taken, c .before .before .before .if4 .taken))))))
 
 same-length-4 : tie.Need-same-length-4
 same-length-4 c = search needs
@@ -32,8 +32,8 @@ same-length-6 c = search needs
 returns-2 : tie.Need-returns-2
 returns-2 c = search needs
 
-middle-open-requires : tie.Need-middle-open-requires
-middle-open-requires c κs = (c .before .before .before .before .before .before .before .before .before .before .before .before .before .before .before .pre .0, (c .before .before .before .before .before .before .before .before .before .before .before .before .before .before .before .pre .1 .0, (c .before .before .before .before .before .before .before .before .before .before .before .before .before .before .before .pre .1 .1 .0, (c .before .before .before .before .before .before .before .before .before .before .before .before .before .before .before .pre .1 .1 .1 .0, (c .before .before .before .before .before .before .before .before .before .before .before .before .before .before .before .pre .1 .1 .1 .1, (c .before .before .before .before .before .if3 .taken, c .before .before .before .if4 .taken))))))
+large-open-requires : tie.Need-large-open-requires
+large-open-requires c κs = search needs
 
 same-length-7 : tie.Need-same-length-7
 same-length-7 c = search needs
@@ -47,21 +47,6 @@ same-length-9 c = search needs
 returns-3 : tie.Need-returns-3
 returns-3 c = search needs
 
-large-open-requires-2 : tie.Need-large-open-requires-2
-large-open-requires-2 c κs = search needs
-
-same-length-10 : tie.Need-same-length-10
-same-length-10 c = search needs
-
-same-length-11 : tie.Need-same-length-11
-same-length-11 c = search needs
-
-same-length-12 : tie.Need-same-length-12
-same-length-12 c = search needs
-
-returns-4 : tie.Need-returns-4
-returns-4 c = search needs
-
 pub open-verdict-spec : {M : Type 1} → statement M
 open-verdict-spec =
     tie.close
@@ -71,18 +56,13 @@ open-verdict-spec =
     same-length-2
     same-length-3
     returns
-    large-open-requires
+    middle-open-requires
     same-length-4
     same-length-5
     same-length-6
     returns-2
-    middle-open-requires
+    large-open-requires
     same-length-7
     same-length-8
     same-length-9
-    returns-3
-    large-open-requires-2
-    same-length-10
-    same-length-11
-    same-length-12
-    returns-4)
+    returns-3)
