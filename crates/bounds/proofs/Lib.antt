@@ -3,4 +3,3 @@ pub mod Reading
 pub mod Filling
 pub mod Repeated
 pub mod Ceilings
-pub mod Start

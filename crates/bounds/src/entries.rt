@@ -1,22 +1,16 @@
 // The entries of the ceilings, as the words of the message have them; refusal 10.
-use model::MAX_BOUNDS;
-use model::MAX_COUNTERS;
 use model::Sizes;
 use model::Verdict;
 ghost use mathlib.Core.Path.{_≡_};
-ghost use Prim.Native.Nat.{ℕ, _+_, _≤_, _<_};
+ghost use Prim.Native.Nat.{_+_, _≤_, _<_};
 ghost use lib.ListN.{length, getD, take, drop};
-ghost use Rattle.model.specs.Limits.{maxBounds, maxCounters};
+ghost use Rattle.model.specs.Limits.{maxCounters};
 ghost use Rattle.model.specs.Words.{left, right};
 ghost use Rattle.model.specs.Message.{bounds-at};
 ghost use Rattle.model.specs.Bounds.{bound-entries, bound-check, bounds};
 ghost use Rattle.model.specs.Verify.{answer};
 ghost use Rattle.model.specs.Demands.{Within-limits};
-ghost use Rattle.bounds.specs.Limits.{limit-cells, In-form, Limits-table, Starts-table, bound-end, Stands, Blank, Bound-filled};
 ghost use Rattle.bounds.specs.Parts.{Whole, in-ceiling};
-
-// The cells of the table of limits: one for each counter under each ceiling.
-pub const LIMITS: usize = MAX_BOUNDS * MAX_COUNTERS;
 
 // Word i of the n words that stand from `at`, and 0 past them.
 pub fn column(ws: &[u16], n: usize, at: usize, i: usize) -> u16
@@ -91,44 +85,4 @@ pub fn bound_check(ws: &[u16], s: Sizes, n: usize) -> Verdict
         return Verdict::Ceiling(end);
     }
     Verdict::Safe
-}
-
-// The limits of ceiling k, whose entries stand from e on, into its part of the table; gives the entry after them.
-fn fill_bound(ws: &[u16], s: Sizes, n: usize, k: usize, e: usize, limits: &mut [u16]) -> usize
-    requires { ⌜ Whole (now ws) s ⌝ }
-    requires { ⌜ (n ≤ maxCounters) × (k < maxBounds) ⌝ }
-    requires { ⌜ Stands n (bound-entries (now ws) s) e ⌝ }
-    requires { ⌜ Blank (now limits) k ⌝ }
-    requires { ⌜ limit-cells (k + 1) ≤ length (now limits) ⌝ }
-    ensures { λ r. ⌜ r ≡ bound-end n (bound-entries (now (ws .entry)) s) e ⌝ }
-    ensures { λ r. ⌜ Bound-filled n (bound-entries (now (ws .entry)) s) k e (now (limits .entry))
-        (now (limits .exit)) ⌝ }
-{
-    let mut i = e;
-    loop {
-        let x = counter_at(ws, s, i);
-        if x == n {
-            return i + 1;
-        }
-        let at = k * MAX_COUNTERS + x;
-        limits[at] = limit_at(ws, s, i);
-        i += 1;
-    }
-}
-
-// The limits of all ceilings, and where each begins. The parts of these ceilings are lent blank.
-pub fn fill_limits(ws: &[u16], s: Sizes, n: usize, limits: &mut [u16], starts: &mut [u16])
-    requires { ⌜ Whole (now ws) s ⌝ }
-    requires { ⌜ n ≤ maxCounters ⌝ }
-    requires { ⌜ In-form (now ws) s n ⌝ }
-    requires { ⌜ ((k : ℕ) → k < s .bounds → Blank (now limits) k) ⌝ }
-    requires { ⌜ (limit-cells (s .bounds) ≤ length (now limits)) × (s .bounds ≤ length (now starts)) ⌝ }
-    ensures { λ _. ⌜ Limits-table (bounds (now (ws .entry)) s n) (now (limits .exit)) ⌝ }
-    ensures { λ _. ⌜ Starts-table n (bound-entries (now (ws .entry)) s) (s .bounds) (now (starts .exit)) ⌝ }
-{
-    let mut e: usize = 0;
-    for k in 0..s.bounds {
-        starts[k] = e as u16;
-        e = fill_bound(ws, s, n, k, e, limits);
-    }
 }

@@ -8,7 +8,7 @@ use mathlib.Core.Logic.{_⊎_, inl, inr, ⊎-elim}
 use mathlib.Core.List.{List}
 use lib.Dec.{leb, ltb, eqb}
 use lib.ListN.{length}
-use borrow.Author.Tests.{eq-eqb, ne-eqb, leb-true, le-leb, lt-ltb, ltb-true, not-true, not-false}
+use borrow.Author.Tests.{eq-eqb, ne-eqb, eqb-true, leb-true, le-leb, lt-ltb, le-ltb, ltb-true, not-true, not-false}
 use Rattle.model.specs.Limits.{omega-limit}
 use Rattle.model.specs.Index.{all}
 use Rattle.model.specs.Markings.{Marking, readable, usable, fire}
@@ -19,8 +19,8 @@ use Rattle.bits.specs.Bits.{member}
 use Rattle.masks.specs.declared.Mask.{Mask}
 use Rattle.masks.specs.Masks.{has}
 use Rattle.steps.specs.declared.Step.{Step}
-use Rattle.steps.specs.Steps.{effect-of, rule-of-step, takes-other, adds-other}
-use Rattle.steps.proofs.Stepping.{fire-alone, fire-untouched, fire-held, fire-less, fire-raised, takes-none, takes-apart, takes-it}
+use Rattle.steps.specs.Steps.{effect-of, rule-of-step, takes-other, adds-other, less-if, more-if}
+use Rattle.steps.proofs.Stepping.{fire-alone, fire-untouched, fire-held, fire-less, fire-raised, fire-fewer, fire-stages, less-pass, less-fail, less-small, more-fail, more-small, takes-none, takes-apart, takes-it}
 use Rattle.bounds.proofs.Limited.{highest-limit}
 use Rattle.ceilings.specs.Table.{held}
 use Rattle.ceilings_masks.specs.declared.Over.{Over}
@@ -28,7 +28,7 @@ use Rattle.ceilings_masks.specs.Compared.{reaches, allows, most, exceeds, excee
 use Rattle.ceilings_masks.proofs.Comparing.{allows-one}
 use Rattle.steps.specs.Steps.{limit-after}
 use Rattle.steps.proofs.Raising.{stepped-decides}
-use Rattle.ceilings_covers.specs.Covers.{Beside, covers, passes, Left, Candidates, Step-apart, reading, named}
+use Rattle.ceilings_covers.specs.Covers.{Beside, covers, passes, Left, Candidates, Raised, Exact, sure, Step-apart, reading, named}
 use Rattle.ceilings_covers.proofs.Exceeding.{none-others, others-none, one-others, others-one, two-others, others-two}
 
 -- a limit that allows a count allows a lower one
@@ -201,6 +201,10 @@ module _ (limits : List ℕ) (ceilings n k : ℕ) where
   unfolding covers under passes
   covers-pass σ j t y h = all-elim 0 n y _ t (omega arith) h
 
+  pub pass-covers : (σ : Step) (j : ℕ) → ((y : ℕ) → y < n → passes limits ceilings k j σ y ≡ true) → covers limits ceilings n k (rule-of-step σ) j ≡ true
+  unfolding covers under passes
+  pass-covers σ j h = all-intro 0 n _ (λ y low inside. h y inside)
+
 -- by the code's values
 pub named-is : (σ : Step) (b j y : ℕ) → b ≡ j → y ≡ named σ j → y ≡ named σ b
 named-is σ b j y e h = rw e h
@@ -267,3 +271,123 @@ adds-to σ = or-left (eqb (σ .to) (σ .to)) _ (eq-eqb (σ .to) (σ .to) refl)
 pub adds-it : (σ : Step) → 2 ≤ σ .kind → (eqb (σ .other) (σ .to) || adds-other σ (σ .other)) ≡ true
 unfolding adds-other
 adds-it σ h = or-right (eqb (σ .other) (σ .to)) _ (rw (le-leb 2 (σ .kind) h) (eq-eqb (σ .other) (σ .other) refl))
+
+-- whether a step is sure, by its parts
+module _ (σ : Step) where
+  pub sure-reads : σ .kind ≡ 1 → false ≡ sure σ
+  unfolding sure
+  sure-reads e = rw (eq-eqb (σ .kind) 1 e)
+
+  module _ (quiet : σ .kind ≡ 1 → ⊥) where
+    pub sure-stays : σ .to ≡ σ .from → false ≡ sure σ
+    unfolding sure
+    sure-stays e = rw (ne-eqb (σ .kind) 1 quiet, eq-eqb (σ .to) (σ .from) e)
+
+    module _ (leaves : σ .to ≡ σ .from → ⊥) where
+      pub sure-moves : σ .kind < 2 → true ≡ sure σ
+      unfolding sure
+      sure-moves h = rw (ne-eqb (σ .kind) 1 quiet, ne-eqb (σ .to) (σ .from) leaves, lt-ltb (σ .kind) 2 h)
+
+      pub sure-back : 2 ≤ σ .kind → σ .other ≡ σ .from → false ≡ sure σ
+      unfolding sure
+      sure-back h e = rw (ne-eqb (σ .kind) 1 quiet, ne-eqb (σ .to) (σ .from) leaves, le-ltb (σ .kind) 2 h, eq-eqb (σ .other) (σ .from) e)
+
+      pub sure-adds : 2 ≤ σ .kind → (σ .other ≡ σ .from → ⊥) → not (eqb (σ .other) (σ .to)) ≡ sure σ
+      unfolding sure
+      sure-adds h d = rw (ne-eqb (σ .kind) 1 quiet, ne-eqb (σ .to) (σ .from) leaves, le-ltb (σ .kind) 2 h, ne-eqb (σ .other) (σ .from) d)
+
+  -- the counters of a sure step differ
+  record Apart-all : Type 0 where
+    quiet : σ .kind ≡ 1 → ⊥
+    leaves : σ .to ≡ σ .from → ⊥
+    not-from : 2 ≤ σ .kind → σ .other ≡ σ .from → ⊥
+    not-to : 2 ≤ σ .kind → σ .other ≡ σ .to → ⊥
+
+  sure-apart : sure σ ≡ true → Apart-all
+  sure-apart t =
+      let quiet : σ .kind ≡ 1 → ⊥ = λ e. true-false t (sym (sure-reads e)) in
+      let leaves : σ .to ≡ σ .from → ⊥ = λ e. true-false t (sym (sure-stays quiet e)) in
+      let not-from : 2 ≤ σ .kind → σ .other ≡ σ .from → ⊥ = λ h e. true-false t (sym (sure-back quiet leaves h e)) in
+      record {
+        quiet = quiet;
+        leaves = leaves;
+        not-from = not-from;
+        not-to = λ h e. true-false (sure-adds quiet leaves h (not-from h) ∙ t) (not-fails _ (eq-eqb (σ .other) (σ .to) e));
+      }
+
+  adds-elim : (y : ℕ) → adds-other σ y ≡ true → (2 ≤ σ .kind) × (y ≡ σ .other)
+  unfolding adds-other
+  adds-elim y t = (leb-true 2 (σ .kind) (and-left (leb 2 (σ .kind)) _ t), eqb-true y (σ .other) (and-right (leb 2 (σ .kind)) _ t))
+
+  adds-apart : (y : ℕ) → (2 ≤ σ .kind → y ≡ σ .other → ⊥) → adds-other σ y ≡ false
+  adds-apart y h = test (adds-other σ y) (λ t. absurd (let (a, b) = adds-elim y t in h a b)) (λ t. t)
+
+  -- a counter to which not both parts of the step add has one more at most
+  fire-once : (m : Marking) (y : ℕ) → σ .kind ≤ 3 → (eqb y (σ .to) ≡ false) ⊎ (adds-other σ y ≡ false) → fire (rule-of-step σ) m y ≤ m y + 1
+  fire-once m y h once =
+      let first : ℕ = less-if (eqb y (σ .from)) (m y) in
+      let left : ℕ = less-if (takes-other σ y) first in
+      let moved : ℕ = more-if (eqb y (σ .to)) left in
+      let a = less-small (eqb y (σ .from)) (m y) first refl in
+      let b = less-small (takes-other σ y) first left refl in
+      ⊎-elim
+      (λ e. let u = more-fail (eqb y (σ .to)) left e in let v = more-small (adds-other σ y) moved _ refl in omega (arith, fire-stages σ m y h))
+      (λ e. let u = more-small (eqb y (σ .to)) left moved refl in let v = more-fail (adds-other σ y) moved e in omega (arith, fire-stages σ m y h)) once
+
+module _ (limits : List ℕ) (ceilings n k : ℕ) (σ : Step) where
+  -- those that hold one more at a counter, of a mask, or the mask itself where the step takes from the counter or it is none of the n
+  pub raised-kept : (y : ℕ) (m : Mask) → (y < n → (y ≡ σ .from → ⊥) → takes-other σ y ≡ false → ⊥) → Raised limits ceilings n k σ y m m
+  raised-kept y m none = record { within = λ j h. h; more = λ j l h a b t. absurd (none a b t) }
+
+  pub raised-and : (y : ℕ) (m more r : Mask) → ((j : ℕ) → j < 256 → has more j ≡ takes-more limits ceilings k y j) → ((j : ℕ) → has r j ≡ (has m j && has more j)) → Raised limits ceilings n k σ y m r
+  raised-and y m more r is and =
+      record {
+        within = λ j h. and-left (has m j) (has more j) (sym (and j) ∙ h);
+        more = λ j l h a b t. sym (is j l) ∙ and-right (has m j) (has more j) (sym (and j) ∙ h);
+      }
+
+  more-allows : (y j : ℕ) → takes-more limits ceilings k y j ≡ true → allowed (held limits ceilings j y) (most limits ceilings k y + 1) ≡ true
+  unfolding takes-more allows
+  more-allows y j h = and-right (ltb j ceilings) _ h
+
+  passes-lower : (j y a : ℕ) → allowed (held limits ceilings j y) a ≡ true → fire (rule-of-step σ) (highest (held limits ceilings k)) y ≤ a → passes limits ceilings k j σ y ≡ true
+  unfolding passes
+  passes-lower j y a h le = allowed-lower (held limits ceilings j y) a _ h le
+
+  -- the candidates of a sure step cover: where it takes, where it adds, and elsewhere
+  pub exact-is : (left taken to r : Mask) → ceilings ≤ 256 → σ .kind ≤ 3 → Left limits ceilings n k (σ .from) left → ((σ .kind ≡ 1 → ⊥) → (j : ℕ) → has taken j ≡ true → has left j ≡ true) → Raised limits ceilings n k σ (σ .to) taken to → (2 ≤ σ .kind → Raised limits ceilings n k σ (σ .other) to r) → ((j : ℕ) → has r j ≡ true → has to j ≡ true) → Exact limits ceilings n k σ r
+  exact-is left taken to r few small l w a b s t j y low h inside =
+      let u = sure-apart σ t in
+      let counts : Marking = highest (held limits ceilings k) in
+      let in-to = s j h in
+      let in-left = w (u .quiet) j (a .within j in-to) in
+      elim (ℕ-discrete y (σ .from)) [
+        | yes e ↦
+            let less = less-pass (eqb y (σ .from)) (counts y) (eq-eqb y (σ .from) e) in
+            let fewer = fire-fewer σ counts y small (ne-eqb y (σ .to) (λ z. u .leaves (sym z ∙ e))) (adds-apart σ y (λ two z. u .not-from two (sym z ∙ e))) in
+            passes-lower j y (counts y - 1) (rw e (l .here j low in-left)) (omega (arith, less, fewer))
+        | no d ↦ elim (ℕ-discrete y (σ .to)) [
+          | yes e ↦
+              passes-lower j y (counts y + 1)
+              (more-allows y j (rw e (a .more j (omega arith) in-to (rw (← e) inside) (u .leaves) (takes-none σ (σ .to) (u .quiet)))))
+              (fire-once σ counts y small (inr (adds-apart σ y (λ two z. u .not-to two (sym z ∙ e)))))
+          | no f ↦ test (adds-other σ y)
+              (λ g. let (two, e) = adds-elim σ y g in
+              passes-lower j y (counts y + 1)
+              (more-allows y j (rw e (b two .more j (omega arith) h (rw (← e) inside) (u .not-from two) (takes-none σ (σ .other) (u .quiet)))))
+              (fire-once σ counts y small (inl (ne-eqb y (σ .to) f))))
+              (λ g. let less = less-fail (eqb y (σ .from)) (counts y) (ne-eqb y (σ .from) d) in
+              let fewer = fire-fewer σ counts y small (ne-eqb y (σ .to) f) g in
+              passes-lower j y (counts y) (fits-not limits ceilings n k j y (l .others j y low in-left inside d)) (omega (arith, less, fewer)))
+        ]
+      ]
+
+not-not : (b : Bool) → not (not b) ≡ b
+not-not true = refl
+not-not false = refl
+
+pub surely-some : (a b s some : Bool) → a ≡ s → a ≡ true → b ≡ not some → not b ≡ (s && some)
+surely-some a b s some e t n = rw (n, ← e, t) (not-not some)
+
+pub surely-none : (a s some : Bool) → a ≡ s → a ≡ false → false ≡ (s && some)
+surely-none a s some e f = rw (← e, f)

@@ -3,6 +3,7 @@ use Prim.Native.Nat.{ℕ, _*_, _-_, _≤_, _<_}
 use mathlib.Core.Path.{_≡_}
 use mathlib.Core.Bool.{Bool, true, false, not, _&&_, _||_}
 use mathlib.Core.List.{List, [], _∷_}
+use lib.Dec.{eqb, ltb}
 use lib.ListN.{length, getD}
 use Rattle.model.specs.Limits.{maxBounds}
 use Rattle.model.specs.Rules.{Rule}
@@ -14,7 +15,7 @@ use Rattle.steps.specs.declared.Step.{Step}
 use Rattle.steps.specs.Steps.{rule-of-step, takes-other}
 use Rattle.ceilings.specs.Table.{held}
 use Rattle.ceilings_masks.specs.declared.Over.{Over}
-use Rattle.ceilings_masks.specs.Compared.{Holders, most, exceeds, Counted, Neighbours}
+use Rattle.ceilings_masks.specs.Compared.{Holders, most, exceeds, takes-more, Counted, Neighbours}
 
 -- the tables of one ceiling beside all others
 pub record Beside (limits : List ℕ) (ceilings n k : ℕ) (holders unbounded : List ℕ) (over : Over)
@@ -56,6 +57,24 @@ pub record Candidates (limits : List ℕ) (ceilings n k : ℕ) (σ : Step) (m : 
       (j y : ℕ) → j < ceilings → has m j ≡ true → y < n → (y ≡ σ .from → ⊥) → takes-other σ y ≡ false →
       exceeds limits ceilings k j y ≡ false
   pub all : (j : ℕ) → j < ceilings → ((y : ℕ) → y < n → passes limits ceilings k j σ y ≡ true) → has m j ≡ true
+
+-- the mask has none but those of m; and where the step does not take from counter y, none but those that hold one
+-- more than ceiling k there
+pub record Raised (limits : List ℕ) (ceilings n k : ℕ) (σ : Step) (y : ℕ) (m r : Mask) : Type 0 where
+  pub within : (j : ℕ) → has r j ≡ true → has m j ≡ true
+  pub more :
+      (j : ℕ) → j < 256 → has r j ≡ true → y < n → (y ≡ σ .from → ⊥) → takes-other σ y ≡ false →
+      takes-more limits ceilings k y j ≡ true
+
+-- the step takes from one counter alone, and adds to others alone, to each once
+unfoldable pub sure : Step → Bool
+sure σ = not (eqb (σ .kind) 1) && (not (eqb (σ .to) (σ .from)) &&
+    (ltb (σ .kind) 2 || not (eqb (σ .other) (σ .from)) && not (eqb (σ .other) (σ .to))))
+
+-- where the step is sure, each ceiling of the mask allows what each counter has after it
+abbrev pub Exact : List ℕ → ℕ → ℕ → ℕ → Step → Mask → Type 0
+Exact limits ceilings n k σ m =
+    sure σ ≡ true → (j y : ℕ) → j < ceilings → has m j ≡ true → y < n → passes limits ceilings k j σ y ≡ true
 
 -- what a step takes from are counters of the n, and not one twice; its kind is one of the four
 pub record Step-apart (n : ℕ) (σ : Step) : Type 0 where

@@ -7,6 +7,7 @@ use ceilings_masks::Over;
 use masks::Mask;
 use masks::and;
 use masks::below;
+use masks::is_none;
 use masks::load;
 use masks::or;
 use masks::without;
@@ -14,18 +15,30 @@ use steps::Step;
 use steps::limit_after;
 use steps::takes_other;
 ghost use mathlib.Core.Path.{_≡_};
-ghost use mathlib.Core.Bool.{true, false, _||_};
+ghost use mathlib.Core.Bool.{true, false, _&&_, _||_};
 ghost use Prim.Native.Nat.{ℕ, _+_, _*_, _≤_, _<_};
 ghost use lib.Dec.{eqb};
 ghost use lib.ListN.{length};
 ghost use Rattle.bits.specs.Bits.{member, Row};
 ghost use Rattle.masks.specs.Masks.{has};
+ghost use Rattle.model.specs.Index.{any};
 ghost use Rattle.model.specs.Markings.{usable};
 ghost use Rattle.model.specs.Bounds.{highest};
 ghost use Rattle.steps.specs.Steps.{rule-of-step, adds-other};
 ghost use Rattle.ceilings.specs.Table.{held};
 ghost use Rattle.ceilings_masks.specs.Compared.{takes-more};
-ghost use Rattle.ceilings_covers.specs.Covers.{Beside, Left, Candidates, Step-apart, passes, named, reading};
+ghost use Rattle.ceilings_covers.specs.Covers.{
+  Beside,
+  Left,
+  Candidates,
+  Raised,
+  Exact,
+  Step-apart,
+  passes,
+  sure,
+  named,
+  reading,
+};
 
 // So many counters are named by a step.
 pub const NAMED: usize = 3;
@@ -108,6 +121,7 @@ fn by_taken(
     requires { ⌜ Left (now limits) ceilings n k (step .from) left ⌝ }
     requires { ⌜ usable (rule-of-step step) (highest (held (now limits) ceilings k)) ≡ true ⌝ }
     ensures { λ r. ⌜ Candidates (now (limits .entry)) ceilings n k step r ⌝ }
+    ensures { λ r. ⌜ ((step .kind ≡ 1 → ⊥) → (j : ℕ) → has r j ≡ true → has left j ≡ true) ⌝ }
 {
     if step.kind == 1 {
         return left_reading(over, short, left, step.from, step.other);
@@ -135,6 +149,7 @@ fn by_added(
     requires { ⌜ (eqb y (step .to) || adds-other step y) ≡ true ⌝ }
     requires { ⌜ Candidates (now limits) ceilings n k step m ⌝ }
     ensures { λ r. ⌜ Candidates (now (limits .entry)) ceilings n k step r ⌝ }
+    ensures { λ r. ⌜ Raised (now (limits .entry)) ceilings n k step y m r ⌝ }
 {
     if n <= y {
         return m;
@@ -181,6 +196,7 @@ pub fn candidates(
     requires { ⌜ Left (now limits) ceilings n k (step .from) left ⌝ }
     requires { ⌜ usable (rule-of-step step) (highest (held (now limits) ceilings k)) ≡ true ⌝ }
     ensures { λ r. ⌜ Candidates (now (limits .entry)) ceilings n k step r ⌝ }
+    ensures { λ r. ⌜ Exact (now (limits .entry)) ceilings n k step r ⌝ }
 {
     let taken = by_taken(
         limits,
@@ -226,6 +242,32 @@ pub fn candidates(
         step.other,
         to,
     )
+}
+
+// The step takes from one counter alone, and adds to others alone, to each once: its candidates all cover.
+pub fn is_sure(step: Step) -> bool
+    ensures { λ r. ⌜ r ≡ sure step ⌝ }
+{
+    if step.kind == 1 {
+        return false;
+    }
+    if step.to == step.from {
+        return false;
+    }
+    if step.kind < 2 {
+        return true;
+    }
+    if step.other == step.from {
+        return false;
+    }
+    step.other != step.to
+}
+
+// The step is sure, and has a candidate.
+pub fn surely_covered(step: Step, m: Mask) -> bool
+    ensures { λ r. ⌜ r ≡ (sure step && any 0 256 (has m)) ⌝ }
+{
+    if is_sure(step) { !is_none(m) } else { false }
 }
 
 // The step can be used at the highest counts of ceiling k.

@@ -42,8 +42,8 @@ use Rattle.ceilings.specs.Table.{held, Limits-table}
 use Rattle.ceilings.proofs.Ahead.{Ahead, Counter-here, ahead-counter, ahead-none}
 use Rattle.ceilings_masks.specs.declared.Over.{Over}
 use Rattle.ceilings_masks.specs.Compared.{Holders, Counted, Neighbours}
-use Rattle.ceilings_covers.specs.Covers.{Beside, covers, passes, named, Candidates, Step-apart}
-use Rattle.ceilings_covers.proofs.Covering.{covers-pass}
+use Rattle.ceilings_covers.specs.Covers.{Beside, covers, passes, named, Candidates, Exact, sure, Step-apart}
+use Rattle.ceilings_covers.proofs.Covering.{covers-pass, pass-covers}
 use Rattle.ceilings_groups.specs.Groups.{table-bounds, escapes, Unbounded-at, Groups-upto, step}
 use Rattle.ceilings_groups.proofs.Settling.{step-open}
 use Rattle.bits.specs.Bits.{Set-is}
@@ -227,6 +227,13 @@ module _ (ws : List ℕ) (s : Sizes) (n : ℕ) (limits : List ℕ) where
           any-intro 0 256 x either (omega arith) (let b = w .1 in omega arith) (and-intro (has mask x) (cover x) (c .all x (w .1) (covers-pass limits (s .bounds) n k σ x z)) z))
           (λ u. let (x, w, z) = any-elim 0 256 either u in
           any-intro 0 (s .bounds) x cover (omega arith) (c .few x (w .1) (and-left (has mask x) (cover x) z)) (and-right (has mask x) (cover x) z)))
+
+      -- each candidate of a sure step covers
+      pub left-surely : Exact limits (s .bounds) n k σ mask → (sure σ && any 0 256 (has mask)) ≡ true → any 0 (s .bounds) cover ≡ true
+      left-surely exact h =
+          let (j, w, z) = any-elim 0 256 (has mask) (and-right (sure σ) _ h) in
+          let low = c .few j (w .1) z in
+          any-intro 0 (s .bounds) j cover (omega arith) low (pass-covers limits (s .bounds) n k σ j (λ y inside. exact (and-left (sure σ) _ h) j y low z inside))
 
       module _ (a : ℕ) (l : Left-of k σ mask a) (b : a < 256) where
         pub left-low : a < s .bounds

@@ -7,6 +7,7 @@ use ceilings_covers::is_usable;
 use ceilings_covers::left_after;
 use ceilings_covers::named;
 use ceilings_covers::passes;
+use ceilings_covers::surely_covered;
 use ceilings_groups::open_to_all;
 use ceilings_groups::settled;
 use ceilings_masks::compare;
@@ -22,6 +23,9 @@ use rules::turn_to;
 use state_rules::state_rules;
 use steps::Step;
 use steps::effect_kind;
+use system_totals::Totals;
+use system_totals::row_total;
+use system_totals::state_head;
 ghost use mathlib.Core.Path.{_≡_};
 ghost use Prim.Native.Nat.{_*_, _≤_, _<_};
 ghost use lib.ListN.{length};
@@ -35,6 +39,7 @@ ghost use Rattle.model.specs.Verify.{answer};
 ghost use Rattle.lists.specs.Ready.{Ready};
 ghost use Rattle.rules.specs.Derived.{Rule-tables, Entered, Rule-room};
 ghost use Rattle.steps.specs.Steps.{effect-kind};
+ghost use Rattle.system_totals.specs.Lines.{Totalled};
 ghost use Rattle.ceilings_groups.specs.Groups.{Groups-upto};
 ghost use Rattle.ceilings_leaks.specs.Leaks.{Ceilings-ready, Rooms};
 
@@ -49,7 +54,14 @@ fn kind_at(ws: &[u16], s: Sizes, i: usize) -> usize
     effect_kind(tag(ws, s, state_location(ws, s, i)))
 }
 
-// For each state the ceilings that have no bound where its rules add; gives the class entered last.
+// After all states: the class entered last, and how many rules and rows there are.
+pub struct Gathered {
+    pub class: Class,
+    pub totals: Totals,
+}
+
+// For each state the ceilings that have no bound where its rules add. The rules are counted here too, so that they are
+// derived no more than three times: here, in the leak test, and where the listing is written.
 pub fn fill_groups(
     ws: &[u16],
     s: Sizes,
@@ -72,18 +84,21 @@ pub fn fill_groups(
     tos: &mut [u16],
     others: &mut [u16],
     group: &mut [u64],
-) -> Class
+) -> Gathered
     requires { ⌜ Rule-tables (now ws) s (now afters) (now inners) (now «flow_at») w (now flows) (now names)
         (now «letter_at») (now letters) (now branches) ⌝ }
     requires { ⌜ Ceilings-ready (now ws) s n (now limits) (now starts) (now holders) (now unbounded) ⌝ }
     requires { ⌜ Entered (program (now ws) s) (tables (now ws) s) k (now at) ⌝ }
-    requires { ⌜ Rule-room s (now tos) (now others) ⌝ }
+    requires { ⌜ Rule-room s (now tos) (now others) × (length (now tos) ≤ 65536) ⌝ }
     requires { ⌜ s .states * 4 ≤ length (now group) ⌝ }
-    ensures { λ e. ⌜ Entered (program (now (ws .entry)) s) (tables (now (ws .entry)) s) e (now (at .exit)) ⌝ }
+    ensures { λ g. ⌜ Entered (program (now (ws .entry)) s) (tables (now (ws .entry)) s) (g .class) (now (at .exit)) ⌝ }
     ensures { λ _. ⌜ Groups-upto (program (now (ws .entry)) s) (tables (now (ws .entry)) s) (now (limits .entry))
         (s .bounds) n (s .states) (now (group .exit)) ⌝ }
+    ensures { λ g. ⌜ Totalled (program (now (ws .entry)) s) (tables (now (ws .entry)) s) (g .totals) ⌝ }
 {
     let mut class = k;
+    let mut rules = 0;
+    let mut rows = 0;
     for i in 0..s.states {
         class = turn_to(ws, s, class, at, i);
         let m = state_rules(
@@ -104,7 +119,10 @@ pub fn fill_groups(
             tos,
             others,
         );
-        let kind = kind_at(ws, s, i);
+        let head = state_head(ws, s, i);
+        rules += m;
+        rows += row_total(head, m);
+        let kind = effect_kind(head);
         store(
             group,
             i,
@@ -121,7 +139,8 @@ pub fn fill_groups(
             ),
         );
     }
-    class
+    let totals = Totals { rules, rows };
+    Gathered { class, totals }
 }
 
 // Refusal 13: the first ceiling that leaks, at its first entry. Loops over the ceilings, over each one's states, over
@@ -235,15 +254,19 @@ pub fn leak_check(
                     left,
                     step,
                 );
+                // every candidate of a sure step covers
+                if surely_covered(step, mask) {
+                    continue 'rules;
+                }
                 let mut a = first_set(mask);
                 'candidates: while a < 256 {
                     let k2 = a;
-                    a = next_in(mask, k2 + 1);
                     for b in 0..NAMED {
                         let y = named(step, b);
                         if y < n {
                             // the first limit exceeded
                             if !passes(limits, s.bounds, k, k2, step, y) {
+                                a = next_in(mask, k2 + 1);
                                 continue 'candidates;
                             }
                         }

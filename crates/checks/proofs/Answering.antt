@@ -1,16 +1,13 @@
 -- From the stages' verdicts to the verdict on the bytes.
-use Prim.Native.Nat.{ℕ, _+_, _*_, _/_, _≤_}
-use native.Mathlib.Omega.{arith}
+use Prim.Native.Nat.{ℕ}
 use mathlib.Core.Path.{_≡_, refl, sym, ap, subst, _∙_}
-use mathlib.Core.Bool.{Bool, true, false}
-use mathlib.Core.List.{List, [], _∷_, _++_}
+use mathlib.Core.Bool.{Bool, false}
+use mathlib.Core.List.{List, []}
 use mathlib.Core.Option.{some, none}
-use lib.ListN.{length, take, drop}
 use Rattle.model.specs.declared.Sizes.{Sizes}
 use Rattle.model.specs.declared.Verdict.{Verdict}
 use Rattle.model.specs.Verdict.{Check, _>>_}
 use Rattle.model.specs.Words.{words}
-use Rattle.model.specs.Message.{sizes, parts-check, bounds-at, end-at}
 use Rattle.model.specs.Rows.{Program, program, row-check}
 use Rattle.model.specs.Scopes.{name-check, scope-check}
 use Rattle.model.specs.Bads.{bad-rows}
@@ -18,17 +15,12 @@ use Rattle.model.specs.Rules.{rules}
 use Rattle.model.specs.Tables.{tables}
 use Rattle.model.specs.Counters.{counter-count}
 use Rattle.model.specs.Bounds.{bounds, bound-check, start-check, met-check, leak-check}
-use Rattle.model.specs.Listing.{system-words, written}
-use Rattle.model.specs.Verify.{program-check, evidence-check, bounds-check, message, message-check, check, answer, verdict, if-safe, lent-after}
-use Rattle.model.proofs.Logic.{test}
-use Rattle.model.proofs.Exact.Answer.{Refuses, program-refuses, bounds-refuse, check-refuses}
-use Rattle.words.proofs.Words.{words-length}
-use Rattle.message.specs.Whole.{Whole-message}
-use Rattle.evidence.specs.Whole.{Parts-whole}
+use Rattle.model.specs.Verify.{program-check, evidence-check, bounds-check, message, message-check, check, answer, verdict}
+use Rattle.model.proofs.Exact.Answer.{Refuses, program-refuses, bounds-refuse}
 use Rattle.system_space.specs.Space.{words-after}
 use Rattle.answers.specs.Safe.{is-safe}
 use Rattle.checks.specs.Order.{taken, ceilings, from-3, from-4, from-5, from-6, from-7, from-8, from-9, from-10, from-11, from-12, from-13, from-14}
-use Rattle.answers.proofs.Passing.{safe-only, else-is, ends}
+use Rattle.answers.proofs.Passing.{else-is, ends}
 
 -- the checks in the order in which the code takes them
 assoc : (a b c : Check) → (a >> b) >> c ≡ a >> (b >> c)
@@ -93,53 +85,3 @@ module _ (ws : List ℕ) (s : Sizes) (n : ℕ) (v : Verdict) where
 pub ends-with : (m c r : Check) (v : Verdict) (f : Bool) (ws : List ℕ) (s : Sizes) (lent : List ℕ) → m ≡ c >> r → v ≡ answer c → f ≡ is-safe v → f ≡ false → (v ≡ answer m) × (lent ≡ words-after v ws s lent)
 unfolding words-after
 ends-with m c r v f ws s lent z e t h = (ends c r v f e t h ∙ sym (ap answer z), sym (else-is v _ lent (sym t ∙ h)))
-
--- the words of the message, at the front of the array
-front : (ws rest : List ℕ) → take (length ws) (ws ++ rest) ≡ ws
-front [] rest = refl
-front (w ∷ ws) rest = ap (λ r. w ∷ r) (front ws rest)
-
-pub decoded : (bytes all : List ℕ) (rest : List ℕ) → all ≡ words bytes ++ rest → take (length bytes / 2) all ≡ words bytes
-decoded bytes all rest e = subst (λ n. take n all ≡ words bytes) (words-length bytes) (ap (take (length (words bytes))) e ∙ front (words bytes) rest)
-
-program-fits : (s : Sizes) → 4 + 2 * s .rows ≤ end-at s
-unfolding end-at bounds-at
-program-fits s = omega arith
-
-module _ (bytes : List ℕ) (s : Sizes) (ws : List ℕ) (w : Whole-message bytes s) (e : ws ≡ words bytes) where
-  pub parts-whole : Parts-whole ws s
-  parts-whole =
-      let z = ap length e in
-      let l = w .limits in
-      record {
-        program = record {
-          rows = l .rows .1;
-          names = l .names .1;
-          constructors = l .constructors;
-          functions = l .functions;
-          held = omega (arith, w .words-end, program-fits s);
-        };
-        limits = l;
-        held = omega (arith, w .words-end);
-      }
-
-  whole-checked : (n : ℕ) → answer (message-check (taken (words bytes) (sizes (words bytes))) n) ≡ verdict bytes n
-  unfolding verdict check message taken _>>_
-  whole-checked n = rw (w .passes)
-
-  pub whole-told : (n : ℕ) (v : Verdict) → v ≡ answer (message-check (taken ws s) n) → v ≡ verdict bytes n
-  whole-told n v h =
-      h ∙ ap (λ x. answer (message-check (taken x s) n)) e ∙ ap (λ x. answer (message-check (taken (words bytes) x) n)) (w .of-message) ∙ whole-checked n
-
-  pub whole-written : (lent out : List ℕ) (v : Verdict) → v ≡ answer (message-check (taken ws s) (length lent)) → out ≡ words-after v ws s lent → out ≡ lent-after bytes lent
-  unfolding lent-after words-after message
-  whole-written lent out v h g =
-      g ∙ ap (λ x. words-after v x s lent) e ∙ ap (λ x. words-after v (words bytes) x lent) (w .of-message) ∙ ap (λ x. words-after x (words bytes) (sizes (words bytes)) lent) (whole-told (length lent) v h)
-
--- refusals 1 and 2
-pub parts-refused : (bytes lent : List ℕ) (v : Verdict) → parts-check bytes ≡ some v → (v ≡ verdict bytes (length lent)) × (lent ≡ lent-after bytes lent)
-unfolding verdict check answer _>>_ lent-after
-parts-refused bytes lent v h =
-    let told : check bytes (length lent) ≡ some v = rw h in
-    let no = test (is-safe v) (λ y. absurd (check-refuses bytes (length lent) (told ∙ ap some (safe-only v y)))) (λ y. y) in
-    (rw h, sym (ap (λ x. if-safe x (written (system-words (message bytes .program) (message bytes .tables)) lent) lent) (ap answer told) ∙ else-is v _ lent no))

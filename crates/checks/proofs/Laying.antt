@@ -1,6 +1,5 @@
 -- What one layer's tables say is what the next one asks.
-use Prim.Native.Nat.{ℕ, zero, suc, _+_, _*_, _/_, _%_, _≤_, _<_}
-use native.Mathlib.Nat.{mul-le-mul-left, mul-le-mul-right}
+use Prim.Native.Nat.{ℕ, zero, suc, _*_, _≤_, _<_}
 use native.Mathlib.Omega.{arith}
 use mathlib.Core.Path.{_≡_, refl, sym, ap, subst, _∙_}
 use mathlib.Core.List.{List}
@@ -32,17 +31,15 @@ use Rattle.lists.specs.Ready.{Ready}
 use Rattle.evidence.specs.Whole.{Parts-whole}
 use Rattle.values.specs.Values as values
 use Rattle.values.specs.Values.{width}
-use Rattle.bits.specs.Bits.{Row, bit, member}
-use Rattle.bits.proofs.Bits.{bit-zero}
+use Rattle.bits.specs.Bits.{Row, bit}
 use Rattle.rooms.specs.Cleared.{Cleared}
 use Rattle.rules.specs.Derived as rules
 use Rattle.system_letters.specs.Letters.{Starts}
 use Rattle.system_letters.proofs.Pairs.{letters-few}
-use Rattle.closure.specs.Lent.{Unsettled}
 use Rattle.ceilings_met.specs.Items.{Items-counted}
 use Rattle.rules.specs.Derived.{Rule-room}
 use Rattle.model.specs.Demands.{Within-limits}
-use Rattle.checks.specs.Scratch.{Countable, Mask-room, Small}
+use Rattle.checks.specs.Scratch.{Countable, Mask-room}
 
 -- refusals 3 to 5 found nothing
 pub program-passes : (p : Program) → row-check p ≡ none → name-check p ≡ none → scope-check p ≡ none → program-check p ≡ none
@@ -125,48 +122,6 @@ flow-sets ws s w flow e h =
       has = λ n v b c. h .of-name n b .holds v (let z = width-holds (s .rows) in omega arith);
     })
 
--- a cleared table holds empty sets
-pub empty-sets : (n w : ℕ) (t : List ℕ) → Cleared n t → values.Empty w t
-unfolding member
-empty-sets n w t h = record { none = λ k v. ap (λ x. bit x (v % 64)) (h .zero (k * w + v / 64)) ∙ bit-zero (v % 64) }
-
--- a product of no more than these is no more
-pub product-most : (a b x y : ℕ) → a ≤ x → b ≤ y → a * b ≤ x * y
-product-most a b x y h k = omega (arith, mul-le-mul-right b h, mul-le-mul-left x k)
-
--- so many sets of no more than so many words have room
-pub sets-fit : (k w K W n : ℕ) (t : List ℕ) → Cleared n t → k ≤ K → w ≤ W → K * W ≤ n → values.Room w k t
-sets-fit k w K W n t h a b c =
-    record { row = λ j l. record { room = let z = product-most (j + 1) w K W (omega arith) b in let y = h .room in omega arith } }
-
--- the width of a set of a message of no more than so many rows
-pub width-most : (r R : ℕ) → r ≤ R → width r ≤ width R
-unfolding width
-width-most r R h = omega arith
-
--- what refusal 8 is lent beside the tables that others read, of a message of no more than R rows and N names
-pub record Opens (s : Sizes) (mail firsts nexts may held codes here : List ℕ) : Type 0 where
-  pub mail-sets : values.Empty (width (s .rows)) mail × values.Room (width (s .rows)) (s .names + 1) mail
-  pub firsts-room : s .constructors ≤ length firsts
-  pub nexts-room : s .rows ≤ length nexts
-  pub may-sets : values.Empty (width (s .rows)) may × values.Room (width (s .rows)) (s .rows) may
-  pub held-sets : values.Empty (width (s .rows)) held × values.Room (width (s .rows)) (s .rows) held
-  pub codes-clear : Unsettled s codes
-  pub class-row : Row here (width (s .rows)) 0
-
-pub opens : (s : Sizes) (R N a b d e h : ℕ) (mail firsts nexts may held codes here : List ℕ) → s .rows ≤ R → s .names ≤ N → s .constructors ≤ b → Cleared a mail → Cleared b firsts → Cleared d nexts → Cleared e may → Cleared e held → Cleared d codes → Cleared h here → (N + 1) * width R ≤ a → R * width R ≤ e → R ≤ d → width R ≤ h → Opens s mail firsts nexts may held codes here
-opens s R N a b d e h mail firsts nexts may held codes here r n c m f x y z k l am er rd wh =
-    let w = width-most (s .rows) R r in
-    record {
-      mail-sets = (empty-sets a _ mail m, sets-fit (s .names + 1) _ (N + 1) (width R) a mail m (omega arith) w am);
-      firsts-room = let q = f .room in omega arith;
-      nexts-room = let q = x .room in omega arith;
-      may-sets = (empty-sets e _ may y, sets-fit (s .rows) _ R (width R) e may y r w er);
-      held-sets = (empty-sets e _ held z, sets-fit (s .rows) _ R (width R) e held z r w er);
-      codes-clear = record { room = let q = k .room in omega arith; none = k .zero };
-      class-row = record { room = let q = l .room in omega arith };
-    }
-
 pub bounds-of-ready : (ws : List ℕ) (s : Sizes) → Ready ws s → bounds.Whole ws s
 bounds-of-ready ws s h = record { limits = h .limits; held = h .held }
 
@@ -197,30 +152,7 @@ mask-room k n holders unbounded group short more h a b c d e =
       one-more = let q = e .room in omega arith;
     }
 
--- room after a call that keeps the lengths
-pub rule-room-kept : (s : Sizes) (tos others tos′ others′ : List ℕ) → Rule-room s tos others → length tos′ ≡ length tos → length others′ ≡ length others → Rule-room s tos′ others′
-rule-room-kept s tos others tos′ others′ r a b =
-    record {
-      values = let z = r .values in omega arith;
-      letters = let z = r .letters in omega arith;
-      counters = let z = r .counters in omega arith;
-      alike = b ∙ (r .alike ∙ sym a);
-    }
-
 -- each state is a counter
 pub states-few : (ws : List ℕ) (s : Sizes) (n : ℕ) → n ≡ counter-count (program ws s) (tables ws s) → s .states ≤ n
 unfolding counter-count tables entries columns
 states-few ws s n e = omega (arith, e)
-
--- limits of each counter under each ceiling
-pub small-cells : (s : Sizes) (limits : List ℕ) → Small s → Cleared 2048 limits → (n : ℕ) → Countable s n → n * s .bounds ≤ length limits
-small-cells s limits m c n h =
-    let z = product-most n (s .bounds) 128 16 (let a = h .listed in let b = m .states in let d = m .mails in omega arith) (m .bounds) in
-    let q = c .room in
-    omega arith
-
-pub all-cells : (s : Sizes) (limits : List ℕ) → Within-limits s → Cleared 131072 limits → (n : ℕ) → Countable s n → n * s .bounds ≤ length limits
-all-cells s limits l c n h =
-    let z = product-most n (s .bounds) 512 256 (let a = h .few in omega arith) (l .bounds) in
-    let q = c .room in
-    omega arith

@@ -3,10 +3,10 @@ use Prim.Native.Nat.{ℕ}
 use mathlib.Core.List.{List}
 use Rattle.model.specs.declared.Sizes.{Sizes}
 use Rattle.model.specs.Verdict.{Check, _>>_}
-use Rattle.model.specs.Rows.{Program, program, row-check}
+use Rattle.model.specs.Rows.{program, row-check}
 use Rattle.model.specs.Scopes.{name-check, scope-check}
 use Rattle.model.specs.Bads.{bad-rows, bad-check}
-use Rattle.model.specs.Tables.{Tables, tables, entry-check}
+use Rattle.model.specs.Tables.{tables, entry-check}
 use Rattle.model.specs.Closed.{open-check}
 use Rattle.model.specs.Counters.{counter-count, counter-check}
 use Rattle.model.specs.Rules.{rules}

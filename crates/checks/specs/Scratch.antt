@@ -1,22 +1,16 @@
 -- What the checks are lent: tables with room for a message of these sizes, some of them with nothing in them.
-use Prim.Native.Nat.{ℕ, _+_, _*_, _≤_, _<_}
+use Prim.Native.Nat.{ℕ, _+_, _*_, _≤_}
 use mathlib.Core.Path.{_≡_}
 use mathlib.Core.List.{List}
 use lib.ListN.{length, getD}
 use Rattle.model.specs.declared.Sizes.{Sizes}
 use Rattle.model.specs.Limits.{maxCounters}
-use Rattle.values.specs.Values.{width, Empty, Room}
 use Rattle.model.specs.Rows.{program}
 use Rattle.model.specs.Tables.{tables}
 use Rattle.model.specs.Counters.{counter-count}
 use Rattle.model.specs.Bounds.{bounds, bound-entries}
 use Rattle.bounds.specs.Limits.{In-form, Starts-table}
 use Rattle.ceilings.specs.Table.{Limits-table}
-
--- an empty set of values for each name
-pub record Flow-room (s : Sizes) (flow : List ℕ) : Type 0 where
-  pub empty : Empty (width (s .rows)) flow
-  pub room : Room (width (s .rows)) (s .names) flow
 
 -- A message of these sizes may have n counters: one for each state, and no more for letters than there is mail.
 pub record Countable (s : Sizes) (n : ℕ) : Type 0 where
@@ -42,11 +36,3 @@ pub record Limited (ws : List ℕ) (s : Sizes) (n : ℕ) (limits ceiling-at : Li
   pub in-form : In-form ws s n
   pub limits-table : Limits-table (bounds ws s n) limits
   pub starts-table : Starts-table n (bound-entries ws s) (s .bounds) ceiling-at
-
--- small in all that the tables depend on which most checks read
-pub record Small (s : Sizes) : Type 0 where
-  pub rows : s .rows ≤ 64
-  pub names : s .names ≤ 64
-  pub states : s .states ≤ 64
-  pub mails : s .mails ≤ 64
-  pub bounds : s .bounds ≤ 16

@@ -5,9 +5,10 @@ use ceilings_masks::fill_holders;
 use model::Sizes;
 use model::Verdict;
 use rooms::words16_1056;
-use rooms::words64_512;
+use rooms::words64_130;
 use rooms::words64_2048;
 use rules::no_class;
+use system_totals::Totals;
 ghost use mathlib.Core.Path.{_≡_};
 ghost use Prim.Native.Nat.{_≤_};
 ghost use Rattle.model.specs.Rows.{program};
@@ -16,7 +17,14 @@ ghost use Rattle.model.specs.Rules.{rules};
 ghost use Rattle.model.specs.Bounds.{bounds, leak-check};
 ghost use Rattle.model.specs.Verify.{answer};
 ghost use Rattle.rules.specs.Derived.{Rule-tables};
+ghost use Rattle.system_totals.specs.Lines.{Totalled};
 ghost use Rattle.checks.specs.Scratch.{Limited, Mask-room};
+
+// The verdict, and the totals of the rules, which are counted on the way.
+pub struct Leaks {
+    pub verdict: Verdict,
+    pub totals: Totals,
+}
 
 // Over lent sets of ceilings: one for each counter or state.
 fn leaks_on(
@@ -39,21 +47,22 @@ fn leaks_on(
     group: &mut [u64],
     short: &mut [u64],
     more: &mut [u64],
-) -> Verdict
+) -> Leaks
     requires { ⌜ Rule-tables (now ws) s (now afters) (now inners) (now «flow_at») w (now flows) (now names)
         (now «letter_at») (now letters) (now branches) ⌝ }
     requires { ⌜ Limited (now ws) s n (now limits) (now «ceiling_at») ⌝ }
     requires { ⌜ Mask-room n (now holders) (now unbounded) (now group) (now short) (now more) ⌝ }
-    ensures { λ v. ⌜ v ≡
+    ensures { λ l. ⌜ l .verdict ≡
         answer (leak-check (now (ws .entry)) s (bounds (now (ws .entry)) s n)
         (rules (program (now (ws .entry)) s) (tables (now (ws .entry)) s))) ⌝ }
+    ensures { λ l. ⌜ Totalled (program (now (ws .entry)) s) (tables (now (ws .entry)) s) (l .totals) ⌝ }
 {
     fill_holders(limits, s.bounds, n, holders, unbounded);
     let mut at = words16_1056();
     let mut tos = words16_1056();
     let mut others = words16_1056();
     let none = no_class(ws, s, &mut at);
-    let last = fill_groups(
+    let gathered = fill_groups(
         ws,
         s,
         afters,
@@ -76,7 +85,8 @@ fn leaks_on(
         &mut others,
         group,
     );
-    leak_check(
+    let last = gathered.class;
+    let verdict = leak_check(
         ws,
         s,
         afters,
@@ -100,7 +110,9 @@ fn leaks_on(
         &mut others,
         short,
         more,
-    )
+    );
+    let totals = gathered.totals;
+    Leaks { verdict, totals }
 }
 
 // Refusal 13 of few counters.
@@ -119,20 +131,21 @@ fn few_leaks(
     n: usize,
     limits: &[u16],
     ceiling_at: &[u16],
-) -> Verdict
+) -> Leaks
     requires { ⌜ Rule-tables (now ws) s (now afters) (now inners) (now «flow_at») w (now flows) (now names)
         (now «letter_at») (now letters) (now branches) ⌝ }
     requires { ⌜ Limited (now ws) s n (now limits) (now «ceiling_at») ⌝ }
-    requires { ⌜ n ≤ 128 ⌝ }
-    ensures { λ v. ⌜ v ≡
+    requires { ⌜ n ≤ 32 ⌝ }
+    ensures { λ l. ⌜ l .verdict ≡
         answer (leak-check (now (ws .entry)) s (bounds (now (ws .entry)) s n)
         (rules (program (now (ws .entry)) s) (tables (now (ws .entry)) s))) ⌝ }
+    ensures { λ l. ⌜ Totalled (program (now (ws .entry)) s) (tables (now (ws .entry)) s) (l .totals) ⌝ }
 {
-    let mut holders = words64_512();
-    let mut unbounded = words64_512();
-    let mut group = words64_512();
-    let mut short = words64_512();
-    let mut more = words64_512();
+    let mut holders = words64_130();
+    let mut unbounded = words64_130();
+    let mut group = words64_130();
+    let mut short = words64_130();
+    let mut more = words64_130();
     leaks_on(
         ws,
         s,
@@ -172,13 +185,14 @@ fn many_leaks(
     n: usize,
     limits: &[u16],
     ceiling_at: &[u16],
-) -> Verdict
+) -> Leaks
     requires { ⌜ Rule-tables (now ws) s (now afters) (now inners) (now «flow_at») w (now flows) (now names)
         (now «letter_at») (now letters) (now branches) ⌝ }
     requires { ⌜ Limited (now ws) s n (now limits) (now «ceiling_at») ⌝ }
-    ensures { λ v. ⌜ v ≡
+    ensures { λ l. ⌜ l .verdict ≡
         answer (leak-check (now (ws .entry)) s (bounds (now (ws .entry)) s n)
         (rules (program (now (ws .entry)) s) (tables (now (ws .entry)) s))) ⌝ }
+    ensures { λ l. ⌜ Totalled (program (now (ws .entry)) s) (tables (now (ws .entry)) s) (l .totals) ⌝ }
 {
     let mut holders = words64_2048();
     let mut unbounded = words64_2048();
@@ -224,15 +238,16 @@ pub fn leak_verdict(
     n: usize,
     limits: &[u16],
     ceiling_at: &[u16],
-) -> Verdict
+) -> Leaks
     requires { ⌜ Rule-tables (now ws) s (now afters) (now inners) (now «flow_at») w (now flows) (now names)
         (now «letter_at») (now letters) (now branches) ⌝ }
     requires { ⌜ Limited (now ws) s n (now limits) (now «ceiling_at») ⌝ }
-    ensures { λ v. ⌜ v ≡
+    ensures { λ l. ⌜ l .verdict ≡
         answer (leak-check (now (ws .entry)) s (bounds (now (ws .entry)) s n)
         (rules (program (now (ws .entry)) s) (tables (now (ws .entry)) s))) ⌝ }
+    ensures { λ l. ⌜ Totalled (program (now (ws .entry)) s) (tables (now (ws .entry)) s) (l .totals) ⌝ }
 {
-    if n <= 128 {
+    if n <= 32 {
         return few_leaks(
             ws,
             s,

@@ -1,5 +1,4 @@
 // The order of the checks: refusals 3 to 14 of the words of a message whose parts are whole.
-use crate::closes::open_verdict;
 use crate::leaks::leak_verdict;
 use crate::listing::listing_verdict;
 use crate::stages::met_verdict;
@@ -8,6 +7,7 @@ use answers::is_safe;
 use bads::bad_check;
 use bounds::entries::bound_check;
 use ceilings::fill_limits;
+use closure_sized::open_verdict;
 use evidence::entries::entry_check;
 use grammar::row_check;
 use layout::ends::ends;
@@ -30,7 +30,8 @@ ghost use Rattle.model.specs.Verify.{message-check, answer};
 ghost use Rattle.evidence.specs.Whole.{Parts-whole};
 ghost use Rattle.system_space.specs.Space.{words-after};
 ghost use Rattle.checks.specs.Order.{taken};
-ghost use Rattle.checks.specs.Scratch.{Flow-room, Limits-room};
+ghost use Rattle.closure_sized.specs.Flow.{Flow-room};
+ghost use Rattle.checks.specs.Scratch.{Limits-room};
 
 // Refusals 3 to 14, one after the other; after none the listing is written.
 pub fn words_verdict(
@@ -99,7 +100,7 @@ pub fn words_verdict(
     let mut names = words64_1024();
     fill_names(ws, s, &mut names);
     let w = width(s);
-    let leak = leak_verdict(
+    let leaks = leak_verdict(
         ws,
         s,
         &afters,
@@ -115,9 +116,11 @@ pub fn words_verdict(
         limits,
         &ceiling_at,
     );
+    let leak = leaks.verdict;
     if !is_safe(leak) {
         return leak;
     }
+    let totals = leaks.totals;
     listing_verdict(
         ws,
         s,
@@ -130,6 +133,7 @@ pub fn words_verdict(
         &letter_at,
         &letters,
         &branches,
+        totals,
         lent,
     )
 }

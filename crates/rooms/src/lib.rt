@@ -8,6 +8,12 @@ pub fn words16_66() -> [u16; 66]
     [0; 66]
 }
 
+pub fn words16_258() -> [u16; 258]
+    ensures { λ r. ⌜ Cleared 258 r ⌝ }
+{
+    [0; 258]
+}
+
 pub fn words16_512() -> [u16; 512]
     ensures { λ r. ⌜ Cleared 512 r ⌝ }
 {
@@ -24,6 +30,12 @@ pub fn words16_2048() -> [u16; 2048]
     ensures { λ r. ⌜ Cleared 2048 r ⌝ }
 {
     [0; 2048]
+}
+
+pub fn words16_16384() -> [u16; 16384]
+    ensures { λ r. ⌜ Cleared 16384 r ⌝ }
+{
+    [0; 16384]
 }
 
 pub fn words16_29195() -> [u16; 29195]
@@ -44,6 +56,12 @@ pub fn words32_66() -> [u32; 66]
     [0; 66]
 }
 
+pub fn words32_258() -> [u32; 258]
+    ensures { λ r. ⌜ Cleared 258 r ⌝ }
+{
+    [0; 258]
+}
+
 pub fn words32_1056() -> [u32; 1056]
     ensures { λ r. ⌜ Cleared 1056 r ⌝ }
 {
@@ -56,16 +74,16 @@ pub fn words64_130() -> [u64; 130]
     [0; 130]
 }
 
-pub fn words64_512() -> [u64; 512]
-    ensures { λ r. ⌜ Cleared 512 r ⌝ }
-{
-    [0; 512]
-}
-
 pub fn words64_1024() -> [u64; 1024]
     ensures { λ r. ⌜ Cleared 1024 r ⌝ }
 {
     [0; 1024]
+}
+
+pub fn words64_1285() -> [u64; 1285]
+    ensures { λ r. ⌜ Cleared 1285 r ⌝ }
+{
+    [0; 1285]
 }
 
 pub fn words64_2048() -> [u64; 2048]

@@ -2,7 +2,7 @@
 use model::Sizes;
 use model::Verdict;
 use system_listing::write_listing;
-use system_totals::totals_of;
+use system_totals::Totals;
 ghost use mathlib.Core.Path.{_≡_};
 ghost use Prim.Native.Nat.{_≤_};
 ghost use lib.ListN.{length};
@@ -11,9 +11,10 @@ ghost use Rattle.model.specs.Tables.{tables};
 ghost use Rattle.model.specs.Listing.{space-check};
 ghost use Rattle.model.specs.Verify.{answer};
 ghost use Rattle.rules.specs.Derived.{Rule-room, Rule-tables};
+ghost use Rattle.system_totals.specs.Lines.{Totalled};
 ghost use Rattle.system_space.specs.Space.{words-after};
 
-// The listing written, or refusal 14 where it has no room.
+// The listing written, or refusal 14 where it has no room, by the totals of its rules and rows.
 pub fn space_verdict(
     ws: &[u16],
     s: Sizes,
@@ -26,6 +27,7 @@ pub fn space_verdict(
     letter_at: &[u16],
     letters: &[u16],
     branches: &[u16],
+    n: Totals,
     at: &mut [u16],
     tos: &mut [u16],
     others: &mut [u16],
@@ -33,26 +35,11 @@ pub fn space_verdict(
 ) -> Verdict
     requires { ⌜ Rule-tables (now ws) s (now afters) (now inners) (now «flow_at») w (now flows) (now names) (now «letter_at») (now letters) (now branches) ⌝ }
     requires { ⌜ s .rows ≤ length (now at) ⌝ }
-    requires { ⌜ Rule-room s (now tos) (now others) × (length (now tos) ≤ 65536) ⌝ }
+    requires { ⌜ Rule-room s (now tos) (now others) ⌝ }
+    requires { ⌜ Totalled (program (now ws) s) (tables (now ws) s) n ⌝ }
     ensures { λ v. ⌜ v ≡ answer (space-check (program (now (ws .entry)) s) (tables (now (ws .entry)) s) (length (now (lent .entry)))) ⌝ }
     ensures { λ v. ⌜ now (lent .exit) ≡ words-after v (now (ws .entry)) s (now (lent .entry)) ⌝ }
 {
-    let n = totals_of(
-        ws,
-        s,
-        afters,
-        inners,
-        flow_at,
-        w,
-        flows,
-        names,
-        letter_at,
-        letters,
-        branches,
-        at,
-        tos,
-        others,
-    );
     let needed = 4 + 2 * n.rows;
     if needed > lent.len() {
         return Verdict::Space(needed);

@@ -19,7 +19,7 @@ use Rattle.rules.specs.Listed.{kind-effect, listed-rule, listed-rules, State-ru
 use Rattle.rules.proofs.Gather.{gather-last}
 use Rattle.rules.proofs.Adding.{listed-none}
 use Rattle.system_totals.specs.declared.Totals.{Totals}
-use Rattle.system_totals.specs.Lines.{lines, counted, third-tag, third-lines, row-count}
+use Rattle.system_totals.specs.Lines.{lines, counted, Totalled, third-tag, third-lines, row-count}
 
 abbrev pub totals : ℕ → ℕ → Totals
 totals rules rows = record { rules = rules; rows = rows }
@@ -143,11 +143,15 @@ module _ (p : Program) (t : Tables) where
       }
 
   -- at the end
-  pub summed-all : (i a b : ℕ) → Summed i a b → i ≡ t .states .size → i ≤ 512 → (totals a b ≡ counted (rules p t)) × ((a ≤ 33554432) × (b ≤ 100663296))
+  pub summed-all : (i a b : ℕ) → Summed i a b → i ≡ t .states .size → i ≤ 512 → Totalled p t (totals a b)
   unfolding counted rules
   summed-all i a b s same low =
       let here : totals a b ≡ counted (gather 0 i of-state) = λ d. record { rules = s .rules-so-far d; rows = s .rows-so-far d } in
-      (here ∙ ap (λ n. counted (gather 0 n of-state)) same, (omega (arith, s .rules-low), omega (arith, s .rows-low)))
+      record {
+        told = here ∙ ap (λ n. counted (gather 0 n of-state)) same;
+        few-rules = omega (arith, s .rules-low);
+        few-rows = omega (arith, s .rows-low);
+      }
 
 -- the rows of n rules, by the test of the third tag
 pub two-rows : (head n third : ℕ) → third ≡ third-tag (kind head) → third ≡ 0 → (n * 2 ≡ n * row-count (third-tag (kind head))) × (n * 2 ≤ 3 * n)

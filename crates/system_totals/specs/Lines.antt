@@ -1,11 +1,13 @@
 -- The rows of rules, and how many rules and rows there are.
-use Prim.Native.Nat.{ℕ}
+use Prim.Native.Nat.{ℕ, _≤_}
+use mathlib.Core.Path.{_≡_}
 use mathlib.Core.Bool.{true, false}
 use mathlib.Core.List.{List, [], _∷_}
 use lib.ListN.{length}
 use lib.Dec.{eqb}
-use Rattle.model.specs.Rows.{Kind, give, build, function, call, send, spawn, self, case, receive, other}
-use Rattle.model.specs.Rules.{Rule, from-all}
+use Rattle.model.specs.Rows.{Program, Kind, give, build, function, call, send, spawn, self, case, receive, other}
+use Rattle.model.specs.Tables.{Tables}
+use Rattle.model.specs.Rules.{Rule, from-all, rules}
 use Rattle.model.specs.Listing.{Line, line, rule-lines}
 use Rattle.system_totals.specs.declared.Totals.{Totals}
 
@@ -16,6 +18,12 @@ lines ρs = from-all ρs rule-lines
 -- how many rules, and how many rows
 unfoldable pub counted : List Rule → Totals
 counted ρs = record { rules = length ρs; rows = length (lines ρs) }
+
+-- These are the totals of the system: of at most 512 states, none with more than 65,536 rules.
+pub record Totalled (p : Program) (t : Tables) (n : Totals) : Type 0 where
+  pub told : n ≡ counted (rules p t)
+  pub few-rules : n .rules ≤ 33554432
+  pub few-rows : n .rows ≤ 100663296
 
 -- "then nothing, (52, letter counter read), (53, letter counter put) or (54, new state)":
 -- the tag that the rules at a head of this kind have there, and 0 for nothing

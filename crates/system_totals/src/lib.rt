@@ -1,20 +1,14 @@
-// How many rules and rows the listing has.
+// How many rules and rows the listing has: the rows of the rules of one state.
 use lists::state_location;
 use model::Sizes;
 use program::rows::tag;
-use rules::no_class;
-use rules::turn_to;
-use state_rules::state_rules;
 ghost use mathlib.Core.Path.{_≡_};
 ghost use Prim.Native.Nat.{_*_, _≤_};
-ghost use lib.ListN.{length};
 ghost use Rattle.model.specs.Words.{right};
 ghost use Rattle.model.specs.Rows.{program, tag, kind};
 ghost use Rattle.model.specs.Tables.{tables};
-ghost use Rattle.model.specs.Rules.{rules};
 ghost use Rattle.lists.specs.Ready.{Ready};
-ghost use Rattle.rules.specs.Derived.{Rule-room, Rule-tables};
-ghost use Rattle.system_totals.specs.Lines.{counted, third-tag, row-count};
+ghost use Rattle.system_totals.specs.Lines.{third-tag, row-count};
 
 pub struct Totals {
     pub rules: usize,
@@ -42,63 +36,9 @@ pub fn third_tag(head: usize) -> u32
 }
 
 // The rows of n rules at a head of this tag.
-fn row_total(head: usize, n: usize) -> usize
+pub fn row_total(head: usize, n: usize) -> usize
     requires { ⌜ n ≤ 65536 ⌝ }
     ensures { λ r. ⌜ (r ≡ n * row-count (third-tag (kind head))) × (r ≤ 3 * n) ⌝ }
 {
     if third_tag(head) == 0 { n * 2 } else { n * 3 }
-}
-
-// Of the whole system, state by state.
-pub fn totals_of(
-    ws: &[u16],
-    s: Sizes,
-    afters: &[u16],
-    inners: &[u16],
-    flow_at: &[u16],
-    w: usize,
-    flows: &[u64],
-    names: &[u64],
-    letter_at: &[u16],
-    letters: &[u16],
-    branches: &[u16],
-    at: &mut [u16],
-    tos: &mut [u16],
-    others: &mut [u16],
-) -> Totals
-    requires { ⌜ Rule-tables (now ws) s (now afters) (now inners) (now «flow_at») w (now flows) (now names) (now «letter_at») (now letters) (now branches) ⌝ }
-    requires { ⌜ s .rows ≤ length (now at) ⌝ }
-    requires { ⌜ Rule-room s (now tos) (now others) × (length (now tos) ≤ 65536) ⌝ }
-    ensures { λ n. ⌜ n ≡ counted (rules (program (now (ws .entry)) s) (tables (now (ws .entry)) s)) ⌝ }
-    ensures { λ n. ⌜ (n .rules ≤ 33554432) × (n .rows ≤ 100663296) ⌝ }
-{
-    let mut rules = 0;
-    let mut rows = 0;
-    let mut k = no_class(ws, s, at);
-    let mut i = 0;
-    while i < s.states {
-        k = turn_to(ws, s, k, at, i);
-        let n = state_rules(
-            ws,
-            s,
-            afters,
-            inners,
-            flow_at,
-            w,
-            flows,
-            names,
-            letter_at,
-            letters,
-            branches,
-            k,
-            at,
-            i,
-            tos,
-            others,
-        );
-        rules += n;
-        rows += row_total(state_head(ws, s, i), n);
-        i += 1;
-    }
-    Totals { rules, rows }
 }

@@ -1,6 +1,6 @@
 // The verifier: a message and lent words in; the verdict, the part handed on and the words written out.
 use answers::told_of;
-use checks::verdict::verdict_of;
+use checks_sized::verdict::verdict_of;
 use handed::part_of;
 ghost use mathlib.Core.Path.{_≡_};
 ghost use lib.ListN.{length};

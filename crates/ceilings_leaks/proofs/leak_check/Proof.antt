@@ -22,16 +22,16 @@ use Rattle.ceilings.proofs.Begun.{begun, room-all, row-at}
 use Rattle.ceilings_covers.specs.Covers.{named, passes}
 use Rattle.ceilings_covers.proofs.Covering.{candidate-covers, covers-not}
 use Rattle.ceilings_groups.proofs.Settling.{settles}
-use Rattle.ceilings_leaks.proofs.Leaking.{leaks, by-state, by-step, step-at, Walk, Left-of, walk-start, walk-end, walk-limit, walk-settled, rules-start, rules-turn, rules-leak, rules-done, unused, covered, led-out, left-start, left-low, left-next, left-covers, left-none, ceiling-turn, states-few, step-shape, leak-safe, leak-refused-at, state-none, beside-at, named-next, first-low, whole-of, rooms-of}
+use Rattle.ceilings_leaks.proofs.Leaking.{leaks, by-state, by-step, step-at, Walk, Left-of, walk-start, walk-end, walk-limit, walk-settled, rules-start, rules-turn, rules-leak, rules-done, unused, covered, led-out, left-start, left-low, left-surely, left-next, left-covers, left-none, ceiling-turn, states-few, step-shape, leak-safe, leak-refused-at, state-none, beside-at, named-next, first-low, whole-of, rooms-of}
 use Rattle.ceilings_leaks.proofs.leak_check.Statement.{statement}
 use Rattle.ceilings_leaks.proofs.leak_check.Tie as tie
 
 abbrev Inv-loop : tie.InvT-loop
-Inv-loop ws s afters inners flow-at w flows names letter-at letters branches n limits starts holders unbounded group at tos others short more class k first over e i left m kind j to other step mask a k2 b₀ k-end b =
+Inv-loop ws s afters inners flow-at w flows names letter-at letters branches n limits starts holders unbounded group at tos others short more class k first over e i left m kind j to other step mask a₀ k2 b₀ k-end a b =
     (b ≤ 3) × ((x : ℕ) → x < b → named step x < n → passes limits (s .bounds) k k2 step (named step x) ≡ true)
 
 abbrev μ-loop : tie.MeasureT-loop
-μ-loop ws s afters inners flow-at w flows names letter-at letters branches n limits starts holders unbounded group at tos others short more class k first over e i left m kind j to other step mask a k2 b₀ k-end b = 3 - b
+μ-loop ws s afters inners flow-at w flows names letter-at letters branches n limits starts holders unbounded group at tos others short more class k first over e i left m kind j to other step mask a₀ k2 b₀ k-end a b = 3 - b
 
 abbrev Inv-candidates : tie.InvT-candidates
 Inv-candidates ws s afters inners flow-at w flows names letter-at letters branches n limits starts holders unbounded group at tos others short more class k first over e i left m kind j₀ to other step mask a₀ k-end j a =
@@ -550,6 +550,67 @@ candidates-requires c κs =
     let h = c .before .before .before .before .before .before .before .before .before .before .before .before .before .before .before .before .before .before .before .before .before .before .before .before .before .before .before .before .before .states .inv in
     (beside-at _ _ _ _ _ _ _ _ _ _ (h .0) (room-all _ _ _ _ (p .1 .0 .in-form) (p .1 .0 .limits-table)) (p .0 .ready .limits .bounds) (c .before .before .before .before .before .before .before .before .before .before .before .before .before .before .before .before .before .before .before .before .before .before .before .before .before .before .before .before .before .before .before .before .before .before .before .before .before .before .ceilings-test .taken) (p .1 .0 .held-by) (c .before .before .before .before .before .before .before .before .before .before .before .before .before .before .before .before .before .before .before .before .before .before .before .before .before .before .before .before .before .before .before .before .before .before .compare .ensures .0) (c .before .before .before .before .before .before .before .before .before .before .before .before .before .before .before .before .before .before .before .before .before .before .before .before .before .before .before .before .before .before .before .before .before .before .compare .ensures .1) (omega (arith, c .before .before .before .before .before .before .before .before .before .before .before .before .before .before .before .before .before .before .before .before .before .before .before .before .before .before .before .before .before .before .before .before .before .before .compare .kept .1 .1 .1 .1 .1 .1 .1 .1 .0, c .before .before .before .before .before .before .before .before .before .before .before .before .before .before .before .before .before .before .before .before .before .before .before .before .before .before .before .before .before .before .before .before .before .before .before .before .before .before .before .ceilings .inv .6, p .1 .1 .1 .1 .1 .short-room)) (omega (arith, c .before .before .before .before .before .before .before .before .before .before .before .before .before .before .before .before .before .before .before .before .before .before .before .before .before .before .before .before .before .before .before .before .before .before .compare .kept .1 .1 .1 .1 .1 .1 .1 .1 .1 .0, c .before .before .before .before .before .before .before .before .before .before .before .before .before .before .before .before .before .before .before .before .before .before .before .before .before .before .before .before .before .before .before .before .before .before .before .before .before .before .before .ceilings .inv .7, p .1 .1 .1 .1 .1 .more-room)), (step-shape _ _ _ _ (p .0 .ready) (p .1 .0 .counted) (p .1 .0 .limits-table) _ _ _ _ _ _ (c .before .before .before .before .before .before .before .before .before .before .before .before .before .before .before .before .before .before .before .before .before .before .before .before .before .before .if1 .left) (c .before .before .before .before .before .before .before .before .before .before .before .before .before .state-rules .ensures) (c .before .before .before .before .before .before .before .before .kind-at .ensures .0) (c .before .before .before .before .before .before .before .before .kind-at .ensures .1) (c .before .before .before .before .before .before .rules-test .taken), (c .before .before .before .before .before .before .before .before .before .before .before .before .before .before .before .before .before .before .before .before .before .before .before .left-after .ensures, sym (c .before .before .before .is-usable .ensures) ∙ not-false _ (c .before .before .if3 .left))))
 
+surely-covered-requires :
+    tie.Need-surely-covered-requires
+    Inv-loop
+    μ-loop
+    Inv-candidates
+    μ-candidates
+    Inv-rules
+    μ-rules
+    Inv-states
+    μ-states
+    Inv-ceilings
+    μ-ceilings
+surely-covered-requires c κs = search needs
+
+add-j-2 :
+    tie.Need-add-j-2
+    Inv-loop
+    μ-loop
+    Inv-candidates
+    μ-candidates
+    Inv-rules
+    μ-rules
+    Inv-states
+    μ-states
+    Inv-ceilings
+    μ-ceilings
+add-j-2 c = search needs
+
+rules-less-2 :
+    tie.Need-rules-less-2
+    Inv-loop
+    μ-loop
+    Inv-candidates
+    μ-candidates
+    Inv-rules
+    μ-rules
+    Inv-states
+    μ-states
+    Inv-ceilings
+    μ-ceilings
+rules-less-2 c = search needs
+
+rules-again-2 :
+    tie.Need-rules-again-2
+    Inv-loop
+    μ-loop
+    Inv-candidates
+    μ-candidates
+    Inv-rules
+    μ-rules
+    Inv-states
+    μ-states
+    Inv-ceilings
+    μ-ceilings
+rules-again-2 c =
+    let p = c .before .before .before .before .before .before .before .before .before .before .before .before .before .before .before .before .before .before .before .before .before .before .before .before .before .before .before .before .before .before .before .before .before .before .before .before .before .before .before .before .before .before .before .before .before .before .before .before .before .before .before .before .before .before .before .before .before .before .before .before .before .before .pre in
+    let h = c .before .before .before .before .before .before .before .before .before .before .before .before .before .before .before .before .before .before .before .before .before .before .before .before .before .before .before .before .before .before .before .before .states .inv in
+    let few = states-few _ _ _ _ (p .0 .ready) (p .1 .0 .counted) (p .1 .0 .limits-table) in
+    let some = left-surely (c .before .before .before .before .before .before .before .before .before .before .before .before .before .before .before .before .before .before .before .before .before .before .before .before .before .before .before .before .before .before .before .before .before .before .before .before .before .before .before .before .before .before .before .before .before .before .before .before .before .before .before .before .before .before .before .before .before .before .before .before .before .before .args .ws .now) (c .before .before .before .before .before .before .before .before .before .before .before .before .before .before .before .before .before .before .before .before .before .before .before .before .before .before .before .before .before .before .before .before .before .before .before .before .before .before .before .before .before .before .before .before .before .before .before .before .before .before .before .before .before .before .before .before .before .before .before .before .before .before .args .s) _ _ _ _ _ (c .before .before .candidates2 .ensures .0) (p .0 .ready .limits .bounds) (c .before .before .candidates2 .ensures .1) (sym (c .before .surely-covered .ensures) ∙ c .if4 .taken) in
+    (rules-turn _ _ _ _ _ (p .1 .1 .1 .0) _ _ _ (h .1) few _ (c .before .before .before .before .before .before .before .before .before .before .before .before .before .before .before .before .before .before .before .before .before .before .before .before .before .before .before .before .before .before .before .counter-at .ensures) (c .before .before .before .before .before .before .before .before .before .before .before .before .before .before .before .before .before .before .before .before .before .before .before .before .before .before .before .before .before .if1 .left) _ _ _ _ (c .before .before .before .before .before .before .before .before .before .before .before .before .before .before .before .before .state-rules .ensures) (c .before .before .before .before .before .before .before .before .before .before .before .kind-at .ensures .0) _ (c .before .before .before .before .before .before .before .before .before .rules-test .taken) (c .before .before .before .before .before .before .before .before .before .before .rules .inv .0) (covered _ _ _ _ _ _ (sym (c .before .before .before .before .before .before .is-usable .ensures) ∙ not-false _ (c .before .before .before .before .before .if3 .left)) some), omega (arith, c .before .before .before .before .before .before .before .before .before .rules-test .taken))
+
 first-set-requires :
     tie.Need-first-set-requires
     Inv-loop
@@ -576,35 +637,7 @@ candidates-holds :
     μ-states
     Inv-ceilings
     μ-ceilings
-candidates-holds c = (refl, left-start _ _ _ _ _ _ _ (c .before .candidates2 .ensures) (c .before .before .before .before .before .before .before .before .before .before .before .before .before .before .before .before .before .before .before .before .before .before .before .before .before .before .before .before .before .before .before .before .before .before .before .before .before .before .before .before .before .before .before .before .before .before .before .before .before .before .before .before .before .before .before .before .before .before .before .before .before .pre .0 .ready .limits .bounds) _ (c .first-set .ensures))
-
-add-next-in :
-    tie.Need-add-next-in
-    Inv-loop
-    μ-loop
-    Inv-candidates
-    μ-candidates
-    Inv-rules
-    μ-rules
-    Inv-states
-    μ-states
-    Inv-ceilings
-    μ-ceilings
-add-next-in c = record { fits = omega (arith, c .candidates-test .taken) }
-
-next-in-requires :
-    tie.Need-next-in-requires
-    Inv-loop
-    μ-loop
-    Inv-candidates
-    μ-candidates
-    Inv-rules
-    μ-rules
-    Inv-states
-    μ-states
-    Inv-ceilings
-    μ-ceilings
-next-in-requires c κs = omega (arith, c .candidates-test .taken)
+candidates-holds c = (refl, left-start _ _ _ _ _ _ _ (c .before .before .before .candidates2 .ensures .0) (c .before .before .before .before .before .before .before .before .before .before .before .before .before .before .before .before .before .before .before .before .before .before .before .before .before .before .before .before .before .before .before .before .before .before .before .before .before .before .before .before .before .before .before .before .before .before .before .before .before .before .before .before .before .before .before .before .before .before .before .before .before .before .before .pre .0 .ready .limits .bounds) _ (c .first-set .ensures))
 
 loop-holds :
     tie.Need-loop-holds
@@ -647,9 +680,37 @@ passes-requires :
     Inv-ceilings
     μ-ceilings
 passes-requires c κs =
-    let p = c .before .before .before .before .before .before .before .before .before .before .before .before .before .before .before .before .before .before .before .before .before .before .before .before .before .before .before .before .before .before .before .before .before .before .before .before .before .before .before .before .before .before .before .before .before .before .before .before .before .before .before .before .before .before .before .before .before .before .before .before .before .before .before .before .before .before .before .before .pre in
-    let h = c .before .before .before .before .before .before .before .before .before .before .before .before .before .before .before .before .before .before .before .before .before .before .before .before .before .before .before .before .before .before .before .before .before .before .before .before .before .before .states .inv in
-    ((omega (arith, h .0, c .before .before .before .before .before .before .before .before .before .before .before .before .before .before .before .before .before .before .before .before .before .before .before .before .before .before .before .before .before .before .before .before .before .before .before .before .before .before .before .before .before .before .before .before .before .before .before .ceilings-test .taken), left-low _ _ _ _ _ _ _ (c .before .before .before .before .before .before .before .before .candidates2 .ensures) (p .0 .ready .limits .bounds) _ (c .before .before .before .before .before .before .candidates .inv .1) (c .before .before .before .before .before .candidates-test .taken)), (row-at _ _ _ _ (p .1 .0 .in-form) (p .1 .0 .limits-table) _ (c .if4 .taken), c .before .before .before .before .before .before .before .before .before .before .before .before .before .before .before .before .before .kind-at .ensures .1))
+    let p = c .before .before .before .before .before .before .before .before .before .before .before .before .before .before .before .before .before .before .before .before .before .before .before .before .before .before .before .before .before .before .before .before .before .before .before .before .before .before .before .before .before .before .before .before .before .before .before .before .before .before .before .before .before .before .before .before .before .before .before .before .before .before .before .before .before .before .before .before .before .pre in
+    let h = c .before .before .before .before .before .before .before .before .before .before .before .before .before .before .before .before .before .before .before .before .before .before .before .before .before .before .before .before .before .before .before .before .before .before .before .before .before .before .before .states .inv in
+    ((omega (arith, h .0, c .before .before .before .before .before .before .before .before .before .before .before .before .before .before .before .before .before .before .before .before .before .before .before .before .before .before .before .before .before .before .before .before .before .before .before .before .before .before .before .before .before .before .before .before .before .before .before .before .ceilings-test .taken), left-low _ _ _ _ _ _ _ (c .before .before .before .before .before .before .before .before .before .candidates2 .ensures .0) (p .0 .ready .limits .bounds) _ (c .before .before .before .before .before .candidates .inv .1) (c .before .before .before .before .candidates-test .taken)), (row-at _ _ _ _ (p .1 .0 .in-form) (p .1 .0 .limits-table) _ (c .if5 .taken), c .before .before .before .before .before .before .before .before .before .before .before .before .before .before .before .before .before .before .kind-at .ensures .1))
+
+add-next-in :
+    tie.Need-add-next-in
+    Inv-loop
+    μ-loop
+    Inv-candidates
+    μ-candidates
+    Inv-rules
+    μ-rules
+    Inv-states
+    μ-states
+    Inv-ceilings
+    μ-ceilings
+add-next-in c = record { fits = omega (arith, c .before .before .before .before .before .before .candidates-test .taken) }
+
+next-in-requires :
+    tie.Need-next-in-requires
+    Inv-loop
+    μ-loop
+    Inv-candidates
+    μ-candidates
+    Inv-rules
+    μ-rules
+    Inv-states
+    μ-states
+    Inv-ceilings
+    μ-ceilings
+next-in-requires c κs = omega (arith, c .before .before .before .before .before .before .candidates-test .taken)
 
 candidates-less :
     tie.Need-candidates-less
@@ -663,7 +724,7 @@ candidates-less :
     μ-states
     Inv-ceilings
     μ-ceilings
-candidates-less c = omega (arith, first-low _ _ _ (omega (arith, c .before .before .before .before .before .before .before .candidates-test .taken)) (c .before .before .before .before .before .before .next-in .ensures), c .before .before .before .before .before .before .before .candidates-test .taken)
+candidates-less c = omega (arith, first-low _ _ _ (omega (arith, c .before .before .before .before .before .before .before .candidates-test .taken)) (c .next-in .ensures), c .before .before .before .before .before .before .before .candidates-test .taken)
 
 candidates-again :
     tie.Need-candidates-again
@@ -678,8 +739,8 @@ candidates-again :
     Inv-ceilings
     μ-ceilings
 candidates-again c =
-    let p = c .before .before .before .before .before .before .before .before .before .before .before .before .before .before .before .before .before .before .before .before .before .before .before .before .before .before .before .before .before .before .before .before .before .before .before .before .before .before .before .before .before .before .before .before .before .before .before .before .before .before .before .before .before .before .before .before .before .before .before .before .before .before .before .before .before .before .before .before .before .before .pre in
-    (c .before .before .before .before .before .before .before .before .candidates .inv .0, left-next _ _ _ _ _ _ _ (c .before .before .before .before .before .before .before .before .before .before .candidates2 .ensures) (p .0 .ready .limits .bounds) _ (c .before .before .before .before .before .before .before .before .candidates .inv .1) (c .before .before .before .before .before .before .before .candidates-test .taken) _ (c .before .before .before .before .before .before .next-in .ensures) (covers-not _ _ _ _ _ _ _ (c .before .before .if4 .taken) (sym (c .before .passes .ensures) ∙ not-true _ (c .if5 .taken))))
+    let p = c .before .before .before .before .before .before .before .before .before .before .before .before .before .before .before .before .before .before .before .before .before .before .before .before .before .before .before .before .before .before .before .before .before .before .before .before .before .before .before .before .before .before .before .before .before .before .before .before .before .before .before .before .before .before .before .before .before .before .before .before .before .before .before .before .before .before .before .before .before .before .before .before .pre in
+    (c .before .before .before .before .before .before .before .before .candidates .inv .0, left-next _ _ _ _ _ _ _ (c .before .before .before .before .before .before .before .before .before .before .before .before .candidates2 .ensures .0) (p .0 .ready .limits .bounds) _ (c .before .before .before .before .before .before .before .before .candidates .inv .1) (c .before .before .before .before .before .before .before .candidates-test .taken) _ (c .next-in .ensures) (covers-not _ _ _ _ _ _ _ (c .before .before .before .if5 .taken) (sym (c .before .before .passes .ensures) ∙ not-true _ (c .before .if6 .taken))))
 
 add-b :
     tie.Need-add-b
@@ -722,10 +783,10 @@ loop-again :
     Inv-ceilings
     μ-ceilings
 loop-again c =
-    (omega (arith, c .before .before .loop-test .taken), named-next _ _ _ _ _ _ _ _ (c .before .named .ensures) (⊎-elim (λ w l. sym (w .1 .ensures) ∙ not-false _ (w .2 .left)) (λ w l. absurd (omega (arith, w .left, l))) (c .if4 .came)) (c .before .before .before .loop .inv .1))
+    (omega (arith, c .before .before .loop-test .taken), named-next _ _ _ _ _ _ _ _ (c .before .named .ensures) (⊎-elim (λ w l. sym (w .1 .ensures) ∙ not-false _ (w .2 .left)) (λ w l. absurd (omega (arith, w .left, l))) (c .if5 .came)) (c .before .before .before .loop .inv .1))
 
-add-j-2 :
-    tie.Need-add-j-2
+add-j-3 :
+    tie.Need-add-j-3
     Inv-loop
     μ-loop
     Inv-candidates
@@ -736,10 +797,10 @@ add-j-2 :
     μ-states
     Inv-ceilings
     μ-ceilings
-add-j-2 c = record { fits = omega (arith, c .before .before .before .before .candidates .inv .0, c .before .before .before .before .before .before .before .before .before .before .before .before .before .rules-test .taken) }
+add-j-3 c = record { fits = omega (arith, c .before .before .before .candidates .inv .0, c .before .before .before .before .before .before .before .before .before .before .before .before .before .before .rules-test .taken) }
 
-rules-less-2 :
-    tie.Need-rules-less-2
+rules-less-3 :
+    tie.Need-rules-less-3
     Inv-loop
     μ-loop
     Inv-candidates
@@ -750,10 +811,10 @@ rules-less-2 :
     μ-states
     Inv-ceilings
     μ-ceilings
-rules-less-2 c = omega (arith, c .before .before .before .before .candidates .inv .0, c .before .before .before .before .before .before .before .before .before .before .before .before .before .rules-test .taken)
+rules-less-3 c = omega (arith, c .before .before .before .candidates .inv .0, c .before .before .before .before .before .before .before .before .before .before .before .before .before .before .rules-test .taken)
 
-rules-again-2 :
-    tie.Need-rules-again-2
+rules-again-3 :
+    tie.Need-rules-again-3
     Inv-loop
     μ-loop
     Inv-candidates
@@ -764,15 +825,15 @@ rules-again-2 :
     μ-states
     Inv-ceilings
     μ-ceilings
-rules-again-2 c =
-    let p = c .before .before .before .before .before .before .before .before .before .before .before .before .before .before .before .before .before .before .before .before .before .before .before .before .before .before .before .before .before .before .before .before .before .before .before .before .before .before .before .before .before .before .before .before .before .before .before .before .before .before .before .before .before .before .before .before .before .before .before .before .before .before .before .before .before .before .pre in
-    let h = c .before .before .before .before .before .before .before .before .before .before .before .before .before .before .before .before .before .before .before .before .before .before .before .before .before .before .before .before .before .before .before .before .before .before .before .before .states .inv in
+rules-again-3 c =
+    let p = c .before .before .before .before .before .before .before .before .before .before .before .before .before .before .before .before .before .before .before .before .before .before .before .before .before .before .before .before .before .before .before .before .before .before .before .before .before .before .before .before .before .before .before .before .before .before .before .before .before .before .before .before .before .before .before .before .before .before .before .before .before .before .before .before .before .before .before .pre in
+    let h = c .before .before .before .before .before .before .before .before .before .before .before .before .before .before .before .before .before .before .before .before .before .before .before .before .before .before .before .before .before .before .before .before .before .before .before .before .before .states .inv in
     let few = states-few _ _ _ _ (p .0 .ready) (p .1 .0 .counted) (p .1 .0 .limits-table) in
-    let shape = step-shape _ _ _ _ (p .0 .ready) (p .1 .0 .counted) (p .1 .0 .limits-table) _ _ _ _ _ _ (c .before .before .before .before .before .before .before .before .before .before .before .before .before .before .before .before .before .before .before .before .before .before .before .before .before .before .before .before .before .before .before .before .before .if1 .left) (c .before .before .before .before .before .before .before .before .before .before .before .before .before .before .before .before .before .before .before .before .state-rules .ensures) (c .before .before .before .before .before .before .before .before .before .before .before .before .before .before .before .kind-at .ensures .0) (c .before .before .before .before .before .before .before .before .before .before .before .before .before .before .before .kind-at .ensures .1) (c .before .before .before .before .before .before .before .before .before .before .before .before .before .rules-test .taken) in
-    let d = c .before .before .before .before .candidates .inv in
-    let low = left-low _ _ _ _ _ _ _ (c .before .before .before .before .before .before .candidates2 .ensures) (p .0 .ready .limits .bounds) _ (d .1) (c .before .before .before .candidates-test .taken) in
-    let some = left-covers _ _ _ _ _ _ _ (c .before .before .before .before .before .before .candidates2 .ensures) (p .0 .ready .limits .bounds) _ (d .1) (c .before .before .before .candidates-test .taken) (candidate-covers _ _ _ _ _ shape _ _ low (d .1 .in-mask (c .before .before .before .candidates-test .taken)) (c .before .before .before .before .before .before .candidates2 .ensures) (λ x l. c .before .loop .inv .1 x (omega (arith, l, c .loop-test .left)))) in
-    rw (d .0) (rules-turn _ _ _ _ _ (p .1 .1 .1 .0) _ _ _ (h .1) few _ (c .before .before .before .before .before .before .before .before .before .before .before .before .before .before .before .before .before .before .before .before .before .before .before .before .before .before .before .before .before .before .before .before .before .before .before .counter-at .ensures) (c .before .before .before .before .before .before .before .before .before .before .before .before .before .before .before .before .before .before .before .before .before .before .before .before .before .before .before .before .before .before .before .before .before .if1 .left) _ _ _ _ (c .before .before .before .before .before .before .before .before .before .before .before .before .before .before .before .before .before .before .before .before .state-rules .ensures) (c .before .before .before .before .before .before .before .before .before .before .before .before .before .before .before .kind-at .ensures .0) _ (c .before .before .before .before .before .before .before .before .before .before .before .before .before .rules-test .taken) (c .before .before .before .before .before .before .before .before .before .before .before .before .before .before .rules .inv .0) (covered _ _ _ _ _ _ (sym (c .before .before .before .before .before .before .before .before .before .before .is-usable .ensures) ∙ not-false _ (c .before .before .before .before .before .before .before .before .before .if3 .left)) some), omega (arith, c .before .before .before .before .before .before .before .before .before .before .before .before .before .rules-test .taken))
+    let shape = step-shape _ _ _ _ (p .0 .ready) (p .1 .0 .counted) (p .1 .0 .limits-table) _ _ _ _ _ _ (c .before .before .before .before .before .before .before .before .before .before .before .before .before .before .before .before .before .before .before .before .before .before .before .before .before .before .before .before .before .before .before .before .before .before .if1 .left) (c .before .before .before .before .before .before .before .before .before .before .before .before .before .before .before .before .before .before .before .before .before .state-rules .ensures) (c .before .before .before .before .before .before .before .before .before .before .before .before .before .before .before .before .kind-at .ensures .0) (c .before .before .before .before .before .before .before .before .before .before .before .before .before .before .before .before .kind-at .ensures .1) (c .before .before .before .before .before .before .before .before .before .before .before .before .before .before .rules-test .taken) in
+    let d = c .before .before .before .candidates .inv in
+    let low = left-low _ _ _ _ _ _ _ (c .before .before .before .before .before .before .before .candidates2 .ensures .0) (p .0 .ready .limits .bounds) _ (d .1) (c .before .before .candidates-test .taken) in
+    let some = left-covers _ _ _ _ _ _ _ (c .before .before .before .before .before .before .before .candidates2 .ensures .0) (p .0 .ready .limits .bounds) _ (d .1) (c .before .before .candidates-test .taken) (candidate-covers _ _ _ _ _ shape _ _ low (d .1 .in-mask (c .before .before .candidates-test .taken)) (c .before .before .before .before .before .before .before .candidates2 .ensures .0) (λ x l. c .before .loop .inv .1 x (omega (arith, l, c .loop-test .left)))) in
+    rw (d .0) (rules-turn _ _ _ _ _ (p .1 .1 .1 .0) _ _ _ (h .1) few _ (c .before .before .before .before .before .before .before .before .before .before .before .before .before .before .before .before .before .before .before .before .before .before .before .before .before .before .before .before .before .before .before .before .before .before .before .before .counter-at .ensures) (c .before .before .before .before .before .before .before .before .before .before .before .before .before .before .before .before .before .before .before .before .before .before .before .before .before .before .before .before .before .before .before .before .before .before .if1 .left) _ _ _ _ (c .before .before .before .before .before .before .before .before .before .before .before .before .before .before .before .before .before .before .before .before .before .state-rules .ensures) (c .before .before .before .before .before .before .before .before .before .before .before .before .before .before .before .before .kind-at .ensures .0) _ (c .before .before .before .before .before .before .before .before .before .before .before .before .before .before .rules-test .taken) (c .before .before .before .before .before .before .before .before .before .before .before .before .before .before .before .rules .inv .0) (covered _ _ _ _ _ _ (sym (c .before .before .before .before .before .before .before .before .before .before .before .is-usable .ensures) ∙ not-false _ (c .before .before .before .before .before .before .before .before .before .before .if3 .left)) some), omega (arith, c .before .before .before .before .before .before .before .before .before .before .before .before .before .before .rules-test .taken))
 
 bounds-at-requires :
     tie.Need-bounds-at-requires
@@ -786,7 +847,7 @@ bounds-at-requires :
     μ-states
     Inv-ceilings
     μ-ceilings
-bounds-at-requires c κs = c .before .before .before .before .before .before .before .before .before .before .before .before .before .before .before .before .before .before .before .before .before .before .before .before .before .before .before .before .before .before .before .before .before .before .before .before .before .before .before .before .before .before .before .before .before .before .before .before .before .before .before .before .before .before .before .before .before .before .before .before .before .before .before .pre .0 .ready .limits
+bounds-at-requires c κs = c .before .before .before .before .before .before .before .before .before .before .before .before .before .before .before .before .before .before .before .before .before .before .before .before .before .before .before .before .before .before .before .before .before .before .before .before .before .before .before .before .before .before .before .before .before .before .before .before .before .before .before .before .before .before .before .before .before .before .before .before .before .before .before .before .before .pre .0 .ready .limits
 
 add-place :
     tie.Need-add-place
@@ -800,7 +861,7 @@ add-place :
     μ-states
     Inv-ceilings
     μ-ceilings
-add-place c = record { fits = omega (arith, c .bounds-at .ensures, begins-low _ (c .before .before .before .before .before .before .before .before .before .before .before .before .before .before .before .before .before .before .before .before .before .before .before .before .before .before .before .before .before .before .before .before .before .before .before .before .before .before .before .before .before .before .before .before .before .before .before .before .before .before .before .before .before .before .before .before .before .before .before .before .before .before .before .before .pre .0 .ready .limits)) }
+add-place c = record { fits = omega (arith, c .bounds-at .ensures, begins-low _ (c .before .before .before .before .before .before .before .before .before .before .before .before .before .before .before .before .before .before .before .before .before .before .before .before .before .before .before .before .before .before .before .before .before .before .before .before .before .before .before .before .before .before .before .before .before .before .before .before .before .before .before .before .before .before .before .before .before .before .before .before .before .before .before .before .before .before .pre .0 .ready .limits)) }
 
 add-place-2 :
     tie.Need-add-place-2
@@ -814,7 +875,7 @@ add-place-2 :
     μ-states
     Inv-ceilings
     μ-ceilings
-add-place-2 c = record { fits = omega (arith, c .bounds-at .ensures, begins-low _ (c .before .before .before .before .before .before .before .before .before .before .before .before .before .before .before .before .before .before .before .before .before .before .before .before .before .before .before .before .before .before .before .before .before .before .before .before .before .before .before .before .before .before .before .before .before .before .before .before .before .before .before .before .before .before .before .before .before .before .before .before .before .before .before .before .pre .0 .ready .limits), c .before .before .before .before .before .before .before .before .before .before .before .before .before .before .before .before .before .before .before .before .before .before .before .before .before .before .before .before .before .before .before .before .before .before .before .before .before .before .before .before .before .before .before .before .before .before .before .before .before .before .before .before .before .shared-slice-known11 .given (c .before .before .before .before .before .before .before .before .before .before .before .before .before .before .before .before .before .before .before .before .before .before .before .before .before .before .before .before .before .before .before .before .before .before .before .before .before .before .before .before .before .before .before .before .ceilings .k)) }
+add-place-2 c = record { fits = omega (arith, c .bounds-at .ensures, begins-low _ (c .before .before .before .before .before .before .before .before .before .before .before .before .before .before .before .before .before .before .before .before .before .before .before .before .before .before .before .before .before .before .before .before .before .before .before .before .before .before .before .before .before .before .before .before .before .before .before .before .before .before .before .before .before .before .before .before .before .before .before .before .before .before .before .before .before .before .pre .0 .ready .limits), c .before .before .before .before .before .before .before .before .before .before .before .before .before .before .before .before .before .before .before .before .before .before .before .before .before .before .before .before .before .before .before .before .before .before .before .before .before .before .before .before .before .before .before .before .before .before .before .before .before .before .before .before .before .before .before .shared-slice-known11 .given (c .before .before .before .before .before .before .before .before .before .before .before .before .before .before .before .before .before .before .before .before .before .before .before .before .before .before .before .before .before .before .before .before .before .before .before .before .before .before .before .before .before .before .before .before .before .before .ceilings .k)) }
 
 same-length :
     tie.Need-same-length
@@ -828,7 +889,7 @@ same-length :
     μ-states
     Inv-ceilings
     μ-ceilings
-same-length c = c .before .before .before .before .before .before .before .before .before .before .before .before .before .before .before .before .before .before .before .before .before .before .before .before .turn-to .kept .1 .1 .1 .0 ∙ (c .before .before .before .before .before .before .before .before .before .before .before .before .before .before .before .before .before .before .before .before .before .before .before .before .before .before .before .before .before .before .before .before .before .before .states .inv .3 ∙ c .before .before .before .before .before .before .before .before .before .before .before .before .before .before .before .before .before .before .before .before .before .before .before .before .before .before .before .before .before .before .before .before .before .before .before .before .before .before .before .before .before .before .before .before .ceilings .inv .3)
+same-length c = c .before .before .before .before .before .before .before .before .before .before .before .before .before .before .before .before .before .before .before .before .before .before .before .before .before .before .turn-to .kept .1 .1 .1 .0 ∙ (c .before .before .before .before .before .before .before .before .before .before .before .before .before .before .before .before .before .before .before .before .before .before .before .before .before .before .before .before .before .before .before .before .before .before .before .before .states .inv .3 ∙ c .before .before .before .before .before .before .before .before .before .before .before .before .before .before .before .before .before .before .before .before .before .before .before .before .before .before .before .before .before .before .before .before .before .before .before .before .before .before .before .before .before .before .before .before .before .before .ceilings .inv .3)
 
 same-length-2 :
     tie.Need-same-length-2
@@ -842,7 +903,7 @@ same-length-2 :
     μ-states
     Inv-ceilings
     μ-ceilings
-same-length-2 c = c .before .before .before .before .before .before .before .before .before .before .before .before .before .before .before .before .before .before .state-rules .kept .1 .1 .1 .1 .1 .1 .1 .1 .1 .1 .1 .1 .1 .1 .0 ∙ (c .before .before .before .before .before .before .before .before .before .before .before .before .before .before .before .before .before .before .before .before .before .before .before .before .before .before .before .before .before .before .before .before .before .before .states .inv .4 ∙ c .before .before .before .before .before .before .before .before .before .before .before .before .before .before .before .before .before .before .before .before .before .before .before .before .before .before .before .before .before .before .before .before .before .before .before .before .before .before .before .before .before .before .before .before .ceilings .inv .4)
+same-length-2 c = c .before .before .before .before .before .before .before .before .before .before .before .before .before .before .before .before .before .before .before .before .state-rules .kept .1 .1 .1 .1 .1 .1 .1 .1 .1 .1 .1 .1 .1 .1 .0 ∙ (c .before .before .before .before .before .before .before .before .before .before .before .before .before .before .before .before .before .before .before .before .before .before .before .before .before .before .before .before .before .before .before .before .before .before .before .before .states .inv .4 ∙ c .before .before .before .before .before .before .before .before .before .before .before .before .before .before .before .before .before .before .before .before .before .before .before .before .before .before .before .before .before .before .before .before .before .before .before .before .before .before .before .before .before .before .before .before .before .before .ceilings .inv .4)
 
 same-length-3 :
     tie.Need-same-length-3
@@ -856,7 +917,7 @@ same-length-3 :
     μ-states
     Inv-ceilings
     μ-ceilings
-same-length-3 c = c .before .before .before .before .before .before .before .before .before .before .before .before .before .before .before .before .before .before .state-rules .kept .1 .1 .1 .1 .1 .1 .1 .1 .1 .1 .1 .1 .1 .1 .1 .0 ∙ (c .before .before .before .before .before .before .before .before .before .before .before .before .before .before .before .before .before .before .before .before .before .before .before .before .before .before .before .before .before .before .before .before .before .before .states .inv .5 ∙ c .before .before .before .before .before .before .before .before .before .before .before .before .before .before .before .before .before .before .before .before .before .before .before .before .before .before .before .before .before .before .before .before .before .before .before .before .before .before .before .before .before .before .before .before .ceilings .inv .5)
+same-length-3 c = c .before .before .before .before .before .before .before .before .before .before .before .before .before .before .before .before .before .before .before .before .state-rules .kept .1 .1 .1 .1 .1 .1 .1 .1 .1 .1 .1 .1 .1 .1 .1 .0 ∙ (c .before .before .before .before .before .before .before .before .before .before .before .before .before .before .before .before .before .before .before .before .before .before .before .before .before .before .before .before .before .before .before .before .before .before .before .before .states .inv .5 ∙ c .before .before .before .before .before .before .before .before .before .before .before .before .before .before .before .before .before .before .before .before .before .before .before .before .before .before .before .before .before .before .before .before .before .before .before .before .before .before .before .before .before .before .before .before .before .before .ceilings .inv .5)
 
 same-length-4 :
     tie.Need-same-length-4
@@ -870,7 +931,7 @@ same-length-4 :
     μ-states
     Inv-ceilings
     μ-ceilings
-same-length-4 c = c .before .before .before .before .before .before .before .before .before .before .before .before .before .before .before .before .before .before .before .before .before .before .before .before .before .before .before .before .before .before .before .before .before .before .before .before .before .before .before .compare .kept .1 .1 .1 .1 .1 .1 .1 .1 .0 ∙ c .before .before .before .before .before .before .before .before .before .before .before .before .before .before .before .before .before .before .before .before .before .before .before .before .before .before .before .before .before .before .before .before .before .before .before .before .before .before .before .before .before .before .before .before .ceilings .inv .6
+same-length-4 c = c .before .before .before .before .before .before .before .before .before .before .before .before .before .before .before .before .before .before .before .before .before .before .before .before .before .before .before .before .before .before .before .before .before .before .before .before .before .before .before .before .before .compare .kept .1 .1 .1 .1 .1 .1 .1 .1 .0 ∙ c .before .before .before .before .before .before .before .before .before .before .before .before .before .before .before .before .before .before .before .before .before .before .before .before .before .before .before .before .before .before .before .before .before .before .before .before .before .before .before .before .before .before .before .before .before .before .ceilings .inv .6
 
 same-length-5 :
     tie.Need-same-length-5
@@ -884,7 +945,7 @@ same-length-5 :
     μ-states
     Inv-ceilings
     μ-ceilings
-same-length-5 c = c .before .before .before .before .before .before .before .before .before .before .before .before .before .before .before .before .before .before .before .before .before .before .before .before .before .before .before .before .before .before .before .before .before .before .before .before .before .before .before .compare .kept .1 .1 .1 .1 .1 .1 .1 .1 .1 .0 ∙ c .before .before .before .before .before .before .before .before .before .before .before .before .before .before .before .before .before .before .before .before .before .before .before .before .before .before .before .before .before .before .before .before .before .before .before .before .before .before .before .before .before .before .before .before .ceilings .inv .7
+same-length-5 c = c .before .before .before .before .before .before .before .before .before .before .before .before .before .before .before .before .before .before .before .before .before .before .before .before .before .before .before .before .before .before .before .before .before .before .before .before .before .before .before .before .before .compare .kept .1 .1 .1 .1 .1 .1 .1 .1 .1 .0 ∙ c .before .before .before .before .before .before .before .before .before .before .before .before .before .before .before .before .before .before .before .before .before .before .before .before .before .before .before .before .before .before .before .before .before .before .before .before .before .before .before .before .before .before .before .before .before .before .ceilings .inv .7
 
 returns :
     tie.Need-returns
@@ -899,12 +960,12 @@ returns :
     Inv-ceilings
     μ-ceilings
 returns c =
-    let p = c .before .before .before .before .before .before .before .before .before .before .before .before .before .before .before .before .before .before .before .before .before .before .before .before .before .before .before .before .before .before .before .before .before .before .before .before .before .before .before .before .before .before .before .before .before .before .before .before .before .before .before .before .before .before .before .before .before .before .before .before .before .before .before .before .pre in
-    let h = c .before .before .before .before .before .before .before .before .before .before .before .before .before .before .before .before .before .before .before .before .before .before .before .before .before .before .before .before .before .before .before .before .before .before .states .inv in
+    let p = c .before .before .before .before .before .before .before .before .before .before .before .before .before .before .before .before .before .before .before .before .before .before .before .before .before .before .before .before .before .before .before .before .before .before .before .before .before .before .before .before .before .before .before .before .before .before .before .before .before .before .before .before .before .before .before .before .before .before .before .before .before .before .before .before .before .before .pre in
+    let h = c .before .before .before .before .before .before .before .before .before .before .before .before .before .before .before .before .before .before .before .before .before .before .before .before .before .before .before .before .before .before .before .before .before .before .before .before .states .inv in
     let few = states-few _ _ _ _ (p .0 .ready) (p .1 .0 .counted) (p .1 .0 .limits-table) in
-    let none = left-none _ _ _ _ _ _ _ (c .before .before .before .before .candidates2 .ensures) (p .0 .ready .limits .bounds) _ (c .before .before .candidates .inv .1) (c .before .candidates-test .left) in
-    let out = rules-leak _ _ _ _ _ (p .1 .1 .1 .0) _ _ _ (h .1) few _ (c .before .before .before .before .before .before .before .before .before .before .before .before .before .before .before .before .before .before .before .before .before .before .before .before .before .before .before .before .before .before .before .before .before .counter-at .ensures) (c .before .before .before .before .before .before .before .before .before .before .before .before .before .before .before .before .before .before .before .before .before .before .before .before .before .before .before .before .before .before .before .if1 .left) _ _ _ _ (c .before .before .before .before .before .before .before .before .before .before .before .before .before .before .before .before .before .before .state-rules .ensures) (c .before .before .before .before .before .before .before .before .before .before .before .before .before .kind-at .ensures .0) _ (c .before .before .before .before .before .before .before .before .before .before .before .rules-test .taken) (c .before .before .before .before .before .before .before .before .before .before .before .before .rules .inv .0) (led-out _ _ _ _ _ _ (sym (c .before .before .before .before .before .before .before .before .is-usable .ensures) ∙ not-false _ (c .before .before .before .before .before .before .before .if3 .left)) none) in
-    leak-refused-at _ _ _ _ (p .0 .ready) (p .1 .0 .counted) (p .1 .0 .limits-table) _ _ _ _ _ (p .1 .0 .starts-table) (h .0) (c .before .before .before .before .before .before .before .before .before .before .before .before .before .before .before .before .before .before .before .before .before .before .before .before .before .before .before .before .before .before .before .before .before .before .before .before .before .before .before .before .before .before .before .ceilings-test .taken) (c .before .before .before .before .before .before .before .before .before .before .before .before .before .before .before .before .before .before .before .before .before .before .before .before .before .before .before .before .before .before .before .before .before .before .before .before .before .before .before .before .before .before .before .before .ceilings .inv .0) out (c .bounds-at .ensures) refl
+    let none = left-none _ _ _ _ _ _ _ (c .before .before .before .before .before .before .candidates2 .ensures .0) (p .0 .ready .limits .bounds) _ (c .before .before .candidates .inv .1) (c .before .candidates-test .left) in
+    let out = rules-leak _ _ _ _ _ (p .1 .1 .1 .0) _ _ _ (h .1) few _ (c .before .before .before .before .before .before .before .before .before .before .before .before .before .before .before .before .before .before .before .before .before .before .before .before .before .before .before .before .before .before .before .before .before .before .before .counter-at .ensures) (c .before .before .before .before .before .before .before .before .before .before .before .before .before .before .before .before .before .before .before .before .before .before .before .before .before .before .before .before .before .before .before .before .before .if1 .left) _ _ _ _ (c .before .before .before .before .before .before .before .before .before .before .before .before .before .before .before .before .before .before .before .before .state-rules .ensures) (c .before .before .before .before .before .before .before .before .before .before .before .before .before .before .before .kind-at .ensures .0) _ (c .before .before .before .before .before .before .before .before .before .before .before .before .before .rules-test .taken) (c .before .before .before .before .before .before .before .before .before .before .before .before .before .before .rules .inv .0) (led-out _ _ _ _ _ _ (sym (c .before .before .before .before .before .before .before .before .before .before .is-usable .ensures) ∙ not-false _ (c .before .before .before .before .before .before .before .before .before .if3 .left)) none) in
+    leak-refused-at _ _ _ _ (p .0 .ready) (p .1 .0 .counted) (p .1 .0 .limits-table) _ _ _ _ _ (p .1 .0 .starts-table) (h .0) (c .before .before .before .before .before .before .before .before .before .before .before .before .before .before .before .before .before .before .before .before .before .before .before .before .before .before .before .before .before .before .before .before .before .before .before .before .before .before .before .before .before .before .before .before .before .ceilings-test .taken) (c .before .before .before .before .before .before .before .before .before .before .before .before .before .before .before .before .before .before .before .before .before .before .before .before .before .before .before .before .before .before .before .before .before .before .before .before .before .before .before .before .before .before .before .before .before .before .ceilings .inv .0) out (c .bounds-at .ensures) refl
 
 same-length-6 :
     tie.Need-same-length-6
@@ -1038,21 +1099,25 @@ leak-check-spec =
     rules-less
     rules-again
     candidates-requires
+    surely-covered-requires
+    add-j-2
+    rules-less-2
+    rules-again-2
     first-set-requires
     candidates-holds
-    add-next-in
-    next-in-requires
     loop-holds
     named-requires
     passes-requires
+    add-next-in
+    next-in-requires
     candidates-less
     candidates-again
     add-b
     loop-less
     loop-again
-    add-j-2
-    rules-less-2
-    rules-again-2
+    add-j-3
+    rules-less-3
+    rules-again-3
     bounds-at-requires
     add-place
     add-place-2

@@ -38,7 +38,7 @@ leaks-on-requires : tie.Need-leaks-on-requires
 leaks-on-requires c κs = (c .before .before .before .before .before .before .before .before .before .before .before .before .before .before .before .before .before .before .before .before .before .pre .0, (c .before .before .before .before .before .before .before .before .before .before .before .before .before .before .before .before .before .before .before .before .before .pre .1, mask-room _ _ _ _ _ _ _ (omega (arith, c .before .before .before .before .before .before .before .before .before .before .before .before .before .before .before .before .before .before .before .before .before .pre .1 .counted, c .before .before .before .before .before .before .before .before .before .before .before .before .before .before .before .before .before .before .before .before .before .pre .0 .few)) (c .before .before .before .before .before .before .before .before .before .words64-2048 .ensures) (c .before .before .before .before .before .before .before .before .words64-20482 .ensures) (c .before .before .before .before .before .before .before .words64-20483 .ensures) (c .before .before .before .before .before .before .words64-20484 .ensures) (c .before .before .before .before .before .words64-20485 .ensures)))
 
 returns : tie.Need-returns
-returns c = search needs
+returns c = c .before .before .before .before .before .leaks-on .ensures
 
 pub many-leaks-spec : {M : Type 1} → statement M
 many-leaks-spec =

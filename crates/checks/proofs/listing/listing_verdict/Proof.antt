@@ -24,8 +24,8 @@ slice-aggregate-space-verdict-3 c = search needs
 
 space-verdict-requires : tie.Need-space-verdict-requires
 space-verdict-requires c κs =
-    let l = c .before .before .before .before .before .before .before .before .before .before .before .before .before .before .before .before .before .pre .ready .limits in
-    (c .before .before .before .before .before .before .before .before .before .before .before .before .before .before .before .before .before .pre, (omega (arith, l .rows .1, c .before .before .before .before .before .before .words16-1056 .ensures .room), (rule-room _ _ _ l (c .before .before .before .before .before .words16-10562 .ensures) (c .before .before .before .before .words16-10563 .ensures), omega (arith, c .before .before .before .before .before .words16-10562 .ensures .room))))
+    let l = c .before .before .before .before .before .before .before .before .before .before .before .before .before .before .before .before .before .pre .0 .ready .limits in
+    (c .before .before .before .before .before .before .before .before .before .before .before .before .before .before .before .before .before .pre .0, (omega (arith, l .rows .1, c .before .before .before .before .before .before .words16-1056 .ensures .room), (rule-room _ _ _ l (c .before .before .before .before .before .words16-10562 .ensures) (c .before .before .before .before .words16-10563 .ensures), c .before .before .before .before .before .before .before .before .before .before .before .before .before .before .before .before .before .pre .1)))
 
 same-length : tie.Need-same-length
 same-length c = search needs

@@ -1,0 +1,114 @@
+use native.Mathlib.Omega.{arith}
+use Rattle.values.specs.Values.{width}
+use Rattle.closure_sized.proofs.Opening.{opens}
+use borrow.Author.Needs.{needs}
+use Rattle.closure_sized.proofs.large_open.Statement.{statement}
+use Rattle.closure_sized.proofs.large_open.Tie as tie
+
+words64-8721-requires : tie.Need-words64-8721-requires
+words64-8721-requires c κs = search needs
+
+words16-66-requires : tie.Need-words16-66-requires
+words16-66-requires c κs = search needs
+
+words16-1056-requires : tie.Need-words16-1056-requires
+words16-1056-requires c κs = search needs
+
+words64-17408-requires : tie.Need-words64-17408-requires
+words64-17408-requires c κs = search needs
+
+words64-17408-requires-2 : tie.Need-words64-17408-requires-2
+words64-17408-requires-2 c κs = search needs
+
+words32-1056-requires : tie.Need-words32-1056-requires
+words32-1056-requires c κs = search needs
+
+words64-130-requires : tie.Need-words64-130-requires
+words64-130-requires c κs = search needs
+
+slice-aggregate-open-check : tie.Need-slice-aggregate-open-check
+slice-aggregate-open-check c = search needs
+
+slice-aggregate-open-check-2 : tie.Need-slice-aggregate-open-check-2
+slice-aggregate-open-check-2 c = search needs
+
+slice-aggregate-open-check-3 : tie.Need-slice-aggregate-open-check-3
+slice-aggregate-open-check-3 c = search needs
+
+slice-aggregate-open-check-4 : tie.Need-slice-aggregate-open-check-4
+slice-aggregate-open-check-4 c = search needs
+
+slice-aggregate-open-check-5 : tie.Need-slice-aggregate-open-check-5
+slice-aggregate-open-check-5 c = search needs
+
+slice-aggregate-open-check-6 : tie.Need-slice-aggregate-open-check-6
+slice-aggregate-open-check-6 c = search needs
+
+slice-aggregate-open-check-7 : tie.Need-slice-aggregate-open-check-7
+slice-aggregate-open-check-7 c = search needs
+
+open-check-requires : tie.Need-open-check-requires
+unfolding width
+open-check-requires c κs =
+    let few = c .before .before .before .before .before .before .before .before .before .before .before .before .before .before .before .before .before .before .before .before .before .before .before .pre .0 .limits .constructors in
+    let l = opens (c .before .before .before .before .before .before .before .before .before .before .before .before .before .before .before .before .before .before .before .before .before .before .before .args .s) 1024 512 8721 66 1056 17408 130 _ _ _ _ _ _ _ (c .before .before .before .before .before .before .before .before .before .before .before .before .before .before .before .before .before .before .before .before .before .before .before .pre .0 .limits .rows .1) (c .before .before .before .before .before .before .before .before .before .before .before .before .before .before .before .before .before .before .before .before .before .before .before .pre .0 .limits .names .1) (omega arith) (c .before .before .before .before .before .before .before .before .before .before .before .before .before .before .before .before .words64-8721 .ensures) (c .before .before .before .before .before .before .before .before .before .before .before .before .before .before .before .words16-66 .ensures) (c .before .before .before .before .before .before .before .before .before .before .before .before .before .before .words16-1056 .ensures) (c .before .before .before .before .before .before .before .before .before .before .before .before .before .words64-17408 .ensures) (c .before .before .before .before .before .before .before .before .before .before .before .before .words64-174082 .ensures) (c .before .before .before .before .before .before .before .before .before .before .before .words32-1056 .ensures) (c .before .before .before .before .before .before .before .before .before .before .words64-130 .ensures) (omega arith) (omega arith) (omega arith) (omega arith) in (
+      c .before .before .before .before .before .before .before .before .before .before .before .before .before .before .before .before .before .before .before .before .before .before .before .pre .0,
+      (
+        c .before .before .before .before .before .before .before .before .before .before .before .before .before .before .before .before .before .before .before .before .before .before .before .pre .1 .0,
+        (
+          c .before .before .before .before .before .before .before .before .before .before .before .before .before .before .before .before .before .before .before .before .before .before .before .pre .1 .1 .0,
+          (
+            record { names = c .before .before .before .before .before .before .before .before .before .before .before .before .before .before .before .before .before .before .before .before .before .before .before .pre .1 .1 .1 .1 .0; constructors = l .firsts-room; rows = l .nexts-room },
+            (
+              record {
+                flow-empty = c .before .before .before .before .before .before .before .before .before .before .before .before .before .before .before .before .before .before .before .before .before .before .before .pre .1 .1 .1 .0 .empty;
+                flow-room = c .before .before .before .before .before .before .before .before .before .before .before .before .before .before .before .before .before .before .before .before .before .before .before .pre .1 .1 .1 .0 .room;
+                mail-empty = l .mail-sets .0;
+                mail-room = l .mail-sets .1;
+                may-empty = l .may-sets .0;
+                may-room = l .may-sets .1;
+                held-empty = l .held-sets .0;
+                held-room = l .held-sets .1;
+              },
+              (l .class-row, (c .before .before .before .before .before .before .before .before .before .before .before .before .before .before .before .before .before .before .before .before .before .before .before .pre .1 .1 .1 .1 .1, l .codes-clear)),
+            ),
+          ),
+        ),
+      ),
+    )
+
+same-length : tie.Need-same-length
+same-length c = search needs
+
+same-length-2 : tie.Need-same-length-2
+same-length-2 c = search needs
+
+same-length-3 : tie.Need-same-length-3
+same-length-3 c = search needs
+
+returns : tie.Need-returns
+returns c = search needs
+
+pub large-open-spec : {M : Type 1} → statement M
+large-open-spec =
+    tie.close
+    (tie.spec
+    words64-8721-requires
+    words16-66-requires
+    words16-1056-requires
+    words64-17408-requires
+    words64-17408-requires-2
+    words32-1056-requires
+    words64-130-requires
+    slice-aggregate-open-check
+    slice-aggregate-open-check-2
+    slice-aggregate-open-check-3
+    slice-aggregate-open-check-4
+    slice-aggregate-open-check-5
+    slice-aggregate-open-check-6
+    slice-aggregate-open-check-7
+    open-check-requires
+    same-length
+    same-length-2
+    same-length-3
+    returns)

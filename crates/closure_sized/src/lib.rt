@@ -1,0 +1,209 @@
+// Refusal 8 over scratch by need: the sets of mail and of patterns, and what each head asks.
+use closure::open_check;
+use model::Sizes;
+use model::Verdict;
+use rooms::words16_66;
+use rooms::words16_258;
+use rooms::words16_1056;
+use rooms::words32_66;
+use rooms::words32_258;
+use rooms::words32_1056;
+use rooms::words64_130;
+use rooms::words64_1285;
+use rooms::words64_8721;
+use rooms::words64_17408;
+ghost use mathlib.Core.Path.{_≡_};
+ghost use Prim.Native.Nat.{_≤_, _<_};
+ghost use lib.ListN.{length};
+ghost use Rattle.model.specs.declared.Verdict.the-variants.{Safe};
+ghost use Rattle.model.specs.Rows.{program};
+ghost use Rattle.model.specs.Tables.{tables};
+ghost use Rattle.model.specs.Closed.{open-check};
+ghost use Rattle.model.specs.Verify.{answer};
+ghost use Rattle.lists.specs.Ready.{Ready};
+ghost use Rattle.positions.specs.Positions.{Ends, Owners};
+ghost use Rattle.positions.specs.Branches.{Branch-bits};
+ghost use Rattle.values.specs.Values.{Flow-sets, Flow-starts};
+ghost use Rattle.closure_sized.specs.Flow.{Flow-room};
+
+// Refusal 8 of a small message.
+fn small_open(
+    ws: &[u16],
+    s: Sizes,
+    afters: &[u16],
+    inners: &[u16],
+    starts: &mut [u16],
+    flow: &mut [u64],
+    branches: &mut [u16],
+) -> Verdict
+    requires { ⌜ Ready (now ws) s ⌝ }
+    requires { ⌜ Ends (program (now ws) s) (now afters) ⌝ }
+    requires { ⌜ Owners (program (now ws) s) (now inners) ⌝ }
+    requires { ⌜ Flow-room s (now flow) ⌝ }
+    requires { ⌜ (s .names < length (now starts)) × (s .states ≤ length (now branches)) ⌝ }
+    requires { ⌜ (s .rows ≤ 64) × (s .names ≤ 64) ⌝ }
+    ensures { λ v. ⌜ v ≡ answer (open-check s (program (now (ws .entry)) s) (tables (now (ws .entry)) s)) ⌝ }
+    ensures { λ v. ⌜ (v ≡ Safe →
+        Flow-starts (program (now (ws .entry)) s) (tables (now (ws .entry)) s) (now (starts .exit))) ⌝ }
+    ensures { λ v. ⌜ (v ≡ Safe →
+        Flow-sets (program (now (ws .entry)) s) (tables (now (ws .entry)) s) (now (flow .exit))) ⌝ }
+    ensures { λ v. ⌜ (v ≡ Safe →
+        Branch-bits (program (now (ws .entry)) s) (tables (now (ws .entry)) s) (now (branches .exit))) ⌝ }
+{
+    let mut mail = words64_130();
+    let mut firsts = words16_66();
+    let mut nexts = words16_66();
+    let mut may = words64_130();
+    let mut held = words64_130();
+    let mut codes = words32_66();
+    let mut here = words64_130();
+    open_check(
+        ws,
+        s,
+        afters,
+        inners,
+        starts,
+        flow,
+        &mut mail,
+        &mut firsts,
+        &mut nexts,
+        &mut may,
+        &mut held,
+        &mut codes,
+        &mut here,
+        branches,
+    )
+}
+
+// Refusal 8 of a middling message.
+fn middle_open(
+    ws: &[u16],
+    s: Sizes,
+    afters: &[u16],
+    inners: &[u16],
+    starts: &mut [u16],
+    flow: &mut [u64],
+    branches: &mut [u16],
+) -> Verdict
+    requires { ⌜ Ready (now ws) s ⌝ }
+    requires { ⌜ Ends (program (now ws) s) (now afters) ⌝ }
+    requires { ⌜ Owners (program (now ws) s) (now inners) ⌝ }
+    requires { ⌜ Flow-room s (now flow) ⌝ }
+    requires { ⌜ (s .names < length (now starts)) × (s .states ≤ length (now branches)) ⌝ }
+    requires { ⌜ (s .rows ≤ 256) × (s .names ≤ 256) ⌝ }
+    ensures { λ v. ⌜ v ≡ answer (open-check s (program (now (ws .entry)) s) (tables (now (ws .entry)) s)) ⌝ }
+    ensures { λ v. ⌜ (v ≡ Safe →
+        Flow-starts (program (now (ws .entry)) s) (tables (now (ws .entry)) s) (now (starts .exit))) ⌝ }
+    ensures { λ v. ⌜ (v ≡ Safe →
+        Flow-sets (program (now (ws .entry)) s) (tables (now (ws .entry)) s) (now (flow .exit))) ⌝ }
+    ensures { λ v. ⌜ (v ≡ Safe →
+        Branch-bits (program (now (ws .entry)) s) (tables (now (ws .entry)) s) (now (branches .exit))) ⌝ }
+{
+    let mut mail = words64_1285();
+    let mut firsts = words16_66();
+    let mut nexts = words16_258();
+    let mut may = words64_1285();
+    let mut held = words64_1285();
+    let mut codes = words32_258();
+    let mut here = words64_130();
+    open_check(
+        ws,
+        s,
+        afters,
+        inners,
+        starts,
+        flow,
+        &mut mail,
+        &mut firsts,
+        &mut nexts,
+        &mut may,
+        &mut held,
+        &mut codes,
+        &mut here,
+        branches,
+    )
+}
+
+// Refusal 8 of any message.
+fn large_open(
+    ws: &[u16],
+    s: Sizes,
+    afters: &[u16],
+    inners: &[u16],
+    starts: &mut [u16],
+    flow: &mut [u64],
+    branches: &mut [u16],
+) -> Verdict
+    requires { ⌜ Ready (now ws) s ⌝ }
+    requires { ⌜ Ends (program (now ws) s) (now afters) ⌝ }
+    requires { ⌜ Owners (program (now ws) s) (now inners) ⌝ }
+    requires { ⌜ Flow-room s (now flow) ⌝ }
+    requires { ⌜ (s .names < length (now starts)) × (s .states ≤ length (now branches)) ⌝ }
+    ensures { λ v. ⌜ v ≡ answer (open-check s (program (now (ws .entry)) s) (tables (now (ws .entry)) s)) ⌝ }
+    ensures { λ v. ⌜ (v ≡ Safe →
+        Flow-starts (program (now (ws .entry)) s) (tables (now (ws .entry)) s) (now (starts .exit))) ⌝ }
+    ensures { λ v. ⌜ (v ≡ Safe →
+        Flow-sets (program (now (ws .entry)) s) (tables (now (ws .entry)) s) (now (flow .exit))) ⌝ }
+    ensures { λ v. ⌜ (v ≡ Safe →
+        Branch-bits (program (now (ws .entry)) s) (tables (now (ws .entry)) s) (now (branches .exit))) ⌝ }
+{
+    let mut mail = words64_8721();
+    let mut firsts = words16_66();
+    let mut nexts = words16_1056();
+    let mut may = words64_17408();
+    let mut held = words64_17408();
+    let mut codes = words32_1056();
+    let mut here = words64_130();
+    open_check(
+        ws,
+        s,
+        afters,
+        inners,
+        starts,
+        flow,
+        &mut mail,
+        &mut firsts,
+        &mut nexts,
+        &mut may,
+        &mut held,
+        &mut codes,
+        &mut here,
+        branches,
+    )
+}
+
+// Refusal 8; after none the tables that later checks read are filled.
+pub fn open_verdict(
+    ws: &[u16],
+    s: Sizes,
+    afters: &[u16],
+    inners: &[u16],
+    starts: &mut [u16],
+    flow: &mut [u64],
+    branches: &mut [u16],
+) -> Verdict
+    requires { ⌜ Ready (now ws) s ⌝ }
+    requires { ⌜ Ends (program (now ws) s) (now afters) ⌝ }
+    requires { ⌜ Owners (program (now ws) s) (now inners) ⌝ }
+    requires { ⌜ Flow-room s (now flow) ⌝ }
+    requires { ⌜ (s .names < length (now starts)) × (s .states ≤ length (now branches)) ⌝ }
+    ensures { λ v. ⌜ v ≡ answer (open-check s (program (now (ws .entry)) s) (tables (now (ws .entry)) s)) ⌝ }
+    ensures { λ v. ⌜ (v ≡ Safe →
+        Flow-starts (program (now (ws .entry)) s) (tables (now (ws .entry)) s) (now (starts .exit))) ⌝ }
+    ensures { λ v. ⌜ (v ≡ Safe →
+        Flow-sets (program (now (ws .entry)) s) (tables (now (ws .entry)) s) (now (flow .exit))) ⌝ }
+    ensures { λ v. ⌜ (v ≡ Safe →
+        Branch-bits (program (now (ws .entry)) s) (tables (now (ws .entry)) s) (now (branches .exit))) ⌝ }
+{
+    if s.rows <= 64 {
+        if s.names <= 64 {
+            return small_open(ws, s, afters, inners, starts, flow, branches);
+        }
+    }
+    if s.rows <= 256 {
+        if s.names <= 256 {
+            return middle_open(ws, s, afters, inners, starts, flow, branches);
+        }
+    }
+    large_open(ws, s, afters, inners, starts, flow, branches)
+}
