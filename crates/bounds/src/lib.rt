@@ -1,3 +1,3 @@
-// Ceilings (bounds): refusals 10 and 11.
+// The ceilings' entries in form, refusal 10; what a limit allows.
 pub mod entries;
 pub mod limits;

@@ -7,7 +7,7 @@ use mathlib.Core.Bool.{Bool, true, false, not, _&&_, _||_}
 use mathlib.Core.Logic.{_⊎_, inl, inr, ⊎-elim}
 use mathlib.Core.List.{List}
 use lib.Dec.{leb, ltb, eqb}
-use lib.ListN.{length}
+use lib.ListN.{getD}
 use borrow.Author.Tests.{eq-eqb, ne-eqb, eqb-true, leb-true, le-leb, lt-ltb, le-ltb, ltb-true, not-true, not-false}
 use Rattle.model.specs.Limits.{omega-limit}
 use Rattle.model.specs.Index.{all}
@@ -24,10 +24,10 @@ use Rattle.steps.proofs.Stepping.{fire-alone, fire-untouched, fire-held, fire-l
 use Rattle.bounds.proofs.Limited.{highest-limit}
 use Rattle.ceilings.specs.Table.{held}
 use Rattle.ceilings_masks.specs.declared.Over.{Over}
-use Rattle.ceilings_masks.specs.Compared.{reaches, allows, most, exceeds, exceeds-by-one, takes-more, Counted, Neighbours}
-use Rattle.ceilings_masks.proofs.Comparing.{allows-one}
-use Rattle.steps.specs.Steps.{limit-after}
-use Rattle.steps.proofs.Raising.{stepped-decides}
+use Rattle.ceilings_masks.specs.Compared.{allows, most, exceeds, exceeds-by-one, takes-more, Counted, Neighbours}
+use Rattle.ceilings_masks.proofs.Turning.{more-as}
+use Rattle.steps.specs.Steps.{raised, limit-after}
+use Rattle.steps.proofs.Raising.{as-limit-below, stepped-decides}
 use Rattle.ceilings_covers.specs.Covers.{Beside, covers, passes, Left, Candidates, Raised, Exact, sure, Step-apart, reading, named}
 use Rattle.ceilings_covers.proofs.Exceeding.{none-others, others-none, one-others, others-one, two-others, others-two}
 
@@ -250,11 +250,10 @@ module _ (limits : List ℕ) (ceilings k : ℕ) where
       (subst (λ z. readable (effect-of z (σ .other)) (highest (held limits ceilings k)) ≡ true) e (and-right (leb 1 (highest (held limits ceilings k) (σ .from))) _ u)))
 
   -- one more than none
-  pub more-none : (y j : ℕ) → held limits ceilings k y ≡ 0 → reaches limits ceilings y 1 j ≡ takes-more limits ceilings k y j
-  unfolding takes-more
-  more-none y j z =
-      allows-one limits ceilings y (most limits ceilings k y + 1) j
-      (let w = highest-limit (held limits ceilings k) y 0 (sym z) (λ u. omega arith) in omega arith)
+  pub more-none : (y : ℕ) (m : Mask) (high : ℕ) → held limits ceilings k y ≡ 0 → high ≡ raised 0 → ((i : ℕ) → getD limits i 0 < 65536) → ((j : ℕ) → j < 256 → has m j ≡ allows limits ceilings y high j) → (j : ℕ) → j < 256 → has m j ≡ takes-more limits ceilings k y j
+  more-none y m high z e =
+      more-as limits ceilings k y 0 (highest-limit (held limits ceilings k) y 0 (sym z) (λ u. omega arith)) m high
+      (e ∙ ap raised (sym (as-limit-below 0 (omega arith))))
 
 pub reading-as : (left twice thrice a b c d : ℕ → Bool) (j : ℕ) → a j ≡ c j → b j ≡ d j → reading left twice thrice a b j ≡ reading left twice thrice c d j
 unfolding reading

@@ -4,6 +4,7 @@ use bounds::limits::is_allowed;
 use ceilings::highest;
 use ceilings::limit;
 use ceilings_masks::Over;
+use ceilings_masks::allowing;
 use masks::Mask;
 use masks::and;
 use masks::below;
@@ -13,6 +14,7 @@ use masks::or;
 use masks::without;
 use steps::Step;
 use steps::limit_after;
+use steps::raised;
 use steps::takes_other;
 ghost use mathlib.Core.Path.{_≡_};
 ghost use mathlib.Core.Bool.{true, false, _&&_, _||_};
@@ -79,7 +81,8 @@ fn left_reading(over: Over, short: &[u64], left: Mask, i: usize, x: usize) -> Ma
     or(or(left, once), twice)
 }
 
-// The ceilings that hold one more than ceiling k at counter y.
+// The ceilings that hold one more than ceiling k at counter y. The table has a set for each counter that ceiling k
+// limits; where it has none its limit is 0, which is raised here.
 fn one_more_at(
     limits: &[u16],
     ceilings: usize,
@@ -97,7 +100,15 @@ fn one_more_at(
     ensures { λ r. ⌜ ((j : ℕ) → j < 256 → has r j ≡ takes-more (now (limits .entry)) ceilings k y j) ⌝ }
 {
     if limit(limits, ceilings, k, y) == 0 {
-        return load(holders, y);
+        return allowing(
+            limits,
+            ceilings,
+            n,
+            holders,
+            unbounded,
+            y,
+            raised(0) as usize,
+        );
     }
     load(more, y)
 }

@@ -31,13 +31,13 @@ module _ (bytes : List ℕ) (n : ℕ) (w : Verdict) (told : w ≡ verdict bytes 
   program-part h k e = rw (safe-told h, e)
 
   -- it lies within the message
-  pub part-fits : f ≡ true → (k : ℕ) → k ≡ bads-at (sizes (words bytes)) → 2 * k ≤ length bytes
+  part-fits : f ≡ true → (k : ℕ) → k ≡ bads-at (sizes (words bytes)) → 2 * k ≤ length bytes
   unfolding bads-at end-at bounds-at message check
   part-fits h k e =
       let passes = then-none _ _ .0 (verdict-safe bytes n .0 (safe-told h)) .0 in
       let whole = whole-check bytes passes in
       omega (arith, whole .bytes-end)
 
-  -- ... and so its length is its end
-  pub part-length : f ≡ true → (k : ℕ) → k ≡ bads-at (sizes (words bytes)) → 2 * k ≡ length (take (2 * k) bytes)
-  part-length h k e = let fits = part-fits h k e in let l = length-take (2 * k) bytes in omega arith
+  -- ... and so the length of what is cut off no later is its end
+  pub cut-length : f ≡ true → (k end : ℕ) → k ≡ bads-at (sizes (words bytes)) → end ≤ 2 * k → end ≡ length (take end bytes)
+  cut-length h k end e within = let fits = part-fits h k e in let l = length-take end bytes in omega arith

@@ -1,11 +1,11 @@
 -- Request (ii): a limit raised by a sum. The test by raised limits decides as the rule on the highest counts does.
-use Prim.Native.Nat.{ℕ, _+_, _*_, _≤_, _<_}
+use Prim.Native.Nat.{ℕ, _+_, _*_, _^_, _≤_, _<_}
 use native.Mathlib.Omega.{arith}
 use mathlib.Core.Path.{_≡_, refl, sym, ap, _∙_}
 use mathlib.Core.Bool.{Bool, true, false}
 use lib.Dec.{leb, ltb, eqb}
-use mir.Val.{boolByte, Fits}
-use mir.Syntax.{w32}
+use mir.Val.{boolByte, bits, Fits}
+use mir.Syntax.{Width}
 use borrow.Author.Tests.{eqb-false, lt-ltb, le-ltb, ltb-true, ltb-false, lt-leb}
 use Rattle.model.specs.Limits.{omega-limit}
 use Rattle.model.specs.Markings.{fire}
@@ -20,12 +20,12 @@ truth-small : (b : Bool) → 1 * boolByte b ≤ 1
 truth-small true = omega arith
 truth-small false = omega arith
 
--- it fits the wider number, whatever is tested, and so does its sum with a limit
-pub truth-fits : (b : Bool) → Fits w32 (1 * boolByte b)
-truth-fits b = record { fits = omega (arith, truth-small b) }
+-- It fits each width, whatever is tested; and its sum with a limit fits each that holds one more than every limit.
+pub truth-fits : (w : Width) (b : Bool) → 1 < 2 ^ bits w → Fits w (1 * boolByte b)
+truth-fits w b h = record { fits = omega (arith, truth-small b) }
 
-pub sum-fits : (b : Bool) (limit : ℕ) → limit < 65536 → Fits w32 (limit + 1 * boolByte b)
-sum-fits b limit h = record { fits = omega (arith, truth-small b) }
+pub sum-fits : (w : Width) (b : Bool) (limit : ℕ) → limit < 65536 → 65536 < 2 ^ bits w → Fits w (limit + 1 * boolByte b)
+sum-fits w b limit h wide = record { fits = omega (arith, truth-small b) }
 
 sum-raised : (b : Bool) (limit : ℕ) → limit + 1 * boolByte b ≡ elim b [ true ↦ limit + 1 | false ↦ limit ]
 sum-raised true limit = omega arith

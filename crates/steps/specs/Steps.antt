@@ -1,6 +1,5 @@
 -- A rule as the code hands it on, one by one.
-use Prim.Native.Nat.{ℕ, _-_, _+_, _≤_, _<_}
-use mathlib.Core.Path.{_≡_}
+use Prim.Native.Nat.{ℕ, _-_, _+_}
 use mathlib.Core.Bool.{Bool, true, false, _&&_}
 use mathlib.Core.List.{[], _∷_}
 use lib.ListN.{getD}
@@ -15,12 +14,6 @@ effect-of kind x = getD (quiet ∷ reads x ∷ puts x ∷ starts x ∷ []) kind 
 
 unfoldable pub rule-of-step : Step → Rule
 rule-of-step σ = rule (σ .from) (σ .to) (effect-of (σ .kind) (σ .other))
-
--- what it takes from are counters of the n, its kind is one of the four
-pub record Step-within (n : ℕ) (σ : Step) : Type 0 where
-  pub from : σ .from < n
-  pub read : σ .kind ≡ 1 → σ .other < n
-  pub kind : σ .kind ≤ 3
 
 -- counter y is the other, from which the step takes, or to which it adds
 unfoldable pub takes-other : Step → ℕ → Bool

@@ -1,4 +1,5 @@
-// A step of the counts: a rule by value, and the count of a counter after it.
+// A limit raised by one; a rule by value, and the limit of a counter after it.
+use model::OMEGA;
 ghost use mathlib.Core.Path.{_≡_};
 ghost use Prim.Native.Nat.{_-_, _≤_};
 ghost use Rattle.model.specs.Limits.{omega-limit};
@@ -29,7 +30,7 @@ pub fn effect_kind(tag: usize) -> usize
 }
 
 // The limit that means unbounded.
-const UNBOUNDED: u16 = 65535;
+const UNBOUNDED: u16 = OMEGA as u16;
 
 // One more of a limit: one times the truth of being below the unbounded mark is added, in a wider number. So 65,534
 // goes on to 65,535, which lies under unbounded alone, and the mark stays.
@@ -50,7 +51,7 @@ fn raise_if(test: bool, limit: u16) -> u16
 pub fn as_limit(count: usize) -> u16
     ensures { λ r. ⌜ r ≡ as-limit count ⌝ }
 {
-    if count < 65535 {
+    if count < OMEGA {
         count as u16
     } else {
         UNBOUNDED

@@ -9,18 +9,26 @@ use Rattle.ceilings_covers.proofs.one_more_at.Tie as tie
 limit-requires : tie.Need-limit-requires
 limit-requires c κs = (c .before .before .before .before .before .pre .0 .ceiling, row-in _ (c .before .before .before .before .before .args .n) _ _ (c .before .before .before .before .before .pre .1) (c .before .before .before .before .before .pre .0 .room))
 
-load-requires : tie.Need-load-requires
-load-requires c κs = record { room = omega (arith, c .before .before .before .before .before .before .before .pre .1, c .before .before .before .before .before .before .before .pre .0 .held-by .holders-room) }
+raised-requires : tie.Need-raised-requires
+raised-requires c κs = search needs
+
+cast-allowing : tie.Need-cast-allowing
+cast-allowing c = search needs
+
+allowing-requires : tie.Need-allowing-requires
+allowing-requires c κs =
+    let beside = c .before .before .before .before .before .before .before .before .pre .0 in ((beside .few, c .before .before .before .before .before .before .before .before .pre .1), (beside .room, beside .held-by))
 
 returns : tie.Need-returns
-returns c = λ j h. c .load .ensures j h ∙ (c .before .before .before .before .before .before .before .before .pre .0 .held-by .holder _ j (c .before .before .before .before .before .before .before .before .pre .1) h ∙ more-none _ _ _ _ j (sym (c .before .before .limit .ensures .0) ∙ c .before .if1 .taken))
+returns c =
+    more-none (c .before .before .before .before .before .before .before .before .before .args .limits .now) _ _ _ _ _ (sym (c .before .before .before .limit .ensures .0) ∙ c .before .before .if1 .taken) (c .before .raised .ensures .0) (λ i. omega (arith, c .before .before .before .before .before .before .before .before .shared-slice-known .given i)) (c .allowing .ensures)
 
-load-requires-2 : tie.Need-load-requires-2
-load-requires-2 c κs = record { room = omega (arith, c .before .before .before .before .before .before .before .pre .1, c .before .before .before .before .before .before .before .pre .0 .more-room) }
+load-requires : tie.Need-load-requires
+load-requires c κs = record { room = omega (arith, c .before .before .before .before .before .before .before .pre .1, c .before .before .before .before .before .before .before .pre .0 .more-room) }
 
 returns-2 : tie.Need-returns-2
-returns-2 c = λ j h. c .load2 .ensures j h ∙ c .before .before .before .before .before .before .before .before .pre .0 .near .one-more _ j (c .before .before .before .before .before .before .before .before .pre .1) (omega (arith, c .before .before .limit .ensures .0, c .before .if1 .left)) h
+returns-2 c = λ j h. c .load .ensures j h ∙ c .before .before .before .before .before .before .before .before .pre .0 .near .one-more _ j (c .before .before .before .before .before .before .before .before .pre .1) (omega (arith, c .before .before .limit .ensures .0, c .before .if1 .left)) h
 
 pub one-more-at-spec : {M : Type 1} → statement M
 one-more-at-spec =
-    tie.close (tie.spec limit-requires load-requires returns load-requires-2 returns-2)
+    tie.close (tie.spec limit-requires raised-requires cast-allowing allowing-requires returns load-requires returns-2)

@@ -2,7 +2,7 @@ use native.Mathlib.Omega.{arith}
 use mathlib.Core.Path.{ap, _∙_}
 use Rattle.model.specs.Message.{bads-at}
 use borrow.Author.Tests.{not-true, not-false}
-use Rattle.handed.proofs.Part.{empty-part, program-part, part-length}
+use Rattle.handed.proofs.Part.{empty-part, program-part, cut-length}
 use borrow.Author.Needs.{needs}
 use Rattle.handed.proofs.part_of.Statement.{statement}
 use Rattle.handed.proofs.part_of.Tie as tie
@@ -30,7 +30,7 @@ mul-end c =
 
 slice-aggregate-result-2 : tie.Need-slice-aggregate-result-2
 slice-aggregate-result-2 c =
-    part-length _ _ _ (c .before .before .before .before .before .before .pre) _ (c .before .before .before .before .is-safe .ensures) (not-false _ (c .before .before .before .if1 .left)) _ (c .before .bads-at .ensures ∙ ap bads-at (c .before .before .sizes-of .ensures .0))
+    cut-length _ _ _ (c .before .before .before .before .before .before .pre) _ (c .before .before .before .before .is-safe .ensures) (not-false _ (c .before .before .before .if1 .left)) _ _ (c .before .bads-at .ensures ∙ ap bads-at (c .before .before .sizes-of .ensures .0)) (omega arith)
 
 returns-2 : tie.Need-returns-2
 returns-2 c =
