@@ -117,9 +117,9 @@ fn bad_rows(s: Sizes) -> Arrays
 {
     let first = 6 + 2 * s.rows;
     Arrays {
-        size: s.conditions,
+        size: s.badrows,
         lefts: first,
-        rights: first + s.conditions,
+        rights: first + s.badrows,
     }
 }
 
@@ -131,7 +131,7 @@ pub fn bad_check(ws: &[u16], s: Sizes) -> Verdict
     let rows = bad_rows(s);
     let mut expected = Expected::Bads(s.bads);
     let mut r = 0;
-    while r < s.conditions {
+    while r < s.badrows {
         let t = left(ws, rows, r);
         let n = right(ws, rows, r);
         match read_row(ws, s, expected, t, n) {

@@ -26,7 +26,7 @@ use Rattle.program.specs.Rows.{from}
 use Rattle.program.specs.Layout.{owner}
 use Rattle.layout.specs.Tables.{After-table, Inner-upto, or-end}
 use Rattle.positions.specs.Positions.{Ends, Owners}
-use Rattle.bounds.specs.Parts as bounds
+use Rattle.ceilings_form.specs.Parts as ceilings
 use Rattle.lists.specs.Ready.{Ready}
 use Rattle.evidence.specs.Whole.{Parts-whole}
 use Rattle.values.specs.Values as values
@@ -50,8 +50,8 @@ pub ready : (ws : List ℕ) (s : Sizes) → Parts-whole ws s → program-check (
 ready ws s w p e =
     record { whole = w .program; held = w .held; limits = w .limits; well-formed = p; in-form = e }
 
-pub bounds-whole : (ws : List ℕ) (s : Sizes) → Parts-whole ws s → bounds.Whole ws s
-bounds-whole ws s w = record { limits = w .limits; held = w .held }
+pub ceilings-whole : (ws : List ℕ) (s : Sizes) → Parts-whole ws s → ceilings.Whole ws s
+ceilings-whole ws s w = record { limits = w .limits; held = w .held }
 
 -- refusal 9 found nothing
 pub few : (s : Sizes) (p : Program) (t : Tables) → counter-check s p t ≡ none → counter-count p t ≤ maxCounters
@@ -122,8 +122,8 @@ flow-sets ws s w flow e h =
       has = λ n v b c. h .of-name n b .holds v (let z = width-holds (s .rows) in omega arith);
     })
 
-pub bounds-of-ready : (ws : List ℕ) (s : Sizes) → Ready ws s → bounds.Whole ws s
-bounds-of-ready ws s h = record { limits = h .limits; held = h .held }
+pub ceilings-of-ready : (ws : List ℕ) (s : Sizes) → Ready ws s → ceilings.Whole ws s
+ceilings-of-ready ws s h = record { limits = h .limits; held = h .held }
 
 -- a table of items, by another name of the number of counters
 pub items-of : (p : Program) (t : Tables) (rows : Columns) (n k : ℕ) (items : List ℕ) → n ≡ k → Items-counted p t rows k items → Items-counted p t rows n items

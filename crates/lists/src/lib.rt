@@ -32,7 +32,7 @@ pub fn tables_at(s: Sizes) -> usize
     requires { ⌜ Within-limits s ⌝ }
     ensures { λ r. ⌜ r ≡ tables-at s ⌝ }
 {
-    4 + 2 * s.rows + 2 + 2 * s.conditions
+    4 + 2 * s.rows + 2 + 2 * s.badrows
 }
 
 // The list of n entries behind k others.

@@ -17,7 +17,7 @@ use Rattle.model.specs.Letters.{letters}
 
 -- "Bads: B bads, E rows; tags, numbers"
 unfoldable pub bad-rows : List ℕ → Sizes → Columns
-bad-rows ws s = columns ws (s .conditions) (bads-at s + 2) (bads-at s + 2 + s .conditions)
+bad-rows ws s = columns ws (s .badrows) (bads-at s + 2) (bads-at s + 2 + s .badrows)
 
 pub data Part : Type 0 where
   bad : Part  -- its first item

@@ -20,7 +20,7 @@ pub mod Counters
 pub mod Rules
 pub mod Listing
 pub mod Markings
-pub mod Bounds
+pub mod Ceilings
 pub mod Verify
 pub mod Cases
 pub mod Shown

@@ -8,13 +8,13 @@ pub struct Sizes {
     pub functions: usize,
     pub bads: usize,
     // the rows of the bads part
-    pub conditions: usize,
+    pub badrows: usize,
     pub flows: usize,
     pub mails: usize,
     pub states: usize,
-    pub bounds: usize,
+    pub ceilings: usize,
     // the entries of the ceilings part
-    pub limits: usize,
+    pub entries: usize,
 }
 
 // The answer for a message: safe, or the refusal's word in document 01 with its position. specs/Verdict.antt gives
@@ -59,9 +59,9 @@ pub const MAX_MAILS: usize = 512;
 
 pub const MAX_STATES: usize = 512;
 
-pub const MAX_BOUNDS: usize = 256;
+pub const MAX_CEILINGS: usize = 256;
 
-pub const MAX_BOUND_ENTRIES: usize = 8192;
+pub const MAX_CEILING_ENTRIES: usize = 8192;
 
 pub const MAX_COUNTERS: usize = 512;
 
