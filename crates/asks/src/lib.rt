@@ -5,6 +5,8 @@ use lists::state_index;
 use lists::word;
 use matching::codes::worse;
 use model::Sizes;
+use model::TAG_CALL;
+use model::TAG_SEND;
 use positions::body;
 use positions::is_class;
 use positions::takes;
@@ -132,8 +134,8 @@ fn asks(ws: &[u16], s: Sizes, flow: &[u64], mail: &[u64], r: usize, x: usize) ->
     ensures { λ k. ⌜ k ≡ asks (program (now (ws .entry)) s) (tables (now (ws .entry)) s) r x ⌝ }
 {
     match tag(ws, s, r) {
-        4 => call_asks(ws, s, flow, r, x),
-        5 => send_asks(ws, s, flow, mail, r, x),
+        TAG_CALL => call_asks(ws, s, flow, r, x),
+        TAG_SEND => send_asks(ws, s, flow, mail, r, x),
         _ => spawn_asks(ws, s, flow, r, x),
     }
 }

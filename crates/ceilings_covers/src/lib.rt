@@ -1,8 +1,8 @@
 // Which ceilings may cover the counts after a step from the highest counts of a ceiling, as a mask; and the test of
 // one of them.
-use ceilings_form::limits::is_allowed;
 use ceilings::highest;
 use ceilings::limit;
+use ceilings_form::limits::is_allowed;
 use ceilings_masks::Over;
 use ceilings_masks::allowing;
 use masks::Mask;

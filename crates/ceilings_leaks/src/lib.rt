@@ -1,6 +1,4 @@
 // Refusal 13: from counts under a ceiling, a rule leads out of all ceilings.
-use ceilings_form::entries::ceilings_at;
-use ceilings_form::entries::counter_at;
 use ceilings_covers::NAMED;
 use ceilings_covers::candidates;
 use ceilings_covers::is_usable;
@@ -8,6 +6,8 @@ use ceilings_covers::left_after;
 use ceilings_covers::named;
 use ceilings_covers::passes;
 use ceilings_covers::surely_covered;
+use ceilings_form::entries::ceilings_at;
+use ceilings_form::entries::counter_at;
 use ceilings_groups::open_to_all;
 use ceilings_groups::settled;
 use ceilings_masks::compare;

@@ -1,7 +1,7 @@
 // Sets of ceilings, for each counter and for one ceiling beside the others.
-use ceilings_form::entries::counter_at;
 use ceilings::highest;
 use ceilings::limit;
+use ceilings_form::entries::counter_at;
 use masks::Mask;
 use masks::and;
 use masks::below;

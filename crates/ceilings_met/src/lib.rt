@@ -1,9 +1,10 @@
 // The start and the bads under the ceilings: refusals 11 and 12.
-use ceilings_form::entries::ceilings_at;
-use ceilings_form::entries::column;
 use ceilings::highest;
 use ceilings::limit;
+use ceilings_form::entries::ceilings_at;
+use ceilings_form::entries::column;
 use model::Sizes;
+use model::TAG_CLASS;
 use model::Verdict;
 ghost use mathlib.Core.Path.{_≡_};
 ghost use Prim.Native.Nat.{_≤_, _<_};
@@ -44,7 +45,7 @@ fn next_bad(ws: &[u16], s: Sizes, r: usize) -> usize
 {
     let mut i = r + 3;
     loop {
-        if bad_tag(ws, s, i) != 40 {
+        if bad_tag(ws, s, i) != TAG_CLASS {
             return i + 1;
         }
         i += 3;
@@ -81,7 +82,7 @@ fn meets(ws: &[u16], s: Sizes, n: usize, limits: &[u16], items: &[u16], k: usize
 {
     let mut i = r;
     loop {
-        if bad_tag(ws, s, i) != 40 {
+        if bad_tag(ws, s, i) != TAG_CLASS {
             return true;
         }
         let least = bad_number(ws, s, i + 2);

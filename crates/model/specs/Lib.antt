@@ -1,4 +1,5 @@
 pub mod Limits
+pub mod Tags
 pub mod Index
 pub mod Words
 pub mod Verdict

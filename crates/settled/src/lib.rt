@@ -2,6 +2,12 @@
 use asks::asked;
 use branches::taken_bits;
 use model::Sizes;
+use model::TAG_BUILD;
+use model::TAG_CALL;
+use model::TAG_CASE;
+use model::TAG_FUNCTION;
+use model::TAG_SEND;
+use model::TAG_SPAWN;
 use program::rows::num;
 use program::rows::tag;
 use sets::holds;
@@ -49,9 +55,9 @@ pub fn settle(
     ensures { λ k. ⌜ Settled (program (now (ws .entry)) s) (tables (now (ws .entry)) s) r k ⌝ }
 {
     match tag(ws, s, r) {
-        2 | 3 => named_code(ws, s, flow, r),
-        4 | 5 | 6 => asked(ws, s, starts, flow, mail, r),
-        8 => {
+        TAG_BUILD | TAG_FUNCTION => named_code(ws, s, flow, r),
+        TAG_CALL | TAG_SEND | TAG_SPAWN => asked(ws, s, starts, flow, mail, r),
+        TAG_CASE => {
             let name = num(ws, s, r);
             let count = num(ws, s, r + 1);
             taken_bits(ws, s, afters, flow, may, held, flow, name, r + 2, count)

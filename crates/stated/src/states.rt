@@ -5,6 +5,11 @@ use branches::LACKS;
 use branches::bodies_closed;
 use branches::taken_bits;
 use model::Sizes;
+use model::TAG_CALL;
+use model::TAG_CASE;
+use model::TAG_GIVE;
+use model::TAG_RECEIVE;
+use model::TAG_SELF;
 use positions::rest;
 use program::rows::num;
 use program::rows::tag;
@@ -175,14 +180,14 @@ pub fn state_bits(
     ensures { λ x. ⌜ Stated (program (now (ws .entry)) s) (tables (now (ws .entry)) s) c r x ⌝ }
 {
     match tag(ws, s, r) {
-        1 => unless(give_closed(ws, s, inners, flow, here, c, from, r)),
-        4 => unless(call_closed(ws, s, starts, here, c, r, k)),
-        7 => unless(self_closed(ws, s, afters, flow, here, c, r)),
-        8 => {
+        TAG_GIVE => unless(give_closed(ws, s, inners, flow, here, c, from, r)),
+        TAG_CALL => unless(call_closed(ws, s, starts, here, c, r, k)),
+        TAG_SELF => unless(self_closed(ws, s, afters, flow, here, c, r)),
+        TAG_CASE => {
             let count = num(ws, s, r + 1);
             branches_here(ws, s, afters, here, c, r + 2, count, k)
         }
-        9 => {
+        TAG_RECEIVE => {
             let number = num(ws, s, r);
             let set = mail_set(ws, s, c);
             let bits = taken_bits(ws, s, afters, flow, may, held, mail, set, r + 1, number);

@@ -4,6 +4,7 @@ use ceilings_met::bad_tag;
 use lists::state_index;
 use lists::word;
 use model::Sizes;
+use model::TAG_HEAD;
 ghost use mathlib.Core.Path.{_≡_};
 ghost use Prim.Native.Nat.{_≤_};
 ghost use lib.ListN.{length, getD};
@@ -78,7 +79,7 @@ fn item_number(ws: &[u16], s: Sizes, letter_at: &[u16], letters: &[u16], r: usiz
 {
     let class = bad_number(ws, s, r);
     let subject = bad_number(ws, s, r + 1);
-    if bad_tag(ws, s, r + 1) == 41 {
+    if bad_tag(ws, s, r + 1) == TAG_HEAD {
         state_number(ws, s, class, subject)
     } else {
         letter_number(ws, s, letter_at, letters, class, subject)

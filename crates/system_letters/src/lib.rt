@@ -11,8 +11,12 @@ use masks::next_in;
 use masks::none;
 use masks::only;
 use masks::or;
+use model::ADDRESS_LETTER;
 use model::MAX_COUNTERS;
 use model::Sizes;
+use model::TAG_BUILD;
+use model::TAG_FUNCTION;
+use model::TAG_GLOBAL;
 use model::Verdict;
 use program::rows::num;
 use program::rows::tag;
@@ -38,9 +42,9 @@ pub fn row_letter(ws: &[u16], s: Sizes, v: usize) -> usize
     ensures { λ l. ⌜ l ≡ row-letter (program (now (ws .entry)) s) v ⌝ }
 {
     match tag(ws, s, v) {
-        2 => num(ws, s, v + 1),
-        3 | 11 => s.constructors,
-        _ => s.constructors + 1,
+        TAG_BUILD => num(ws, s, v + 1),
+        TAG_FUNCTION | TAG_GLOBAL => s.constructors,
+        _ => s.constructors + ADDRESS_LETTER,
     }
 }
 

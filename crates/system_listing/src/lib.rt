@@ -1,6 +1,8 @@
 // The listing is written: S, letters, rules, rows, then all tags, then all numbers.
 use lists::word;
 use model::Sizes;
+use model::TAG_FROM;
+use model::TAG_TO;
 use rules::no_class;
 use rules::turn_to;
 use state_rules::state_rules;
@@ -46,9 +48,9 @@ fn put_rule(
     requires { ⌜ (from < 65536) × (to < 65536) × (z < 65536) ⌝ }
     ensures { λ e. ⌜ Put (now (out .entry)) (now (out .exit)) n x e (rows-of from to third z) ⌝ }
 {
-    put(out, n, x, 50, from);
+    put(out, n, x, TAG_FROM, from);
     let second = x + 1;
-    put(out, n, second, 51, to);
+    put(out, n, second, TAG_TO, to);
     let behind = x + 2;
     if third == 0 {
         return behind;
