@@ -24,4 +24,5 @@ ceiling-end n entries e = after (ceiling-step n) entries (ceilings-ahead 1) e
 
 -- a ceiling stands at entry e
 abbrev pub Stands : ℕ → Columns → ℕ → Type 0
-Stands n entries e = read (ceiling-step n) entries (entries .size - e) (ceilings-ahead 1) e ≡ past (ceiling-end n entries e)
+Stands n entries e =
+    read (ceiling-step n) entries (entries .size - e) (ceilings-ahead 1) e ≡ past (ceiling-end n entries e)

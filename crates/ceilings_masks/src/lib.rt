@@ -27,7 +27,8 @@ ghost use Rattle.masks.specs.Masks.{has};
 ghost use Rattle.ceilings_form.specs.Limits.{In-form};
 ghost use Rattle.ceilings_form.specs.Parts.{Whole};
 ghost use Rattle.ceilings.specs.Table.{Limits-table};
-ghost use Rattle.ceilings_masks.specs.Compared.{reaches, allows, Holders, exceeds, exceeds-by-one, takes-more, Counted, Neighbours};
+ghost use Rattle.ceilings_masks.specs.Compared.{reaches, allows, Holders, exceeds, exceeds-by-one, takes-more};
+ghost use Rattle.ceilings_masks.specs.Compared.{Counted, Neighbours};
 
 // The ceilings that one ceiling exceeds at a counter, at two of them and at three.
 pub struct Over {

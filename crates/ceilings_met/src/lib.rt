@@ -114,8 +114,8 @@ pub fn met_check(ws: &[u16], s: Sizes, n: usize, limits: &[u16], items: &[u16]) 
     requires { ⌜ Ready (now ws) s n (now limits) (now items) ⌝ }
     requires { ⌜ Bads-in-form (now ws) s ⌝ }
     ensures { λ v. ⌜ v ≡
-        answer (met-check s (program (now (ws .entry)) s) (tables (now (ws .entry)) s) (ceilings-of (now (ws .entry)) s n)
-        (bad-rows (now (ws .entry)) s)) ⌝ }
+        answer (met-check s (program (now (ws .entry)) s) (tables (now (ws .entry)) s)
+        (ceilings-of (now (ws .entry)) s n) (bad-rows (now (ws .entry)) s)) ⌝ }
 {
     let at = 4 + 2 * s.rows + 2;
     let mut r: usize = 0;

@@ -54,8 +54,8 @@ pub fn met_verdict(
     requires { ⌜ (n ≡ counter-count (program (now ws) s) (tables (now ws) s)) × (n ≤ maxCounters) ⌝ }
     requires { ⌜ Limits-table (ceilings-of (now ws) s n) (now limits) ⌝ }
     ensures { λ v. ⌜ v ≡
-        answer (met-check s (program (now (ws .entry)) s) (tables (now (ws .entry)) s) (ceilings-of (now (ws .entry)) s n)
-        (bad-rows (now (ws .entry)) s)) ⌝ }
+        answer (met-check s (program (now (ws .entry)) s) (tables (now (ws .entry)) s)
+        (ceilings-of (now (ws .entry)) s n) (bad-rows (now (ws .entry)) s)) ⌝ }
 {
     let mut items = [0u16; 256];
     fill_items(ws, s, letter_at, letters, &mut items);

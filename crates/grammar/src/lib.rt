@@ -34,7 +34,8 @@ ghost use mathlib.Core.Path.{_≡_};
 ghost use mathlib.Core.List.{[], _∷_};
 ghost use Prim.Native.Nat.{_+_, _≤_, _<_};
 ghost use lib.ListN.{replicate};
-ghost use Rattle.model.specs.Rows.{program, tag, kind, global, expression, branches, body-form, branch-items, lead, is-branch-count, declarations, whole, row-check};
+ghost use Rattle.model.specs.Rows.{program, tag, kind, global, expression, branches, body-form, branch-items, lead};
+ghost use Rattle.model.specs.Rows.{is-branch-count, declarations, whole, row-check};
 ghost use Rattle.model.specs.Verify.{answer};
 ghost use Rattle.program.specs.Rows.{Whole, reading, from};
 

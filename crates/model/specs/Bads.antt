@@ -34,7 +34,8 @@ unfoldable pub bad-step : Program → Grammar Part
 bad-step p bad t n = fits (eqb t tag-class && is-class p n) item
 bad-step p subject t n = fits (eqb t tag-head && is-head (tag p n) || eqb t tag-letter && ltb n (letters p)) []
 bad-step p minimum t n = fits (eqb t tag-minimum && leb 1 n) []
-bad-step p further t n = elim (eqb t tag-bad-end) [ true ↦ fits (eqb n 0) [] | false ↦ fits (eqb t tag-class && is-class p n) item ]
+bad-step p further t n =
+    elim (eqb t tag-bad-end) [ true ↦ fits (eqb n 0) [] | false ↦ fits (eqb t tag-class && is-class p n) item ]
 
 -- 6: "form, class, head, letter, no item, or not B bads: first such tag, a row after B bads included; rows ending
 -- early: the word past the tags"

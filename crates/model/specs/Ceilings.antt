@@ -77,7 +77,8 @@ ceilings-of ws s counters =
     record {
       size = s .ceilings;
       counters = counters;
-      limit = λ k x. let e : ℕ = ceiling-entry counters entries k in limit-from counters entries (entries .size - e) e x;
+      limit = λ k x.
+          let e : ℕ = ceiling-entry counters entries k in limit-from counters entries (entries .size - e) e x;
     }
 
 -- "Counts lie under a ceiling when each is at most its limit there, or that is unbounded"

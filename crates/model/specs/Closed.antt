@@ -13,7 +13,8 @@ use Rattle.model.specs.Index.{implies, all, first}
 use Rattle.model.specs.Verdict.{Check, _>>_, unless}
 use Rattle.model.specs.Message.{tables-at}
 use Rattle.model.specs.Rows.{Program, size, tag, num, arity, pattern, past-items}
-use Rattle.model.specs.Heads.{Call, call-at, head-at, gives, builds, makes, calls, sends, spawns, selfs, cases, receives, no-head, branch-body, is-class, parameters, body, takes, innermost, start}
+use Rattle.model.specs.Heads.{Call, call-at, head-at, gives, builds, makes, calls, sends, spawns, selfs, cases}
+use Rattle.model.specs.Heads.{receives, no-head, branch-body, is-class, parameters, body, takes, innermost, start}
 use Rattle.model.specs.Tables.{Tables, has, each, some-of, State, state, state-at, has-state}
 
 -- the row of subpattern i of the constructor pattern at row q, which may be d levels deep

@@ -109,7 +109,8 @@ pub record Inductive (m : Message) : Type 0 where
   pub kept :
       (counts : Marking) (ρ : Rule) → Under-one (m .ceilings) counts → List·Memᴰ ρ (rules (m .program) (m .tables)) →
       usable ρ counts ≡ true → Under-one (m .ceilings) (fire ρ counts)
-  pub meet-no-bad : (counts : Marking) (j : ℕ) → Under-one (m .ceilings) counts → j < m .sizes .bads → Met m counts j → ⊥
+  pub meet-no-bad :
+      (counts : Marking) (j : ℕ) → Under-one (m .ceilings) counts → j < m .sizes .bads → Met m counts j → ⊥
 
 -- everything that a safe message has
 pub record Sound (bytes : List ℕ) (lent : ℕ) : Type 0 where

@@ -8,7 +8,8 @@ use lib.Dec.{ltb, eqb}
 use Rattle.model.specs.Tags.{tag-function, tag-spawn, tag-global}
 use Rattle.model.specs.Index.{last}
 use Rattle.model.specs.Limits.{maxDepth}
-use Rattle.model.specs.Rows.{Program, size, tag, num, kind, header, expression, pattern, body-form, branch, arity, declarations, past-items}
+use Rattle.model.specs.Rows.{Program, size, tag, num, kind, header, expression, pattern, body-form, branch, arity}
+use Rattle.model.specs.Rows.{declarations, past-items}
 use Rattle.model.specs.Rows.{give, build, function, call, send, spawn, self, case, receive, other}
 use Rattle.model.specs.Scopes.{rest}
 

@@ -8,7 +8,8 @@ use lib.ListN.{length, getD}
 use lib.Dec.{leb}
 use Rattle.model.specs.declared.Sizes.{Sizes}
 use Rattle.model.specs.declared.Verdict.the-variants.{Length, Size}
-use Rattle.model.specs.Limits.{maxRows, maxNames, maxConstructors, maxFunctions, maxBads, minBadRows, maxBadRows, maxFlows, maxMails, maxStates, maxCeilings, maxCeilingEntries}
+use Rattle.model.specs.Limits.{maxRows, maxNames, maxConstructors, maxFunctions, maxBads, minBadRows, maxBadRows}
+use Rattle.model.specs.Limits.{maxFlows, maxMails, maxStates, maxCeilings, maxCeilingEntries}
 use Rattle.model.specs.Words.{words}
 use Rattle.model.specs.Verdict.{Check, _>>_, unless}
 

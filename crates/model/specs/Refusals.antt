@@ -169,7 +169,8 @@ module _ (bytes : List ℕ) where
     closed-passed : Passed 8 → Closed p t → Passed 9
     counters-passed : Passed 9 → counter-count p t ≤ maxCounters → Passed 10
     ceilings-passed :
-        Passed 10 → first-wrong (ceiling-step (bs .counters)) (ceiling-entries ws s) (ceilings-ahead (s .ceilings)) ≡ none →
+        Passed 10 →
+        first-wrong (ceiling-step (bs .counters)) (ceiling-entries ws s) (ceilings-ahead (s .ceilings)) ≡ none →
         Passed 11
     start-passed : Passed 11 → Under-one bs (initial p t) → Passed 12
     bad-passed : Passed 12 → ((j : ℕ) → j < s .bads → Allowed m j → ⊥) → Passed 13
@@ -224,7 +225,8 @@ module _ (bytes : List ℕ) where
     -- 10 ceiling: "form, or not K ceilings: first such entry's counter number, an entry after K ceilings included;
     -- entries ending early: the word past the counter numbers"
     ceiling-wrong :
-        (e : ℕ) → Passed 10 → Wrong (ceiling-step (bs .counters)) (ceiling-entries ws s) (ceilings-ahead (s .ceilings)) e →
+        (e : ℕ) → Passed 10 →
+        Wrong (ceiling-step (bs .counters)) (ceiling-entries ws s) (ceilings-ahead (s .ceilings)) e →
         Refused lent (Ceiling (ceilings-at s + 2 + e))
     -- 11 start: "under no ceiling: size K"
     start-outside : Passed 11 → (Under-one bs (initial p t) → ⊥) → Refused lent (Start (ceilings-at s))

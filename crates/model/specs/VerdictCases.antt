@@ -68,8 +68,8 @@ ceilings-sizes-words =
     []
 
 -- Station A of document 01. Its words: sizes 0 to 3, tags 4 to 13, numbers 14 to 23; bads 24 and 25, tags 26 to 29,
--- numbers 30 to 33; tables 34 to 36, first columns 37 to 45, second columns 46 to 54; ceilings 55 and 56, counter numbers
--- 57 to 67, limits 68 to 78.
+-- numbers 30 to 33; tables 34 to 36, first columns 37 to 45, second columns 46 to 54; ceilings 55 and 56, counter
+-- numbers 57 to 67, limits 68 to 78.
 unfoldable pub station-a-program : List ℕ
 station-a-program =
     program-words 3 1 0
@@ -112,7 +112,8 @@ two-bads-listing =
     (50 ∷ 51 ∷ 50 ∷ 51 ∷ 50 ∷ 51 ∷ 53 ∷ 50 ∷ 51 ∷ 52 ∷ []) ++
     (0 ∷ 1 ∷ 1 ∷ 2 ∷ 2 ∷ 3 ∷ 5 ∷ 3 ∷ 4 ∷ 5 ∷ [])
 
--- Station A with one ceiling that leaves every counter unbounded, and a bad that no function waits: limits are words 64 to 70.
+-- Station A with one ceiling that leaves every counter unbounded, and a bad that no function waits: limits are words
+-- 64 to 70.
 unfoldable pub unbounded-program : List ℕ
 unbounded-program =
     program-words 3 1 0
@@ -1171,5 +1172,19 @@ listing-cases =
 
 -- the definitions above opened at once, for the theorems that compute the table
 unfoldable pub verdict-cases-opens : Unit {0}
-unfolding bads-sizes-program bads-sizes-words tables-sizes-program tables-sizes-words ceilings-sizes-program ceilings-sizes-words station-a-program station-a-words two-bads-program two-bads-words two-bads-listing unbounded-program unbounded-words one-taken-program one-taken-words arity-of-eight-program arity-of-eight-words eight-parameters-program eight-parameters-words eight-arguments-program eight-arguments-words eight-arguments-listing sixteen-branches-program sixteen-branches-words depth-four-program depth-four-words depth-five-program depth-five-words scopes-program scopes-words scopes-listing values-program values-words values-listing letters-program letters-words letters-listing function-letter-program function-letter-words function-letter-listing address-letter-program address-letter-words address-letter-listing wrong-counts-program wrong-counts-words wrong-counts-listing two-callees-program two-callees-words two-callees-listing two-spawned-program two-spawned-words two-spawned-listing spawned-name-program spawned-name-words spawned-name-listing two-branches-program two-branches-words two-branches-listing two-letters-program two-letters-words two-letters-listing classes-then-letters-program classes-then-letters-words classes-then-letters-listing one-letter-program one-letter-words one-letter-listing class-before-letter-program class-before-letter-words class-before-letter-listing read-before-program read-before-words read-before-listing verdict-cases listing-cases
+unfolding bads-sizes-program bads-sizes-words tables-sizes-program tables-sizes-words ceilings-sizes-program
+    ceilings-sizes-words station-a-program station-a-words two-bads-program two-bads-words two-bads-listing
+    unbounded-program unbounded-words one-taken-program one-taken-words arity-of-eight-program arity-of-eight-words
+    eight-parameters-program eight-parameters-words eight-arguments-program eight-arguments-words
+    eight-arguments-listing sixteen-branches-program sixteen-branches-words depth-four-program depth-four-words
+    depth-five-program depth-five-words scopes-program scopes-words scopes-listing values-program values-words
+    values-listing letters-program letters-words letters-listing function-letter-program function-letter-words
+    function-letter-listing address-letter-program address-letter-words address-letter-listing wrong-counts-program
+    wrong-counts-words wrong-counts-listing two-callees-program two-callees-words two-callees-listing
+    two-spawned-program two-spawned-words two-spawned-listing spawned-name-program spawned-name-words
+    spawned-name-listing two-branches-program two-branches-words two-branches-listing two-letters-program
+    two-letters-words two-letters-listing classes-then-letters-program classes-then-letters-words
+    classes-then-letters-listing one-letter-program one-letter-words one-letter-listing class-before-letter-program
+    class-before-letter-words class-before-letter-listing read-before-program read-before-words read-before-listing
+    verdict-cases listing-cases
 verdict-cases-opens = tt

@@ -5,7 +5,8 @@ use mathlib.Core.Option.{some, none}
 use lib.ListN.{length, take}
 use Rattle.model.specs.declared.Sizes.{Sizes}
 use Rattle.model.specs.declared.Verdict.{Verdict}
-use Rattle.model.specs.declared.Verdict.the-variants.{Safe, Length, Size, Row, Name, Scope, Bad, Entry, Open, Counters, Ceiling, Start, Met, Leak, Space}
+use Rattle.model.specs.declared.Verdict.the-variants.{Safe, Length, Size, Row, Name, Scope, Bad, Entry, Open}
+use Rattle.model.specs.declared.Verdict.the-variants.{Counters, Ceiling, Start, Met, Leak, Space}
 use Rattle.model.specs.Words.{Columns, words}
 use Rattle.model.specs.Verdict.{Check, _>>_}
 use Rattle.model.specs.Message.{sizes, bads-at, parts-check}

@@ -11,7 +11,8 @@ use Rattle.model.specs.Limits.{maxDepth}
 use Rattle.model.specs.Tags.{tag-pattern-constructor}
 use Rattle.model.specs.Words.{Columns, left, right}
 use Rattle.model.specs.Rows.{Program, size, tag, num, arity}
-use Rattle.model.specs.Heads.{Call, call-at, head-at, gives, builds, makes, calls, sends, spawns, selfs, cases, receives, branch-body, is-class, parameters, body, takes, innermost, start}
+use Rattle.model.specs.Heads.{Call, call-at, head-at, gives, builds, makes, calls, sends, spawns, selfs, cases}
+use Rattle.model.specs.Heads.{receives, branch-body, is-class, parameters, body, takes, innermost, start}
 use Rattle.model.specs.Tables.{Tables}
 use Rattle.model.specs.Closed.{subpattern, argument, same-constructor}
 

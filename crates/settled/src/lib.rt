@@ -16,9 +16,10 @@ ghost use mathlib.Core.Path.{_≡_};
 ghost use mathlib.Core.Logic.{_⊎_};
 ghost use Rattle.model.specs.Rows.{program, tag, num};
 ghost use Rattle.model.specs.Tables.{tables, has};
+ghost use Rattle.lists.specs.Lists.{Starts};
 ghost use Rattle.lists.specs.Ready.{Ready};
 ghost use Rattle.positions.specs.Positions.{Ends};
-ghost use Rattle.values.specs.Values.{Flow-sets, Mail-sets, Flow-starts};
+ghost use Rattle.values.specs.Values.{Flow-sets, Mail-sets};
 ghost use Rattle.matching.specs.Patterns.{Matches};
 ghost use Rattle.asks.specs.Asks.{there-code};
 ghost use Rattle.settled.specs.Settled.{Settled};
@@ -48,7 +49,7 @@ pub fn settle(
 ) -> usize
     requires { ⌜ Ready (now ws) s ⌝ }
     requires { ⌜ Ends (program (now ws) s) (now afters) ⌝ }
-    requires { ⌜ Flow-starts (program (now ws) s) (tables (now ws) s) (now starts) ⌝ }
+    requires { ⌜ Starts (tables (now ws) s .flow) (s .names) (now starts) ⌝ }
     requires { ⌜ Flow-sets (program (now ws) s) (tables (now ws) s) (now flow) ⌝ }
     requires { ⌜ Mail-sets (program (now ws) s) (tables (now ws) s) (now mail) ⌝ }
     requires { ⌜ Matches (program (now ws) s) (tables (now ws) s) (now may) (now held) 0 ⌝ }

@@ -40,22 +40,17 @@ ghost use Rattle.model.specs.Rules.{puts, reads, state-rules};
 ghost use Rattle.positions.specs.Positions.{Ends, Owners};
 ghost use Rattle.rules.specs.Listed.{State-rules};
 ghost use Rattle.rules.specs.Added.{Added};
-ghost use Rattle.rules.specs.Derived.{Entered, Flow-sets, Rule-room, Rule-tables};
-ghost use Rattle.system_letters.specs.Letters.{Starts, Name-letters, Class-letters};
-ghost use Rattle.system_letters.specs.Letters.{Starts, Name-letters, Class-letters};
-ghost use Rattle.system_letters.specs.Letters.{Starts, Name-letters, Class-letters};
-ghost use Rattle.system_letters.specs.Letters.{Starts, Name-letters, Class-letters};
-ghost use Rattle.system_letters.specs.Letters.{Starts, Name-letters, Class-letters};
-ghost use Rattle.system_letters.specs.Letters.{Starts, Name-letters, Class-letters};
-ghost use Rattle.system_letters.specs.Letters.{Starts, Name-letters, Class-letters};
-ghost use Rattle.system_letters.specs.Letters.{Starts, Name-letters, Class-letters};
+ghost use Rattle.values.specs.Values.{width, Flow-sets};
+ghost use Rattle.rules.specs.Derived.{Entered, Rule-room, Rule-tables};
+ghost use Rattle.lists.specs.Lists.{Starts};
+ghost use Rattle.system_letters.specs.Letters.{Name-letters, Class-letters};
 ghost use Rattle.lists.specs.Ready.{Ready};
 ghost use Rattle.state_rules.specs.Heads.{Led, Plain, Pair-room, class-turn, takes-letter};
 
 // Does giving back from the function f lead to state j, of its class?
 fn returns_to(ws: &[u16], s: Sizes, w: usize, flows: &[u64], f: usize, j: usize) -> bool
     requires { ⌜ Ready (now ws) s ⌝ }
-    requires { ⌜ Flow-sets (program (now ws) s) (tables (now ws) s) w (now flows) ⌝ }
+    requires { ⌜ (w ≡ width (s .rows)) × Flow-sets (program (now ws) s) (tables (now ws) s) (now flows) ⌝ }
     requires { ⌜ (f < s .rows) × (j < s .states) ⌝ }
     ensures { λ b. ⌜ b ≡
         returns-to (program (now (ws .entry)) s) (tables (now (ws .entry)) s)
@@ -102,7 +97,7 @@ fn give_rules(
     requires { ⌜ Ready (now ws) s ⌝ }
     requires { ⌜ Ends (program (now ws) s) (now afters) ⌝ }
     requires { ⌜ Owners (program (now ws) s) (now inners) ⌝ }
-    requires { ⌜ Flow-sets (program (now ws) s) (tables (now ws) s) w (now flows) ⌝ }
+    requires { ⌜ (w ≡ width (s .rows)) × Flow-sets (program (now ws) s) (tables (now ws) s) (now flows) ⌝ }
     requires { ⌜ Entered (program (now ws) s) (tables (now ws) s) k (now at) ⌝ }
     requires { ⌜ tag (program (now ws) s) r ≡ 1 ⌝ }
     requires { ⌜ s .states ≤ length (now tos) ⌝ }

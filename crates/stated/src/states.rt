@@ -24,9 +24,10 @@ ghost use Rattle.model.specs.Scopes.{rest};
 ghost use Rattle.model.specs.Heads.{call-at, branch-rows, is-class};
 ghost use Rattle.model.specs.Tables.{tables, has, state, has-state};
 ghost use Rattle.model.specs.Closed.{call-closed};
+ghost use Rattle.lists.specs.Lists.{Starts};
 ghost use Rattle.lists.specs.Ready.{Ready};
 ghost use Rattle.positions.specs.Positions.{Run, Ends, Owners};
-ghost use Rattle.values.specs.Values.{width, Values, Flow-sets, Mail-sets, Flow-starts};
+ghost use Rattle.values.specs.Values.{width, Values, Flow-sets, Mail-sets};
 ghost use Rattle.matching.specs.Patterns.{Matches};
 ghost use Rattle.branches.specs.Taken.{code-closed};
 ghost use Rattle.asks.specs.Asks.{Asked};
@@ -71,7 +72,7 @@ fn call_closed(
     k: usize,
 ) -> bool
     requires { ⌜ Ready (now ws) s ⌝ }
-    requires { ⌜ Flow-starts (program (now ws) s) (tables (now ws) s) (now starts) ⌝ }
+    requires { ⌜ Starts (tables (now ws) s .flow) (s .names) (now starts) ⌝ }
     requires { ⌜ Values (tables (now ws) s .states) c (width (s .rows)) 0 (now here) ⌝ }
     requires { ⌜ tag (program (now ws) s) r ≡ 4 ⌝ }
     requires { ⌜ Asked (program (now ws) s) (tables (now ws) s) r k ⌝ }
@@ -168,7 +169,7 @@ pub fn state_bits(
     requires { ⌜ Ready (now ws) s ⌝ }
     requires { ⌜ Ends (program (now ws) s) (now afters) ⌝ }
     requires { ⌜ Owners (program (now ws) s) (now inners) ⌝ }
-    requires { ⌜ Flow-starts (program (now ws) s) (tables (now ws) s) (now starts) ⌝ }
+    requires { ⌜ Starts (tables (now ws) s .flow) (s .names) (now starts) ⌝ }
     requires { ⌜ Flow-sets (program (now ws) s) (tables (now ws) s) (now flow) ⌝ }
     requires { ⌜ Mail-sets (program (now ws) s) (tables (now ws) s) (now mail) ⌝ }
     requires { ⌜ Matches (program (now ws) s) (tables (now ws) s) (now may) (now held) 0 ⌝ }

@@ -34,7 +34,7 @@ ghost use Rattle.program.specs.Rows.{Whole};
 ghost use Rattle.lists.specs.Lists.{Ascending, listed, Held, range-from};
 ghost use Rattle.lists.specs.Ready.{Ready};
 ghost use Rattle.masks.specs.Masks.{has};
-ghost use Rattle.system_letters.specs.Letters.{Starts, Name-letters, mail-letter, Written, Class-letters};
+ghost use Rattle.system_letters.specs.Letters.{Name-letters, mail-letter, Written, Class-letters};
 
 // The letter of a value of the tables: a constructor's number, C for a function, C + 1 for an address.
 pub fn row_letter(ws: &[u16], s: Sizes, v: usize) -> usize
@@ -63,21 +63,6 @@ fn start_from(ws: &[u16], l: Span, a: usize, j: usize) -> usize
         e += 1;
     }
     e
-}
-
-// Where the entries of each number up to n begin.
-pub fn fill_starts(ws: &[u16], l: Span, n: usize, starts: &mut [u16])
-    requires { ⌜ Held (now ws) l ⌝ }
-    requires { ⌜ Ascending (listed (now ws) l) ⌝ }
-    requires { ⌜ l .size < 65536 ⌝ }
-    requires { ⌜ (n < 65536) × (n < length (now starts)) ⌝ }
-    ensures { λ _. ⌜ Starts (listed (now (ws .entry)) l) n (now (starts .exit)) ⌝ }
-{
-    let mut e = 0;
-    for a in 0..n + 1 {
-        e = start_from(ws, l, a, e);
-        starts[a] = e as u16;
-    }
 }
 
 // The first n words are 0.
