@@ -16,11 +16,10 @@ use Rattle.model.specs.Tables.{tables, entries, each}
 use Rattle.model.proofs.Logic.{test, implies-elim, implies-intro}
 use Rattle.model.proofs.Index.{all-elim, all-intro, all-hit, all-miss, all-end}
 use Rattle.bits.proofs.Loops.{both}
-use Rattle.lists.specs.Lists.{Ascending, place, range-from, range-to}
+use Rattle.lists.specs.Lists.{Ascending, place, range-from, range-to, Starts}
 use Rattle.lists.specs.Ready.{Ready}
 use Rattle.lists.proofs.Facts.{flow-form}
 use Rattle.lists.proofs.Rising.{begins-before, begins-within, begins-behind, place-upto}
-use Rattle.values.specs.Values.{Flow-starts}
 use Rattle.branches.specs.Taken.{code-closed}
 
 pub each-range : (c : Columns) (a : ℕ) (f : ℕ → Bool) → Ascending c → each c a f ≡ all (range-from c a) (range-to c a) (λ j. f (right c j))
@@ -41,12 +40,12 @@ each-range c a f rising = both (each c a f) (all (place c a 0) (place c (a + 1) 
     ])))
 
 -- the range as the table of starts has it
-pub starts-range : {ws : List ℕ} {s : Sizes} → Ready ws s → {starts : List ℕ} → Flow-starts (program ws s) (tables ws s) starts → (n from to : ℕ) → n < s .names → from ≡ getD starts n 0 → to ≡ getD starts (n + 1) 0
+pub starts-range : {ws : List ℕ} {s : Sizes} → Ready ws s → {starts : List ℕ} → Starts (tables ws s .flow) (s .names) starts → (n from to : ℕ) → n < s .names → from ≡ getD starts n 0 → to ≡ getD starts (n + 1) 0
     → (f : ℕ → Bool) → (each (tables ws s .flow) n f ≡ all from to (λ j. f (right (tables ws s .flow) j))) × (to ≤ s .flows)
 unfolding program tables entries columns range-to range-from
 starts-range {ws} {s} h {starts} st n from to l e g f =
-    let a : from ≡ place (tables ws s .flow) n 0 = e ∙ st .from n (omega arith) in
-    let b : to ≡ place (tables ws s .flow) (n + 1) 0 = g ∙ st .from (n + 1) (omega arith) in
+    let a : from ≡ place (tables ws s .flow) n 0 = e ∙ st .start n (omega arith) in
+    let b : to ≡ place (tables ws s .flow) (n + 1) 0 = g ∙ st .start (n + 1) (omega arith) in
     let z = place-upto (tables ws s .flow) (n + 1) 0 in
     (rw (a, b) (each-range (tables ws s .flow) n f (flow-form h .ascending)), omega arith)
 

@@ -5,6 +5,8 @@ use lists::state_index;
 use lists::word;
 use matching::codes::worse;
 use model::Sizes;
+use model::TAG_CALL;
+use model::TAG_SEND;
 use positions::body;
 use positions::is_class;
 use positions::takes;
@@ -22,8 +24,9 @@ ghost use Rattle.model.specs.Rows.{program, tag, num};
 ghost use Rattle.model.specs.Heads.{call-at, parameters, takes};
 ghost use Rattle.model.specs.Tables.{tables, has, each};
 ghost use Rattle.model.specs.Closed.{passes};
+ghost use Rattle.lists.specs.Lists.{Starts};
 ghost use Rattle.lists.specs.Ready.{Ready};
-ghost use Rattle.values.specs.Values.{Flow-sets, Mail-sets, Flow-starts};
+ghost use Rattle.values.specs.Values.{Flow-sets, Mail-sets};
 ghost use Rattle.asks.specs.Asks.{call-asks, send-asks, spawn-asks, asks, Asked};
 
 // Whether all values of the name a are among those of the name b.
@@ -132,8 +135,8 @@ fn asks(ws: &[u16], s: Sizes, flow: &[u64], mail: &[u64], r: usize, x: usize) ->
     ensures { λ k. ⌜ k ≡ asks (program (now (ws .entry)) s) (tables (now (ws .entry)) s) r x ⌝ }
 {
     match tag(ws, s, r) {
-        4 => call_asks(ws, s, flow, r, x),
-        5 => send_asks(ws, s, flow, mail, r, x),
+        TAG_CALL => call_asks(ws, s, flow, r, x),
+        TAG_SEND => send_asks(ws, s, flow, mail, r, x),
         _ => spawn_asks(ws, s, flow, r, x),
     }
 }
@@ -141,7 +144,7 @@ fn asks(ws: &[u16], s: Sizes, flow: &[u64], mail: &[u64], r: usize, x: usize) ->
 // What it asks with all values of that name.
 pub fn asked(ws: &[u16], s: Sizes, starts: &[u16], flow: &[u64], mail: &[u64], r: usize) -> usize
     requires { ⌜ Ready (now ws) s ⌝ }
-    requires { ⌜ Flow-starts (program (now ws) s) (tables (now ws) s) (now starts) ⌝ }
+    requires { ⌜ Starts (tables (now ws) s .flow) (s .names) (now starts) ⌝ }
     requires { ⌜ Flow-sets (program (now ws) s) (tables (now ws) s) (now flow) ⌝ }
     requires { ⌜ Mail-sets (program (now ws) s) (tables (now ws) s) (now mail) ⌝ }
     requires { ⌜ (4 ≤ tag (program (now ws) s) r) × (tag (program (now ws) s) r ≤ 6) ⌝ }

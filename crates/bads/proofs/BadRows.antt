@@ -10,7 +10,7 @@ use Rattle.model.specs.declared.Sizes.{Sizes}
 use Rattle.model.specs.declared.Verdict.{Verdict}
 use Rattle.model.specs.declared.Verdict.the-variants.{Safe, Bad}
 use Rattle.model.specs.Words.{left, right, columns}
-use Rattle.model.specs.Message.{bads-at, tables-at, bounds-at, end-at}
+use Rattle.model.specs.Message.{bads-at, tables-at, ceilings-at, end-at}
 use Rattle.model.specs.Reader.{first-wrong}
 use Rattle.model.specs.Rows.{program}
 use Rattle.model.specs.Bads.{Part, bad, bad-rows, bad-step, bad-check}
@@ -27,11 +27,11 @@ use Rattle.bads.specs.Reading.{row-step, wrong-from}
 use Rattle.bads.specs.Stacks.{stack, stacks, no-more}
 use Rattle.bads.proofs.Reading.{wrong-start, wrong-stop, wrong-go, wrong-none, wrong-end}
 
-pub bad-arrays-are : (s : Sizes) (l r : ℕ) → l ≡ 6 + 2 * s .rows → r ≡ 6 + 2 * s .rows + s .conditions → _≡_ {A = Arrays} (record { size = s .conditions; lefts = l; rights = r }) (bad-arrays s)
+pub bad-arrays-are : (s : Sizes) (l r : ℕ) → l ≡ 6 + 2 * s .rows → r ≡ 6 + 2 * s .rows + s .badrows → _≡_ {A = Arrays} (record { size = s .badrows; lefts = l; rights = r }) (bad-arrays s)
 unfolding bad-arrays bads-at
 bad-arrays-are s l r el er =
     let x : l ≡ 4 + 2 * s .rows + 2 = omega arith in
-    let y : r ≡ 4 + 2 * s .rows + 2 + s .conditions = omega arith in
+    let y : r ≡ 4 + 2 * s .rows + 2 + s .badrows = omega arith in
     rw (x, y)
 
 module _ (ws : List ℕ) (s : Sizes) where
@@ -54,8 +54,8 @@ module _ (ws : List ℕ) (s : Sizes) where
   answer-safe h = sym (ap (λ x. answer (Option·map (λ r. Bad (bads-at s + 2 + r)) x)) h)
 
   module _ (a : Arrays) (rows-are : a ≡ bad-arrays s) where
-    pub rows-held : Parts-whole ws s → Held ws a × (a .size ≡ s .conditions)
-    unfolding bad-arrays bads-at tables-at bounds-at end-at
+    pub rows-held : Parts-whole ws s → Held ws a × (a .size ≡ s .badrows)
+    unfolding bad-arrays bads-at tables-at ceilings-at end-at
     rows-held whole = let w = whole .held in rw rows-are (record { lefts = omega arith; rights = omega arith }, refl)
 
     pub answer-bad : (r : ℕ) → first-bad ≡ some r → Bad (a .lefts + r) ≡ answered
@@ -65,7 +65,7 @@ module _ (ws : List ℕ) (s : Sizes) where
         sym (ap (λ x. answer (Option·map (λ r. Bad (bads-at s + 2 + r)) x)) h)
 
     -- a turn: row r has tag t and number n, and makes x of what is expected
-    module _ (e : Expected) (r t n : ℕ) (x : Step) (more : r < s .conditions) (tag-is : t ≡ left (arrays ws a) r) (num-is : n ≡ right (arrays ws a) r) (made : stacks x ≡ row-step (bad-step (program ws s)) (stack e) t n) where
+    module _ (e : Expected) (r t n : ℕ) (x : Step) (more : r < s .badrows) (tag-is : t ≡ left (arrays ws a) r) (num-is : n ≡ right (arrays ws a) r) (made : stacks x ≡ row-step (bad-step (program ws s)) (stack e) t n) where
       row-made : stacks x ≡ row-step (bad-step (program ws s)) (stack e) (left (bad-rows ws s) r) (right (bad-rows ws s) r)
       unfolding arrays bad-arrays bad-rows
       row-made =
@@ -84,7 +84,7 @@ module _ (ws : List ℕ) (s : Sizes) where
           h ∙ wrong-go (bad-step (program ws s)) (bad-rows ws s) (stack e) (stack e′) r more (sym row-made ∙ ap stacks z)
 
     -- behind the last row
-    module _ (e : Expected) (r : ℕ) (over : r ≡ s .conditions) (left-over : first-bad ≡ bad-from e r) where
+    module _ (e : Expected) (r : ℕ) (over : r ≡ s .badrows) (left-over : first-bad ≡ bad-from e r) where
       ended : (items : List Part) → first-bad ≡ wrong-from (bad-step (program ws s)) (bad-rows ws s) items r → (b : Bool) → b ≡ no-more items → (b ≡ true → Safe ≡ answered) × (b ≡ false → Bad (a .lefts + r) ≡ answered)
       unfolding no-more bad-rows columns
       ended [] h b d = (λ z. answer-safe (h ∙ wrong-none (bad-step (program ws s)) (bad-rows ws s) r over), λ z. absurd (true≢false (sym d ∙ z)))

@@ -6,4 +6,4 @@ use Rattle.evidence.specs.declared.arrays.Arrays.{Arrays}
 
 -- tags, then numbers
 unfoldable pub bad-arrays : Sizes → Arrays
-bad-arrays s = record { size = s .conditions; lefts = bads-at s + 2; rights = bads-at s + 2 + s .conditions }
+bad-arrays s = record { size = s .badrows; lefts = bads-at s + 2; rights = bads-at s + 2 + s .badrows }

@@ -4,7 +4,13 @@ use evidence::arrays::left;
 use evidence::arrays::right;
 use evidence::ranges::is_class;
 use evidence::ranges::is_head;
+use model::OTHER_LETTERS;
 use model::Sizes;
+use model::TAG_BAD_END;
+use model::TAG_CLASS;
+use model::TAG_HEAD;
+use model::TAG_LETTER;
+use model::TAG_MINIMUM;
 use model::Verdict;
 ghost use mathlib.Core.Path.{_≡_};
 ghost use Rattle.model.specs.Rows.{program};
@@ -41,8 +47,8 @@ fn is_subject(ws: &[u16], s: Sizes, t: usize, n: usize) -> bool
     ensures { λ b. ⌜ b ≡ is-subject (program (now (ws .entry)) s) t n ⌝ }
 {
     match t {
-        41 => is_head(ws, s, n),
-        42 => n < s.constructors + 2,
+        TAG_HEAD => is_head(ws, s, n),
+        TAG_LETTER => n < s.constructors + OTHER_LETTERS,
         _ => false,
     }
 }
@@ -52,7 +58,7 @@ fn item(ws: &[u16], s: Sizes, k: usize, t: usize, n: usize) -> Step
     requires { ⌜ Whole (now ws) s ⌝ }
     ensures { λ e. ⌜ stacks e ≡ item-step (program (now (ws .entry)) s) k t n ⌝ }
 {
-    if t == 40 {
+    if t == TAG_CLASS {
         if is_class(ws, s, n) {
             return Step::Next(Expected::Subject(k));
         }
@@ -79,7 +85,7 @@ fn read_row(ws: &[u16], s: Sizes, expected: Expected, t: usize, n: usize) -> Ste
             Step::Wrong
         }
         Expected::Minimum(k) => {
-            if t == 43 {
+            if t == TAG_MINIMUM {
                 if 1 <= n {
                     return Step::Next(Expected::Further(k));
                 }
@@ -87,7 +93,7 @@ fn read_row(ws: &[u16], s: Sizes, expected: Expected, t: usize, n: usize) -> Ste
             Step::Wrong
         }
         Expected::Further(k) => {
-            if t != 44 {
+            if t != TAG_BAD_END {
                 return item(ws, s, k, t, n);
             }
             if n == 0 {
@@ -117,9 +123,9 @@ fn bad_rows(s: Sizes) -> Arrays
 {
     let first = 6 + 2 * s.rows;
     Arrays {
-        size: s.conditions,
+        size: s.badrows,
         lefts: first,
-        rights: first + s.conditions,
+        rights: first + s.badrows,
     }
 }
 
@@ -131,7 +137,7 @@ pub fn bad_check(ws: &[u16], s: Sizes) -> Verdict
     let rows = bad_rows(s);
     let mut expected = Expected::Bads(s.bads);
     let mut r = 0;
-    while r < s.conditions {
+    while r < s.badrows {
         let t = left(ws, rows, r);
         let n = right(ws, rows, r);
         match read_row(ws, s, expected, t, n) {

@@ -3,11 +3,11 @@ use Prim.Native.Nat.{ℕ, suc, _+_, _-_, _≤_, _<_}
 use native.Mathlib.Omega.{arith}
 use mathlib.Core.Path.{_≡_, refl, sym, _∙_, ap}
 use Rattle.model.specs.Words.{Columns, left, right}
-use Rattle.model.specs.Bounds.{bound-step, limit-from}
+use Rattle.model.specs.Ceilings.{ceiling-step, limit-from}
 use Rattle.model.proofs.Reader.{read-takes}
-use Rattle.bounds.specs.Limits.{bound-end, Stands}
-use Rattle.bounds.proofs.Reading.{in-ceiling-below}
-use Rattle.bounds.proofs.Filling.{Open, open-next, open-end, limit-end, limit-here, limit-skip, limit-below}
+use Rattle.ceilings_form.specs.Limits.{ceiling-end, Stands}
+use Rattle.ceilings_form.proofs.Reading.{in-ceiling-below}
+use Rattle.ceilings_form.proofs.Filling.{Open, open-next, open-end, limit-end, limit-here, limit-skip, limit-below}
 
 module _ (n : ℕ) (entries : Columns) (limit : ℕ → ℕ) (end : ℕ) where
   -- the ceiling with these limits, which ends before entry `end`, is open at entry e: its counters from `least` on are still to come
@@ -27,7 +27,7 @@ module _ (n : ℕ) (entries : Columns) (limit : ℕ → ℕ) (end : ℕ) where
   module _ (e least : ℕ) (a : Ahead e least) where
     -- the ceiling is not yet closed, so an entry is left
     pub ahead-inside : e < entries .size
-    ahead-inside = let w = read-takes (bound-step n) entries (entries .size - e) e _ _ _ (a .reads) in omega arith
+    ahead-inside = let w = read-takes (ceiling-step n) entries (entries .size - e) e _ _ _ (a .reads) in omega arith
 
     turn : entries .size - e ≡ suc (entries .size - (e + 1))
     turn = let h = ahead-inside in omega arith
@@ -64,5 +64,5 @@ module _ (n : ℕ) (entries : Columns) (limit : ℕ → ℕ) (end : ℕ) where
     ahead-none h x l b = sym (a .limits x l b) ∙ (by-turn x ∙ limit-end n entries _ e x h)
 
 -- a ceiling that stands at entry e is all to come
-pub ahead-start : (n : ℕ) (entries : Columns) (limit : ℕ → ℕ) (e : ℕ) → Stands n entries e → ((x : ℕ) → x < n → limit-from n entries (entries .size - e) e x ≡ limit x) → Ahead n entries limit (bound-end n entries e) e 0
+pub ahead-start : (n : ℕ) (entries : Columns) (limit : ℕ → ℕ) (e : ℕ) → Stands n entries e → ((x : ℕ) → x < n → limit-from n entries (entries .size - e) e x ≡ limit x) → Ahead n entries limit (ceiling-end n entries e) e 0
 ahead-start n entries limit e stands is = record { reads = stands; limits = λ x l b. is x b }

@@ -10,11 +10,11 @@ use lib.Seq.{getD-set-same, getD-set-other}
 use Rattle.model.specs.declared.Sizes.{Sizes}
 use Rattle.model.specs.Words.{Columns, left, right}
 use Rattle.model.specs.Reader.{first-wrong}
-use Rattle.model.specs.Bounds.{from-counter, bound-entries, bound-step, bounds-of, bound-entry, limit-from, bounds}
+use Rattle.model.specs.Ceilings.{from-counter, ceiling-entries, ceiling-step, ceilings-ahead, ceiling-entry, limit-from, ceilings-of}
 use Rattle.bits.proofs.Rows.{place}
-use Rattle.bounds.specs.Limits.{Starts-table, bound-end, Stands}
-use Rattle.bounds.proofs.Repeated.{walked-start}
-use Rattle.bounds.proofs.Ceilings.{Walks, entry-of, next-one}
+use Rattle.ceilings_form.specs.Limits.{Starts-table, ceiling-end, Stands}
+use Rattle.ceilings_form.proofs.Repeated.{walked-start}
+use Rattle.ceilings_form.proofs.Ceilings.{Walks, entry-of, next-one}
 use Rattle.ceilings.specs.Table.{held, Limits-table, Blank, Unfilled, Ceiling-filled}
 use Rattle.ceilings.proofs.Ahead.{Ahead, Counter-here, ahead-start, ahead-inside, ahead-counter, ahead-end, ahead-none}
 use Rattle.ceilings.proofs.Cells.{cell-below}
@@ -27,7 +27,7 @@ module _ (n : ℕ) (entries : Columns) (ceilings k e : ℕ) where
   -- the entries e up to i are filled in, those from i on are to come
   pub record Filling (i : ℕ) (before cells : List ℕ) : Type 0 where
     pub least : ℕ
-    pub ahead : Ahead n entries limit-of (bound-end n entries e) i least
+    pub ahead : Ahead n entries limit-of (ceiling-end n entries e) i least
     pub filled : (x : ℕ) → x < least → x < n → held cells ceilings k x ≡ limit-of x
     pub blank : (x : ℕ) → least ≤ x → x < n → held cells ceilings k x ≡ 0
     pub others : (j x : ℕ) → j < ceilings → (j ≡ k → ⊥) → held cells ceilings j x ≡ held before ceilings j x
@@ -74,7 +74,7 @@ module _ (n : ℕ) (entries : Columns) (ceilings k e : ℕ) where
         }
 
     -- the ceiling's last entry
-    pub filling-end : left entries i ≡ n → (bound-end n entries e ≡ i + 1) × Ceiling-filled n entries ceilings k e before cells
+    pub filling-end : left entries i ≡ n → (ceiling-end n entries e ≡ i + 1) × Ceiling-filled n entries ceilings k e before cells
     filling-end h = (
       ahead-end n entries limit-of _ i _ (f .ahead) h,
       record {
@@ -90,21 +90,21 @@ module _ (n : ℕ) (entries : Columns) (ceilings : ℕ) where
   -- k ceilings are in the tables, and nothing stands yet for the others
   pub record Filled (k e : ℕ) (limits starts : List ℕ) : Type 0 where
     pub walked : Walks n entries ceilings k e
-    pub filled : (j x : ℕ) → j < k → x < n → held limits ceilings j x ≡ limit-from n entries (entries .size - bound-entry n entries j) (bound-entry n entries j) x
+    pub filled : (j x : ℕ) → j < k → x < n → held limits ceilings j x ≡ limit-from n entries (entries .size - ceiling-entry n entries j) (ceiling-entry n entries j) x
     pub blank : (j : ℕ) → k ≤ j → j < ceilings → Unfilled n ceilings limits j
-    pub begun : (j : ℕ) → j < k → getD starts j 0 ≡ bound-entry n entries j
+    pub begun : (j : ℕ) → j < k → getD starts j 0 ≡ ceiling-entry n entries j
 
-  pub filled-start : first-wrong (bound-step n) entries (bounds-of ceilings) ≡ none → (limits starts : List ℕ) → Blank limits (n * ceilings) → Filled 0 0 limits starts
+  pub filled-start : first-wrong (ceiling-step n) entries (ceilings-ahead ceilings) ≡ none → (limits starts : List ℕ) → Blank limits (n * ceilings) → Filled 0 0 limits starts
   filled-start h limits starts blank =
       record {
-        walked = walked-start (bound-step n) entries (from-counter 0) ceilings h;
+        walked = walked-start (ceiling-step n) entries (from-counter 0) ceilings h;
         filled = λ j x b. absurd (omega arith);
         blank = λ j l b x y. blank (x * ceilings + j) (cell-below n ceilings x j y b);
         begun = λ j b. absurd (omega arith);
       }
 
   -- one ceiling more
-  pub filled-next : (k e : ℕ) (limits starts cells : List ℕ) → k < ceilings → k < length starts → Filled k e limits starts → Ceiling-filled n entries ceilings k e limits cells → Filled (k + 1) (bound-end n entries e) cells (set starts k e)
+  pub filled-next : (k e : ℕ) (limits starts cells : List ℕ) → k < ceilings → k < length starts → Filled k e limits starts → Ceiling-filled n entries ceilings k e limits cells → Filled (k + 1) (ceiling-end n entries e) cells (set starts k e)
   filled-next k e limits starts cells below room f b =
       let at = entry-of n entries ceilings k e (f .walked) in
       record {
@@ -121,10 +121,10 @@ module _ (n : ℕ) (entries : Columns) (ceilings : ℕ) where
       }
 
 -- all ceilings of a message
-module _ (ws : List ℕ) (s : Sizes) (n k e : ℕ) (limits starts : List ℕ) (all : k ≡ s .bounds) (f : Filled n (bound-entries ws s) (s .bounds) k e limits starts) where
-  pub limits-table : n * s .bounds ≤ length limits → Limits-table (bounds ws s n) limits
-  unfolding bounds
+module _ (ws : List ℕ) (s : Sizes) (n k e : ℕ) (limits starts : List ℕ) (all : k ≡ s .ceilings) (f : Filled n (ceiling-entries ws s) (s .ceilings) k e limits starts) where
+  pub limits-table : n * s .ceilings ≤ length limits → Limits-table (ceilings-of ws s n) limits
+  unfolding ceilings-of
   limits-table room = record { room = room; limit = λ j x b. f .filled j x (omega arith) }
 
-  pub starts-table : s .bounds ≤ length starts → Starts-table n (bound-entries ws s) (s .bounds) starts
+  pub starts-table : s .ceilings ≤ length starts → Starts-table n (ceiling-entries ws s) (s .ceilings) starts
   starts-table room = record { room = room; start = λ j b. f .begun j (omega arith) }

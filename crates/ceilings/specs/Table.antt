@@ -5,13 +5,13 @@ use mathlib.Core.Path.{_≡_}
 use mathlib.Core.List.{List}
 use lib.ListN.{length, getD}
 use Rattle.model.specs.Words.{Columns}
-use Rattle.model.specs.Bounds.{Bound, Bounds, limit-from}
+use Rattle.model.specs.Ceilings.{Ceiling-limits, Ceilings, limit-from}
 
 -- the limits that the table of so many ceilings holds for ceiling k
-abbrev pub held : List ℕ → ℕ → ℕ → Bound
+abbrev pub held : List ℕ → ℕ → ℕ → Ceiling-limits
 held limits ceilings k x = getD limits (x * ceilings + k) 0
 
-pub record Limits-table (bs : Bounds) (limits : List ℕ) : Type 0 where
+pub record Limits-table (bs : Ceilings) (limits : List ℕ) : Type 0 where
   pub room : bs .counters * bs .size ≤ length limits
   pub limit : (k x : ℕ) → k < bs .size → x < bs .counters → held limits (bs .size) k x ≡ bs .limit k x
 

@@ -12,7 +12,7 @@ use borrow.Author.Tests.{eq-eqb, ne-eqb, eqb-true, leb-true, le-leb, lt-ltb, le-
 use Rattle.model.specs.Limits.{omega-limit}
 use Rattle.model.specs.Index.{all}
 use Rattle.model.specs.Markings.{Marking, readable, usable, fire}
-use Rattle.model.specs.Bounds.{allowed, highest, under}
+use Rattle.model.specs.Ceilings.{allowed, highest, under}
 use Rattle.model.proofs.Logic.{test, true-false, and-left, and-right, and-intro, or-cases, or-left, or-right, not-passes, not-fails}
 use Rattle.model.proofs.Index.{all-intro, all-elim}
 use Rattle.bits.specs.Bits.{member}
@@ -21,7 +21,7 @@ use Rattle.masks.specs.Masks.{has}
 use Rattle.steps.specs.declared.Step.{Step}
 use Rattle.steps.specs.Steps.{effect-of, rule-of-step, takes-other, adds-other, less-if, more-if}
 use Rattle.steps.proofs.Stepping.{fire-alone, fire-untouched, fire-held, fire-less, fire-raised, fire-fewer, fire-stages, less-pass, less-fail, less-small, more-fail, more-small, takes-none, takes-apart, takes-it}
-use Rattle.bounds.proofs.Limited.{highest-limit}
+use Rattle.ceilings_form.proofs.Limited.{highest-limit}
 use Rattle.ceilings.specs.Table.{held}
 use Rattle.ceilings_masks.specs.declared.Over.{Over}
 use Rattle.ceilings_masks.specs.Compared.{allows, most, exceeds, exceeds-by-one, takes-more, Counted, Neighbours}

@@ -5,10 +5,10 @@ use mathlib.Core.Bool.{Bool, true, false, not, _&&_, _||_}
 use mathlib.Core.List.{List, [], _∷_}
 use lib.Dec.{eqb, ltb}
 use lib.ListN.{length, getD}
-use Rattle.model.specs.Limits.{maxBounds}
+use Rattle.model.specs.Limits.{maxCeilings}
 use Rattle.model.specs.Rules.{Rule}
 use Rattle.model.specs.Markings.{fire}
-use Rattle.model.specs.Bounds.{allowed, highest, under}
+use Rattle.model.specs.Ceilings.{allowed, highest, under}
 use Rattle.masks.specs.declared.Mask.{Mask}
 use Rattle.masks.specs.Masks.{has}
 use Rattle.steps.specs.declared.Step.{Step}
@@ -21,7 +21,7 @@ use Rattle.ceilings_masks.specs.Compared.{Holders, most, exceeds, takes-more, C
 pub record Beside (limits : List ℕ) (ceilings n k : ℕ) (holders unbounded : List ℕ) (over : Over)
     (short more : List ℕ) : Type 0 where
   pub room : n * ceilings ≤ length limits
-  pub few : ceilings ≤ maxBounds
+  pub few : ceilings ≤ maxCeilings
   pub ceiling : k < ceilings
   pub held-by : Holders limits ceilings n holders unbounded
   pub counted : Counted limits ceilings n k over

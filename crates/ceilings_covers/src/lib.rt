@@ -1,8 +1,8 @@
 // Which ceilings may cover the counts after a step from the highest counts of a ceiling, as a mask; and the test of
 // one of them.
-use bounds::limits::is_allowed;
 use ceilings::highest;
 use ceilings::limit;
+use ceilings_form::limits::is_allowed;
 use ceilings_masks::Over;
 use ceilings_masks::allowing;
 use masks::Mask;
@@ -25,7 +25,7 @@ ghost use Rattle.bits.specs.Bits.{member, Row};
 ghost use Rattle.masks.specs.Masks.{has};
 ghost use Rattle.model.specs.Index.{any};
 ghost use Rattle.model.specs.Markings.{usable};
-ghost use Rattle.model.specs.Bounds.{highest};
+ghost use Rattle.model.specs.Ceilings.{highest};
 ghost use Rattle.steps.specs.Steps.{rule-of-step, adds-other};
 ghost use Rattle.ceilings.specs.Table.{held};
 ghost use Rattle.ceilings_masks.specs.Compared.{takes-more};

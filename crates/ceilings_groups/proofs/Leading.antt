@@ -12,7 +12,7 @@ use Rattle.model.specs.Rows.{Program, Kind, kind}
 use Rattle.model.specs.Tables.{Tables, state-at}
 use Rattle.model.specs.Rules.{Effect, quiet, reads, puts, starts, Rule, rule, state-rules, rules}
 use Rattle.model.specs.Markings.{Marking, readable, usable, fire}
-use Rattle.model.specs.Bounds.{Bounds, bounds, allowed, highest, under, under-some, leads-out}
+use Rattle.model.specs.Ceilings.{Ceilings, ceilings-of, allowed, highest, under, under-some, leads-out}
 use Rattle.model.proofs.Logic.{test, or-false}
 use Rattle.model.proofs.Index.{any-end, any-hit, any-miss, any-elim, any-intro, none-any, all-intro, all-elim, gather-end, gather-turn, gather-intro}
 use Rattle.model.proofs.Bounded.Fire.{Shaped}
@@ -21,9 +21,9 @@ use Rattle.steps.specs.declared.Step.{Step}
 use Rattle.steps.specs.Steps.{effect-of, rule-of-step, effect-kind}
 use Rattle.steps.proofs.Stepping.{fire-alone, effect-quiet}
 use Rattle.rules.specs.Listed.{kind-effect, listed-rule, listed-rules}
-use Rattle.bounds.proofs.Limited.{highest-same}
+use Rattle.ceilings_form.proofs.Limited.{highest-same}
 use Rattle.ceilings.specs.Table.{held, Limits-table}
-use Rattle.ceilings_groups.specs.Groups.{table-bounds, escapes, step}
+use Rattle.ceilings_groups.specs.Groups.{table-ceilings, escapes, step}
 
 -- loops whose tests agree
 all-same : (e : ℕ) (f g : ℕ → Bool) → ((k : ℕ) → k < e → f k ≡ g k) → all 0 e f ≡ all 0 e g
@@ -51,7 +51,7 @@ or-nothing : (a : Bool) → (a || false) ≡ a
 or-nothing true = refl
 or-nothing false = refl
 
-module _ (bs : Bounds) (m : Marking) where
+module _ (bs : Ceilings) (m : Marking) where
   leads-one : (ρ : Rule) → leads-out bs (ρ ∷ []) m ≡ escapes bs ρ m
   unfolding leads-out escapes
   leads-one ρ = or-nothing _
@@ -107,7 +107,7 @@ pub listed-step : (tag i : ℕ) (tos others : List ℕ) (j : ℕ) → listed-rul
 unfolding listed-rule rule-of-step
 listed-step tag i tos others j = ap (rule i (getD tos j 0)) (effect-tag tag (getD others j 0))
 
-pub leads-listed : (bs : Bounds) (m : Marking) (tag i : ℕ) (tos others : List ℕ) (n : ℕ) → leads-out bs (listed-rules (kind tag) i tos others n) m ≡ any 0 n (λ j. escapes bs (rule-of-step (step i (getD tos j 0) (effect-kind tag) (getD others j 0))) m)
+pub leads-listed : (bs : Ceilings) (m : Marking) (tag i : ℕ) (tos others : List ℕ) (n : ℕ) → leads-out bs (listed-rules (kind tag) i tos others n) m ≡ any 0 n (λ j. escapes bs (rule-of-step (step i (getD tos j 0) (effect-kind tag) (getD others j 0))) m)
 unfolding listed-rules
 leads-listed bs m tag i tos others n =
     leads-gather bs m 0 n (λ k. listed-rule (kind tag) i tos others k ∷ []) ∙
@@ -133,7 +133,7 @@ usable-rule n from to (reads x) m m′ s h = rw (h from (s .0), h x (s .1 .0))
 usable-rule n from to (puts x) m m′ s h = rw (h from (s .0))
 usable-rule n from to (starts x) m m′ s h = rw (h from (s .0))
 
-module _ (bs : Bounds) (limits : List ℕ) (table : Limits-table bs limits) (k : ℕ) (below : k < bs .size) where
+module _ (bs : Ceilings) (limits : List ℕ) (table : Limits-table bs limits) (k : ℕ) (below : k < bs .size) where
   abbrev theirs : Marking
   theirs = highest (bs .limit k)
 
@@ -149,14 +149,14 @@ module _ (bs : Bounds) (limits : List ℕ) (table : Limits-table bs limits) (k :
       all-same (bs .counters) _ _
       (λ x b. ap₂ allowed (table .limit k′ x h b) (fire-rule (ρ .from) (ρ .to) (ρ .effect) ours theirs x (counts-same x b)))
 
-  escapes-same : (ρ : Rule) → Shaped (bs .counters) ρ → escapes bs ρ theirs ≡ escapes (table-bounds (bs .size) (bs .counters) limits) ρ ours
+  escapes-same : (ρ : Rule) → Shaped (bs .counters) ρ → escapes bs ρ theirs ≡ escapes (table-ceilings (bs .size) (bs .counters) limits) ρ ours
   unfolding escapes under-some
   escapes-same ρ s =
       sym (ap₂ (λ a b. a && not b)
       (usable-rule (bs .counters) (ρ .from) (ρ .to) (ρ .effect) ours theirs s counts-same)
       (any-same (bs .size) _ _ (under-same ρ)))
 
-  pub leads-same : (ρs : List Rule) → ((ρ : Rule) → List·Memᴰ ρ ρs → Shaped (bs .counters) ρ) → leads-out bs ρs theirs ≡ leads-out (table-bounds (bs .size) (bs .counters) limits) ρs ours
+  pub leads-same : (ρs : List Rule) → ((ρ : Rule) → List·Memᴰ ρ ρs → Shaped (bs .counters) ρ) → leads-out bs ρs theirs ≡ leads-out (table-ceilings (bs .size) (bs .counters) limits) ρs ours
   unfolding leads-out escapes
   leads-same [] h = refl
   leads-same (ρ ∷ ρs) h = ap₂ (λ a b. a || b) (escapes-same ρ (h ρ (List·Memᴰ·head refl))) (leads-same ρs (λ σ i. h σ (List·Memᴰ·tail i)))

@@ -15,7 +15,7 @@ use Rattle.model.specs.Rows.{Program}
 use Rattle.model.specs.Tables.{Tables, state-at}
 use Rattle.model.specs.Rules.{Rule, state-rules}
 use Rattle.model.specs.Markings.{Marking, usable, fire}
-use Rattle.model.specs.Bounds.{allowed, highest, under, under-some, leads-out}
+use Rattle.model.specs.Ceilings.{allowed, highest, under, under-some, leads-out}
 use Rattle.model.proofs.Logic.{test, true-false, and-left, and-right, or-left}
 use Rattle.model.proofs.Index.{any-elim, any-intro, all-intro}
 use Rattle.bits.specs.Bits.{member}
@@ -28,7 +28,7 @@ use Rattle.ceilings.specs.Table.{held}
 use Rattle.ceilings_masks.specs.Compared.{reaches, most, exceeds}
 use Rattle.ceilings_covers.specs.Covers.{Left}
 use Rattle.ceilings_covers.proofs.Covering.{allowed-lower, fits-not}
-use Rattle.ceilings_groups.specs.Groups.{table-bounds, escapes, Unbounded-at, Open-to, Groups-upto}
+use Rattle.ceilings_groups.specs.Groups.{table-ceilings, escapes, Unbounded-at, Open-to, Groups-upto}
 use Rattle.ceilings_groups.proofs.Leading.{leads-none}
 
 pub unbounded-is : (limits : List ℕ) (ceilings n k y : ℕ) → ((z : ℕ) → getD limits z 0 < 65536) → reaches limits ceilings y omega-limit k ≡ true → Unbounded-at limits ceilings n k y
@@ -73,18 +73,18 @@ module _ (limits : List ℕ) (ceilings n k i : ℕ) (left : Mask) (l : Left limi
             allowed-lower (held limits ceilings j y) (highest (held limits ceilings k) y) _ (fits-not limits ceilings n k j y (l .others j y b h inside z)) (omega (arith, e, less))
       ]) (opens (highest (held limits ceilings k)) y inside))
 
-  covered-in : (ρ : Rule) (j : ℕ) → j < ceilings → under n (held limits ceilings j) (fire ρ (highest (held limits ceilings k))) ≡ true → escapes (table-bounds ceilings n limits) ρ (highest (held limits ceilings k)) ≡ false
+  covered-in : (ρ : Rule) (j : ℕ) → j < ceilings → under n (held limits ceilings j) (fire ρ (highest (held limits ceilings k))) ≡ true → escapes (table-ceilings ceilings n limits) ρ (highest (held limits ceilings k)) ≡ false
   unfolding escapes under-some
   covered-in ρ j b u =
       ap (λ z. usable ρ (highest (held limits ceilings k)) && not z) (any-intro 0 ceilings j (λ x. under n (held limits ceilings x) (fire ρ (highest (held limits ceilings k)))) (omega arith) b u) ∙
       and-none (usable ρ (highest (held limits ceilings k)))
 
-  pub settles : (p : Program) (t : Tables) (S : ℕ) (group : List ℕ) → i < S → Groups-upto p t limits ceilings n S group → any 0 256 (λ j. has left j && member group 4 i j) ≡ true → leads-out (table-bounds ceilings n limits) (state-rules p t i (state-at t i)) (highest (held limits ceilings k)) ≡ false
+  pub settles : (p : Program) (t : Tables) (S : ℕ) (group : List ℕ) → i < S → Groups-upto p t limits ceilings n S group → any 0 256 (λ j. has left j && member group 4 i j) ≡ true → leads-out (table-ceilings ceilings n limits) (state-rules p t i (state-at t i)) (highest (held limits ceilings k)) ≡ false
   settles p t S group inside g some =
       let (j, w, e) = any-elim 0 256 (λ j. has left j && member group 4 i j) some in
       let h = and-left (has left j) _ e in
       let b = l .few j (w .1) h in
-      leads-none (table-bounds ceilings n limits) (highest (held limits ceilings k)) _
+      leads-none (table-ceilings ceilings n limits) (highest (held limits ceilings k)) _
       (λ ρ r. covered-in ρ j b (open-covers ρ j b h (g .leaves i ρ inside r) (g .opens i j ρ inside (w .1) (and-right (has left j) _ e) r)))
 
 -- the rules before number j add nowhere where a ceiling of the mask has a bound

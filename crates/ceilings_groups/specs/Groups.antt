@@ -11,18 +11,18 @@ use Rattle.model.specs.Rows.{Program}
 use Rattle.model.specs.Tables.{Tables, state-at}
 use Rattle.model.specs.Rules.{Rule, state-rules}
 use Rattle.model.specs.Markings.{Marking, usable, fire}
-use Rattle.model.specs.Bounds.{Bounds, under-some}
+use Rattle.model.specs.Ceilings.{Ceilings, under-some}
 use Rattle.bits.specs.Bits.{member}
 use Rattle.steps.specs.declared.Step.{Step}
 use Rattle.steps.specs.Steps.{less-if}
 use Rattle.ceilings.specs.Table.{held}
 
 -- the ceilings that the table of limits holds
-abbrev pub table-bounds : ℕ → ℕ → List ℕ → Bounds
-table-bounds ceilings n limits = record { size = ceilings; counters = n; limit = held limits ceilings }
+abbrev pub table-ceilings : ℕ → ℕ → List ℕ → Ceilings
+table-ceilings ceilings n limits = record { size = ceilings; counters = n; limit = held limits ceilings }
 
--- the rule can be used at the counts and leads out of all bounds
-unfoldable pub escapes : Bounds → Rule → Marking → Bool
+-- the rule can be used at the counts and leads out of all ceilings
+unfoldable pub escapes : Ceilings → Rule → Marking → Bool
 escapes bs ρ m = usable ρ m && not (under-some bs (fire ρ m))
 
 -- counter y, where it is one of the n, is unbounded under ceiling k

@@ -8,7 +8,7 @@ ghost use mathlib.Core.Path.{_≡_};
 ghost use mathlib.Core.Bool.{true, _&&_};
 ghost use Prim.Native.Nat.{ℕ, _*_, _≤_, _<_};
 ghost use lib.ListN.{length, getD};
-ghost use Rattle.model.specs.Limits.{maxBounds};
+ghost use Rattle.model.specs.Limits.{maxCeilings};
 ghost use Rattle.model.specs.Index.{any};
 ghost use Rattle.bits.specs.Bits.{member, Row};
 ghost use Rattle.masks.specs.Masks.{has};

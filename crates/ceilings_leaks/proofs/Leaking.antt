@@ -12,14 +12,14 @@ use Rattle.model.specs.declared.Sizes.{Sizes}
 use Rattle.model.specs.declared.Verdict.the-variants.{Safe, Leak}
 use Rattle.model.specs.Index.{any, first}
 use Rattle.model.specs.Words.{Columns, left, right, columns}
-use Rattle.model.specs.Message.{bounds-at}
+use Rattle.model.specs.Message.{ceilings-at}
 use Rattle.model.specs.Rows.{Program, program, tag, Kind, kind}
 use Rattle.model.specs.Tables.{Tables, tables, entries, state-at}
 use Rattle.model.specs.Counters.{counter-count}
 use Rattle.model.specs.Rules.{Rule, state-rules, rules}
 use Rattle.model.specs.Markings.{Marking, usable, fire}
 use Rattle.model.specs.Verdict.{unless}
-use Rattle.model.specs.Bounds.{Bounds, bounds, bound-entries, bound-entry, highest, under, under-some, leads-out, leak-check}
+use Rattle.model.specs.Ceilings.{Ceilings, ceilings-of, ceiling-entries, ceiling-entry, highest, under, under-some, leads-out, leak-check}
 use Rattle.model.specs.Verify.{answer}
 use Rattle.model.proofs.Logic.{test, true-false, and-left, and-right, and-intro}
 use Rattle.model.proofs.Index.{any-end, any-hit, any-miss, any-elim, any-intro, none-any, first-is, first-hit, first-miss, first-end, first-unique, gather-intro, gather-elim}
@@ -35,16 +35,16 @@ use Rattle.steps.specs.declared.Step.{Step}
 use Rattle.steps.specs.Steps.{effect-of, rule-of-step, effect-kind}
 use Rattle.rules.specs.Listed.{State-rules, listed-rule, listed-rules}
 use Rattle.rules.specs.Derived.{Rule-room}
-use Rattle.bounds.specs.Parts.{Whole}
-use Rattle.bounds.specs.Limits.{Starts-table}
-use Rattle.bounds.proofs.Limited.{highest-limit}
+use Rattle.ceilings_form.specs.Parts.{Whole}
+use Rattle.ceilings_form.specs.Limits.{Starts-table}
+use Rattle.ceilings_form.proofs.Limited.{highest-limit}
 use Rattle.ceilings.specs.Table.{held, Limits-table}
 use Rattle.ceilings.proofs.Ahead.{Ahead, Counter-here, ahead-counter, ahead-none}
 use Rattle.ceilings_masks.specs.declared.Over.{Over}
 use Rattle.ceilings_masks.specs.Compared.{Holders, Counted, Neighbours}
 use Rattle.ceilings_covers.specs.Covers.{Beside, covers, passes, named, Candidates, Exact, sure, Step-apart}
 use Rattle.ceilings_covers.proofs.Covering.{covers-pass, pass-covers}
-use Rattle.ceilings_groups.specs.Groups.{table-bounds, escapes, Unbounded-at, Groups-upto, step}
+use Rattle.ceilings_groups.specs.Groups.{table-ceilings, escapes, Unbounded-at, Groups-upto, step}
 use Rattle.ceilings_groups.proofs.Settling.{step-open}
 use Rattle.bits.specs.Bits.{Set-is}
 use Rattle.ceilings_groups.proofs.Leading.{any-skip, leads-none, leads-states, leads-listed, leads-same, listed-step, listed-member}
@@ -81,10 +81,10 @@ module _ (ws : List ℕ) (s : Sizes) (n : ℕ) (limits : List ℕ) where
 
   -- the highest counts of ceiling k
   abbrev counts : ℕ → Marking
-  counts k = highest (held limits (s .bounds) k)
+  counts k = highest (held limits (s .ceilings) k)
 
-  abbrev tb : Bounds
-  tb = table-bounds (s .bounds) n limits
+  abbrev tb : Ceilings
+  tb = table-ceilings (s .ceilings) n limits
 
   -- ceiling k leaks; it does by a rule of state i; by a step
   pub leaks : ℕ → Bool
@@ -111,46 +111,46 @@ module _ (ws : List ℕ) (s : Sizes) (n : ℕ) (limits : List ℕ) where
   -- the states of ceiling k from entry e on are to come
   pub record Walk (k end e : ℕ) : Type 0 where
     pub least : ℕ
-    pub ahead : Ahead n (bound-entries ws s) (held limits (s .bounds) k) end e least
+    pub ahead : Ahead n (ceiling-entries ws s) (held limits (s .ceilings) k) end e least
     pub so-far : leaks k ≡ any least (s .states) (by-state k)
 
   -- the candidates of a step from number a on are to come
   pub record Left-of (k : ℕ) (σ : Step) (mask : Mask) (a : ℕ) : Type 0 where
     pub low : a ≤ 256
     pub in-mask : a < 256 → has mask a ≡ true
-    pub so-far : any 0 (s .bounds) (covers limits (s .bounds) n k (rule-of-step σ)) ≡ any a 256 (λ x. has mask x && covers limits (s .bounds) n k (rule-of-step σ) x)
+    pub so-far : any 0 (s .ceilings) (covers limits (s .ceilings) n k (rule-of-step σ)) ≡ any a 256 (λ x. has mask x && covers limits (s .ceilings) n k (rule-of-step σ) x)
 
   -- the states, entry by entry
-  module _ (group : List ℕ) (g : Groups-upto p t limits (s .bounds) n (s .states) group) (k : ℕ) where
+  module _ (group : List ℕ) (g : Groups-upto p t limits (s .ceilings) n (s .states) group) (k : ℕ) where
     -- a state without a limit
-    blank-state : (i : ℕ) → i < s .states → held limits (s .bounds) k i ≡ 0 → by-state k i ≡ false
+    blank-state : (i : ℕ) → i < s .states → held limits (s .ceilings) k i ≡ 0 → by-state k i ≡ false
     unfolding by-state escapes usable
     blank-state i h z =
         leads-none tb (counts k) _
-        (λ ρ m. let none : counts k (ρ .from) ≡ 0 = ap (counts k) (g .leaves i ρ h m) ∙ sym (highest-limit (held limits (s .bounds) k) i 0 (sym z) (λ w. omega arith)) in
+        (λ ρ m. let none : counts k (ρ .from) ≡ 0 = ap (counts k) (g .leaves i ρ h m) ∙ sym (highest-limit (held limits (s .ceilings) k) i 0 (sym z) (λ w. omega arith)) in
         rw (none))
 
-    pub walk-start : (end e : ℕ) → Ahead n (bound-entries ws s) (held limits (s .bounds) k) end e 0 → Walk k end e
+    pub walk-start : (end e : ℕ) → Ahead n (ceiling-entries ws s) (held limits (s .ceilings) k) end e 0 → Walk k end e
     walk-start end e a = record { least = 0; ahead = a; so-far = leaks-states k }
 
     module _ (end e : ℕ) (w : Walk k end e) (few : s .states ≤ n) where
       -- no state is left
-      pub walk-end : s .states ≤ left (bound-entries ws s) e → leaks k ≡ false
+      pub walk-end : s .states ≤ left (ceiling-entries ws s) e → leaks k ≡ false
       walk-end h =
           w .so-far ∙ none-any (w .least) (s .states) (by-state k)
-          (λ y l b. blank-state y b (elim (ℕ-discrete (left (bound-entries ws s) e) n) [
+          (λ y l b. blank-state y b (elim (ℕ-discrete (left (ceiling-entries ws s) e) n) [
             | yes z ↦ ahead-none n _ _ end e _ (w .ahead) z y l (omega arith)
             | no z ↦ ahead-counter n _ _ end e _ (w .ahead) z .gap y l (omega arith)
           ]))
 
-      module _ (i : ℕ) (is : i ≡ left (bound-entries ws s) e) (h : i < s .states) where
-        apart : left (bound-entries ws s) e ≡ n → ⊥
+      module _ (i : ℕ) (is : i ≡ left (ceiling-entries ws s) e) (h : i < s .states) where
+        apart : left (ceiling-entries ws s) e ≡ n → ⊥
         apart z = omega arith
 
-        here : Counter-here n (bound-entries ws s) (held limits (s .bounds) k) end e (w .least)
+        here : Counter-here n (ceiling-entries ws s) (held limits (s .ceilings) k) end e (w .least)
         here = ahead-counter n _ _ end e _ (w .ahead) apart
 
-        pub walk-limit : 1 ≤ held limits (s .bounds) k i
+        pub walk-limit : 1 ≤ held limits (s .ceilings) k i
         walk-limit = let a = here .is in let b = here .from-one in rw is (omega arith)
 
         pub walk-here : leaks k ≡ any i (s .states) (by-state k)
@@ -191,21 +191,21 @@ module _ (ws : List ℕ) (s : Sizes) (n : ℕ) (limits : List ℕ) where
   -- a step, by the ceilings that cover
   module _ (k : ℕ) (σ : Step) where
     abbrev cover : ℕ → Bool
-    cover = covers limits (s .bounds) n k (rule-of-step σ)
+    cover = covers limits (s .ceilings) n k (rule-of-step σ)
 
     pub unused : usable (rule-of-step σ) (counts k) ≡ false → by-step k σ ≡ false
     unfolding by-step escapes
     unused u = rw u
 
-    pub covered : usable (rule-of-step σ) (counts k) ≡ true → any 0 (s .bounds) cover ≡ true → by-step k σ ≡ false
+    pub covered : usable (rule-of-step σ) (counts k) ≡ true → any 0 (s .ceilings) cover ≡ true → by-step k σ ≡ false
     unfolding by-step escapes under-some covers
     covered u h = rw (u, h)
 
-    pub led-out : usable (rule-of-step σ) (counts k) ≡ true → any 0 (s .bounds) cover ≡ false → by-step k σ ≡ true
+    pub led-out : usable (rule-of-step σ) (counts k) ≡ true → any 0 (s .ceilings) cover ≡ false → by-step k σ ≡ true
     unfolding by-step escapes under-some covers
     led-out u h = rw (u, h)
 
-    module _ (mask : Mask) (c : Candidates limits (s .bounds) n k σ mask) (few : s .bounds ≤ 256) where
+    module _ (mask : Mask) (c : Candidates limits (s .ceilings) n k σ mask) (few : s .ceilings ≤ 256) where
       abbrev either : ℕ → Bool
       either x = has mask x && cover x
 
@@ -214,7 +214,7 @@ module _ (ws : List ℕ) (s : Sizes) (n : ℕ) (limits : List ℕ) where
           let f = first-is a 256 (has mask) h in
           any-skip a (first a 256 (has mask)) 256 either (f .from) (f .upto) (λ y l b. ap (λ x. x && cover y) (f .before y l b))
 
-      from-first : (a r : ℕ) → a ≤ 256 → r ≡ first a 256 (has mask) → any 0 (s .bounds) cover ≡ any a 256 either → Left-of k σ mask r
+      from-first : (a r : ℕ) → a ≤ 256 → r ≡ first a 256 (has mask) → any 0 (s .ceilings) cover ≡ any a 256 either → Left-of k σ mask r
       from-first a r h e so =
           let f = first-is a 256 (has mask) h in
           rw e (record { low = f .upto; in-mask = f .passes; so-far = so ∙ skip a h })
@@ -223,37 +223,37 @@ module _ (ws : List ℕ) (s : Sizes) (n : ℕ) (limits : List ℕ) where
       left-start r e =
           from-first 0 r (omega arith) e
           (both _ _
-          (λ u. let (x, w, z) = any-elim 0 (s .bounds) cover u in
-          any-intro 0 256 x either (omega arith) (let b = w .1 in omega arith) (and-intro (has mask x) (cover x) (c .all x (w .1) (covers-pass limits (s .bounds) n k σ x z)) z))
+          (λ u. let (x, w, z) = any-elim 0 (s .ceilings) cover u in
+          any-intro 0 256 x either (omega arith) (let b = w .1 in omega arith) (and-intro (has mask x) (cover x) (c .all x (w .1) (covers-pass limits (s .ceilings) n k σ x z)) z))
           (λ u. let (x, w, z) = any-elim 0 256 either u in
-          any-intro 0 (s .bounds) x cover (omega arith) (c .few x (w .1) (and-left (has mask x) (cover x) z)) (and-right (has mask x) (cover x) z)))
+          any-intro 0 (s .ceilings) x cover (omega arith) (c .few x (w .1) (and-left (has mask x) (cover x) z)) (and-right (has mask x) (cover x) z)))
 
       -- each candidate of a sure step covers
-      pub left-surely : Exact limits (s .bounds) n k σ mask → (sure σ && any 0 256 (has mask)) ≡ true → any 0 (s .bounds) cover ≡ true
+      pub left-surely : Exact limits (s .ceilings) n k σ mask → (sure σ && any 0 256 (has mask)) ≡ true → any 0 (s .ceilings) cover ≡ true
       left-surely exact h =
           let (j, w, z) = any-elim 0 256 (has mask) (and-right (sure σ) _ h) in
           let low = c .few j (w .1) z in
-          any-intro 0 (s .bounds) j cover (omega arith) low (pass-covers limits (s .bounds) n k σ j (λ y inside. exact (and-left (sure σ) _ h) j y low z inside))
+          any-intro 0 (s .ceilings) j cover (omega arith) low (pass-covers limits (s .ceilings) n k σ j (λ y inside. exact (and-left (sure σ) _ h) j y low z inside))
 
       module _ (a : ℕ) (l : Left-of k σ mask a) (b : a < 256) where
-        pub left-low : a < s .bounds
+        pub left-low : a < s .ceilings
         left-low = c .few a b (l .in-mask b)
 
         pub left-next : (r : ℕ) → r ≡ first (a + 1) 256 (has mask) → cover a ≡ false → Left-of k σ mask r
         left-next r e z = from-first (a + 1) r (omega arith) e (l .so-far ∙ any-miss a 256 either b (ap (λ x. has mask a && x) z ∙ and-none (has mask a)))
 
-        pub left-covers : cover a ≡ true → any 0 (s .bounds) cover ≡ true
-        left-covers z = any-intro 0 (s .bounds) a cover (omega arith) left-low z
+        pub left-covers : cover a ≡ true → any 0 (s .ceilings) cover ≡ true
+        left-covers z = any-intro 0 (s .ceilings) a cover (omega arith) left-low z
 
-      pub left-none : (a : ℕ) → Left-of k σ mask a → 256 ≤ a → any 0 (s .bounds) cover ≡ false
+      pub left-none : (a : ℕ) → Left-of k σ mask a → 256 ≤ a → any 0 (s .ceilings) cover ≡ false
       left-none a l h = l .so-far ∙ any-end a 256 either h
 
   -- a ceiling that does not leak
-  pub ceiling-turn : (k k₀ : ℕ) → first 0 (s .bounds) leaks ≡ first k₀ (s .bounds) leaks → k ≡ k₀ → k₀ < s .bounds → leaks k ≡ false → first 0 (s .bounds) leaks ≡ first (k + 1) (s .bounds) leaks
-  ceiling-turn k k₀ so e h z = so ∙ rw (← e) (first-miss k (s .bounds) leaks (omega arith) z)
+  pub ceiling-turn : (k k₀ : ℕ) → first 0 (s .ceilings) leaks ≡ first k₀ (s .ceilings) leaks → k ≡ k₀ → k₀ < s .ceilings → leaks k ≡ false → first 0 (s .ceilings) leaks ≡ first (k + 1) (s .ceilings) leaks
+  ceiling-turn k k₀ so e h z = so ∙ rw (← e) (first-miss k (s .ceilings) leaks (omega arith) z)
 
   -- the ceilings
-  module _ (ready : Ready ws s) (counted : n ≡ counter-count p t) (table : Limits-table (bounds ws s n) limits) where
+  module _ (ready : Ready ws s) (counted : n ≡ counter-count p t) (table : Limits-table (ceilings-of ws s n) limits) where
     pub states-few : s .states ≤ n
     unfolding counter-count tables entries columns
     states-few = omega (arith, counted)
@@ -261,16 +261,16 @@ module _ (ws : List ℕ) (s : Sizes) (n : ℕ) (limits : List ℕ) where
     shaped-all : (ρ : Rule) → List·Memᴰ ρ (rules p t) → Shaped (counter-count p t) ρ
     shaped-all = rules-shaped p t (low-keys p t (λ i l. let z = class-low ready i l in omega arith) (λ i l. letter-low ready (right (t .mail) i)))
 
-    leaks-here : (k : ℕ) → k < s .bounds → leads-out (bounds ws s n) (rules p t) (highest (bounds ws s n .limit k)) ≡ leaks k
-    unfolding leaks bounds
+    leaks-here : (k : ℕ) → k < s .ceilings → leads-out (ceilings-of ws s n) (rules p t) (highest (ceilings-of ws s n .limit k)) ≡ leaks k
+    unfolding leaks ceilings-of
     leaks-here k h =
-        leads-same (bounds ws s n) limits table k h (rules p t)
+        leads-same (ceilings-of ws s n) limits table k h (rules p t)
         (λ ρ m. rw counted (shaped-all ρ m))
 
-    first-leak : first 0 (s .bounds) (λ k. leads-out (bounds ws s n) (rules p t) (highest (bounds ws s n .limit k))) ≡ first 0 (s .bounds) leaks
+    first-leak : first 0 (s .ceilings) (λ k. leads-out (ceilings-of ws s n) (rules p t) (highest (ceilings-of ws s n .limit k))) ≡ first 0 (s .ceilings) leaks
     first-leak =
-        let a = first-is 0 (s .bounds) leaks (omega arith) in
-        first-unique 0 (s .bounds) (first 0 (s .bounds) leaks) _ (omega arith)
+        let a = first-is 0 (s .ceilings) leaks (omega arith) in
+        first-unique 0 (s .ceilings) (first 0 (s .ceilings) leaks) _ (omega arith)
         (record {
           from = a .from;
           upto = a .upto;
@@ -288,16 +288,16 @@ module _ (ws : List ℕ) (s : Sizes) (n : ℕ) (limits : List ℕ) where
         let same : listed-rule (kind tg) i tos others j ≡ rule-of-step (step-at i kd tos others j) = rw is (listed-step tg i tos others j) in
         shaped-step n (step-at i kd tos others j) small (subst (λ ρ. Shaped n ρ) same shape)
 
-    pub leak-safe : (k : ℕ) → s .bounds ≤ k → k ≤ s .bounds → first 0 (s .bounds) leaks ≡ first k (s .bounds) leaks → Safe ≡ answer (leak-check ws s (bounds ws s n) (rules p t))
-    unfolding leak-check answer unless bounds
-    leak-safe k h l so = rw (eq-eqb _ (s .bounds) (first-leak ∙ (so ∙ (first-end k (s .bounds) leaks h ∙ let z : k ≡ s .bounds = omega arith in z))))
+    pub leak-safe : (k : ℕ) → s .ceilings ≤ k → k ≤ s .ceilings → first 0 (s .ceilings) leaks ≡ first k (s .ceilings) leaks → Safe ≡ answer (leak-check ws s (ceilings-of ws s n) (rules p t))
+    unfolding leak-check answer unless ceilings-of
+    leak-safe k h l so = rw (eq-eqb _ (s .ceilings) (first-leak ∙ (so ∙ (first-end k (s .ceilings) leaks h ∙ let z : k ≡ s .ceilings = omega arith in z))))
 
-    pub leak-refused : (k at entry : ℕ) (starts : List ℕ) → Starts-table n (bound-entries ws s) (s .bounds) starts → k < s .bounds → first 0 (s .bounds) leaks ≡ first k (s .bounds) leaks → leaks k ≡ true → at ≡ bounds-at s → entry ≡ getD starts k 0 → Leak (at + 2 + entry) ≡ answer (leak-check ws s (bounds ws s n) (rules p t))
-    unfolding leak-check answer unless bounds
+    pub leak-refused : (k at entry : ℕ) (starts : List ℕ) → Starts-table n (ceiling-entries ws s) (s .ceilings) starts → k < s .ceilings → first 0 (s .ceilings) leaks ≡ first k (s .ceilings) leaks → leaks k ≡ true → at ≡ ceilings-at s → entry ≡ getD starts k 0 → Leak (at + 2 + entry) ≡ answer (leak-check ws s (ceilings-of ws s n) (rules p t))
+    unfolding leak-check answer unless ceilings-of
     leak-refused k at entry starts begins h so out e is =
-        let found = first-leak ∙ (so ∙ first-hit k (s .bounds) leaks h out) in
+        let found = first-leak ∙ (so ∙ first-hit k (s .ceilings) leaks h out) in
         let z = is ∙ begins .start k h in
-        rw (found, ne-eqb k (s .bounds) (λ y. omega arith)) (rw (e, z))
+        rw (found, ne-eqb k (s .ceilings) (λ y. omega arith)) (rw (e, z))
 
 -- what the readers ask of the words
 pub whole-of : (ws : List ℕ) (s : Sizes) → Ready ws s → Whole ws s
@@ -308,11 +308,11 @@ pub rooms-of : (s : Sizes) (tos others tos₀ others₀ : List ℕ) → Rule-roo
 rooms-of s tos others tos₀ others₀ r a b =
     record { values = let z = r .values in omega arith; letters = let z = r .letters in omega arith; counters = let z = r .counters in omega arith; alike = b ∙ (r .alike ∙ sym a) }
 
-pub state-none : (ws : List ℕ) (s : Sizes) (n : ℕ) (limits : List ℕ) (k i : ℕ) → leads-out (table-bounds (s .bounds) n limits) (state-rules (program ws s) (tables ws s) i (state-at (tables ws s) i)) (highest (held limits (s .bounds) k)) ≡ false → by-state ws s n limits k i ≡ false
+pub state-none : (ws : List ℕ) (s : Sizes) (n : ℕ) (limits : List ℕ) (k i : ℕ) → leads-out (table-ceilings (s .ceilings) n limits) (state-rules (program ws s) (tables ws s) i (state-at (tables ws s) i)) (highest (held limits (s .ceilings) k)) ≡ false → by-state ws s n limits k i ≡ false
 unfolding by-state
 state-none ws s n limits k i h = h
 
-pub leak-refused-at : (ws : List ℕ) (s : Sizes) (n : ℕ) (limits : List ℕ) → Ready ws s → n ≡ counter-count (program ws s) (tables ws s) → Limits-table (bounds ws s n) limits → (k k₀ at entry : ℕ) (starts : List ℕ) → Starts-table n (bound-entries ws s) (s .bounds) starts → k ≡ k₀ → k₀ < s .bounds → first 0 (s .bounds) (leaks ws s n limits) ≡ first k₀ (s .bounds) (leaks ws s n limits) → leaks ws s n limits k ≡ true → at ≡ bounds-at s → entry ≡ getD starts k₀ 0 → Leak (at + 2 + entry) ≡ answer (leak-check ws s (bounds ws s n) (rules (program ws s) (tables ws s)))
+pub leak-refused-at : (ws : List ℕ) (s : Sizes) (n : ℕ) (limits : List ℕ) → Ready ws s → n ≡ counter-count (program ws s) (tables ws s) → Limits-table (ceilings-of ws s n) limits → (k k₀ at entry : ℕ) (starts : List ℕ) → Starts-table n (ceiling-entries ws s) (s .ceilings) starts → k ≡ k₀ → k₀ < s .ceilings → first 0 (s .ceilings) (leaks ws s n limits) ≡ first k₀ (s .ceilings) (leaks ws s n limits) → leaks ws s n limits k ≡ true → at ≡ ceilings-at s → entry ≡ getD starts k₀ 0 → Leak (at + 2 + entry) ≡ answer (leak-check ws s (ceilings-of ws s n) (rules (program ws s) (tables ws s)))
 leak-refused-at ws s n limits ready counted table k k₀ at entry starts begins e h so out z is =
     leak-refused ws s n limits ready counted table k₀ at entry starts begins h so (rw (← e) out) z is
 
@@ -324,10 +324,10 @@ listed-elim h i tos others m ρ r =
     (j, w .1, List·Memᴰ·eq-of-singleton e)
 
 module _ (ws : List ℕ) (s : Sizes) (n : ℕ) (limits : List ℕ) where
-  pub groups-start : (group : List ℕ) → Groups-upto (program ws s) (tables ws s) limits (s .bounds) n 0 group
+  pub groups-start : (group : List ℕ) → Groups-upto (program ws s) (tables ws s) limits (s .ceilings) n 0 group
   groups-start group = record { leaves = λ i ρ h. absurd (omega arith); opens = λ i k ρ h. absurd (omega arith) }
 
-  pub groups-next : (i m kd : ℕ) (tos others group group′ : List ℕ) (r : Mask) → State-rules (program ws s) (tables ws s) i tos others m → kd ≡ effect-kind (tag (program ws s) (right (tables ws s .states) i)) → kd ≤ 3 → ((k j : ℕ) → k < 256 → j < m → has r k ≡ true → Unbounded-at limits (s .bounds) n k (getD tos j 0)) → (2 ≤ kd → (k j : ℕ) → k < 256 → j < m → has r k ≡ true → Unbounded-at limits (s .bounds) n k (getD others j 0)) → Set-is 4 i (has r) group group′ → Groups-upto (program ws s) (tables ws s) limits (s .bounds) n i group → Groups-upto (program ws s) (tables ws s) limits (s .bounds) n (i + 1) group′
+  pub groups-next : (i m kd : ℕ) (tos others group group′ : List ℕ) (r : Mask) → State-rules (program ws s) (tables ws s) i tos others m → kd ≡ effect-kind (tag (program ws s) (right (tables ws s .states) i)) → kd ≤ 3 → ((k j : ℕ) → k < 256 → j < m → has r k ≡ true → Unbounded-at limits (s .ceilings) n k (getD tos j 0)) → (2 ≤ kd → (k j : ℕ) → k < 256 → j < m → has r k ≡ true → Unbounded-at limits (s .ceilings) n k (getD others j 0)) → Set-is 4 i (has r) group group′ → Groups-upto (program ws s) (tables ws s) limits (s .ceilings) n i group → Groups-upto (program ws s) (tables ws s) limits (s .ceilings) n (i + 1) group′
   unfolding listed-rule
   groups-next i m kd tos others group group′ r rs is small led added set g =
       let tg : ℕ = tag (program ws s) (right (tables ws s .states) i) in
@@ -343,10 +343,10 @@ module _ (ws : List ℕ) (s : Sizes) (n : ℕ) (limits : List ℕ) where
               let (j, b, e) = found ρ (rw (← z) w) in
               let same : ρ ≡ rule-of-step (step i (getD tos j 0) kd (getD others j 0)) = e ∙ rw is (listed-step tg i tos others j) in
               let in-set : has r k ≡ true = sym (set .here k l) ∙ rw (← z) t in
-              rw same (step-open limits (s .bounds) n k (step i (getD tos j 0) kd (getD others j 0)) small (led k j l b in-set) (λ two. added two k j l b in-set))
+              rw same (step-open limits (s .ceilings) n k (step i (getD tos j 0) kd (getD others j 0)) small (led k j l b in-set) (λ two. added two k j l b in-set))
           | no z ↦ g .opens x k ρ (omega arith) l (sym (set .others x k l z) ∙ t) w
         ];
       }
 
-  pub groups-all : (i : ℕ) (group : List ℕ) → s .states ≤ i → Groups-upto (program ws s) (tables ws s) limits (s .bounds) n i group → Groups-upto (program ws s) (tables ws s) limits (s .bounds) n (s .states) group
+  pub groups-all : (i : ℕ) (group : List ℕ) → s .states ≤ i → Groups-upto (program ws s) (tables ws s) limits (s .ceilings) n i group → Groups-upto (program ws s) (tables ws s) limits (s .ceilings) n (s .states) group
   groups-all i group h g = record { leaves = λ x ρ l. g .leaves x ρ (omega arith); opens = λ x k ρ l. g .opens x k ρ (omega arith) }

@@ -7,8 +7,8 @@ use Rattle.model.specs.declared.Sizes.{Sizes}
 use Rattle.model.specs.Rows.{program}
 use Rattle.model.specs.Tables.{tables}
 use Rattle.model.specs.Counters.{counter-count}
-use Rattle.model.specs.Bounds.{bounds, bound-entries}
-use Rattle.bounds.specs.Limits.{In-form, Starts-table}
+use Rattle.model.specs.Ceilings.{ceilings-of, ceiling-entries}
+use Rattle.ceilings_form.specs.Limits.{In-form, Starts-table}
 use Rattle.rules.specs.Derived.{Rule-room}
 use Rattle.ceilings.specs.Table.{Limits-table}
 use Rattle.ceilings_masks.specs.Compared.{Holders}
@@ -17,9 +17,9 @@ use Rattle.ceilings_masks.specs.Compared.{Holders}
 pub record Ceilings-ready (ws : List ℕ) (s : Sizes) (n : ℕ) (limits starts holders unbounded : List ℕ) : Type 0 where
   pub counted : n ≡ counter-count (program ws s) (tables ws s)
   pub in-form : In-form ws s n
-  pub limits-table : Limits-table (bounds ws s n) limits
-  pub starts-table : Starts-table n (bound-entries ws s) (s .bounds) starts
-  pub held-by : Holders limits (s .bounds) n holders unbounded
+  pub limits-table : Limits-table (ceilings-of ws s n) limits
+  pub starts-table : Starts-table n (ceiling-entries ws s) (s .ceilings) starts
+  pub held-by : Holders limits (s .ceilings) n holders unbounded
 
 -- the scratch of the leak test: the rules of a state, and two sets for each counter
 pub record Rooms (s : Sizes) (n : ℕ) (tos others short more : List ℕ) : Type 0 where

@@ -1,6 +1,4 @@
 // Refusal 13: from counts under a ceiling, a rule leads out of all ceilings.
-use bounds::entries::bounds_at;
-use bounds::entries::counter_at;
 use ceilings_covers::NAMED;
 use ceilings_covers::candidates;
 use ceilings_covers::is_usable;
@@ -8,6 +6,8 @@ use ceilings_covers::left_after;
 use ceilings_covers::named;
 use ceilings_covers::passes;
 use ceilings_covers::surely_covered;
+use ceilings_form::entries::ceilings_at;
+use ceilings_form::entries::counter_at;
 use ceilings_groups::open_to_all;
 use ceilings_groups::settled;
 use ceilings_masks::compare;
@@ -34,7 +34,7 @@ ghost use Rattle.model.specs.Words.{right};
 ghost use Rattle.model.specs.Rows.{program, tag};
 ghost use Rattle.model.specs.Tables.{tables};
 ghost use Rattle.model.specs.Rules.{rules};
-ghost use Rattle.model.specs.Bounds.{bounds, leak-check};
+ghost use Rattle.model.specs.Ceilings.{ceilings-of, leak-check};
 ghost use Rattle.model.specs.Verify.{answer};
 ghost use Rattle.lists.specs.Ready.{Ready};
 ghost use Rattle.rules.specs.Derived.{Rule-tables, Entered, Rule-room};
@@ -93,7 +93,7 @@ pub fn fill_groups(
     requires { ⌜ s .states * 4 ≤ length (now group) ⌝ }
     ensures { λ g. ⌜ Entered (program (now (ws .entry)) s) (tables (now (ws .entry)) s) (g .class) (now (at .exit)) ⌝ }
     ensures { λ _. ⌜ Groups-upto (program (now (ws .entry)) s) (tables (now (ws .entry)) s) (now (limits .entry))
-        (s .bounds) n (s .states) (now (group .exit)) ⌝ }
+        (s .ceilings) n (s .states) (now (group .exit)) ⌝ }
     ensures { λ g. ⌜ Totalled (program (now (ws .entry)) s) (tables (now (ws .entry)) s) (g .totals) ⌝ }
 {
     let mut class = k;
@@ -128,7 +128,7 @@ pub fn fill_groups(
             i,
             open_to_all(
                 limits,
-                s.bounds,
+                s.ceilings,
                 n,
                 holders,
                 unbounded,
@@ -175,16 +175,16 @@ pub fn leak_check(
         (now «letter_at») (now letters) (now branches) ⌝ }
     requires { ⌜ Ceilings-ready (now ws) s n (now limits) (now starts) (now holders) (now unbounded) ⌝ }
     requires { ⌜ Entered (program (now ws) s) (tables (now ws) s) «first_class» (now at) ⌝ }
-    requires { ⌜ Groups-upto (program (now ws) s) (tables (now ws) s) (now limits) (s .bounds) n (s .states)
+    requires { ⌜ Groups-upto (program (now ws) s) (tables (now ws) s) (now limits) (s .ceilings) n (s .states)
         (now group) ⌝ }
     requires { ⌜ s .states * 4 ≤ length (now group) ⌝ }
     requires { ⌜ Rooms s n (now tos) (now others) (now short) (now more) ⌝ }
     ensures { λ r. ⌜ r ≡
-        answer (leak-check (now (ws .entry)) s (bounds (now (ws .entry)) s n)
+        answer (leak-check (now (ws .entry)) s (ceilings-of (now (ws .entry)) s n)
         (rules (program (now (ws .entry)) s) (tables (now (ws .entry)) s))) ⌝ }
 {
     let mut class = first_class;
-    'ceilings: for k in 0..s.bounds {
+    'ceilings: for k in 0..s.ceilings {
         let first = starts[k] as usize;
         let over = compare(ws, s, n, limits, holders, unbounded, k, first, short, more);
         let mut e = first;
@@ -196,7 +196,7 @@ pub fn leak_check(
             e += 1;
             let left = left_after(
                 limits,
-                s.bounds,
+                s.ceilings,
                 n,
                 holders,
                 unbounded,
@@ -238,12 +238,12 @@ pub fn leak_check(
                     kind: kind,
                     other: other,
                 };
-                if !is_usable(limits, s.bounds, n, k, step) {
+                if !is_usable(limits, s.ceilings, n, k, step) {
                     continue 'rules;
                 }
                 let mask = candidates(
                     limits,
-                    s.bounds,
+                    s.ceilings,
                     n,
                     holders,
                     unbounded,
@@ -265,7 +265,7 @@ pub fn leak_check(
                         let y = named(step, b);
                         if y < n {
                             // the first limit exceeded
-                            if !passes(limits, s.bounds, k, k2, step, y) {
+                            if !passes(limits, s.ceilings, k, k2, step, y) {
                                 a = next_in(mask, k2 + 1);
                                 continue 'candidates;
                             }
@@ -275,7 +275,7 @@ pub fn leak_check(
                     continue 'rules;
                 }
                 // the first ceiling that leaks
-                let place = bounds_at(s) + 2 + first;
+                let place = ceilings_at(s) + 2 + first;
                 return Verdict::Leak(place);
             }
         }

@@ -10,7 +10,7 @@ use lib.Dec.{eqb, leb, ltb}
 use lib.ListN.{getD, length}
 use borrow.Author.Tests.{eq-eqb, ne-eqb, le-leb, lt-leb, lt-ltb, le-ltb, leb-true, leb-false}
 use Rattle.model.specs.Limits.{omega-limit}
-use Rattle.model.specs.Bounds.{allowed}
+use Rattle.model.specs.Ceilings.{allowed}
 use Rattle.model.proofs.Logic.{test}
 use Rattle.bits.specs.Bits.{bit, member, Set-is}
 use Rattle.bits.proofs.Bits.{bit-or, bit-one, bit-zero}

@@ -11,13 +11,13 @@ use borrow.Author.Tests.{eq-eqb, ne-eqb, le-leb, lt-leb, lt-ltb}
 use Rattle.model.specs.Limits.{omega-limit}
 use Rattle.model.specs.Index.{count}
 use Rattle.model.specs.Words.{Columns, left}
-use Rattle.model.specs.Bounds.{allowed, highest}
+use Rattle.model.specs.Ceilings.{allowed, highest}
 use Rattle.model.proofs.Logic.{test, not-fails}
 use Rattle.model.proofs.Index.{count-end, count-last, count-last-miss}
 use Rattle.bits.specs.Bits.{member, Set-is}
 use Rattle.masks.specs.declared.Mask.{Mask}
 use Rattle.masks.specs.Masks.{has}
-use Rattle.bounds.proofs.Limited.{highest-limit}
+use Rattle.ceilings_form.proofs.Limited.{highest-limit}
 use Rattle.ceilings.specs.Table.{held}
 use Rattle.ceilings.proofs.Ahead.{Ahead, Counter-here, ahead-counter, ahead-none, ahead-inside}
 use Rattle.ceilings_masks.specs.declared.Over.{Over}

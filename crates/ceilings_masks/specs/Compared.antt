@@ -7,7 +7,7 @@ use lib.ListN.{length}
 use lib.Dec.{leb, ltb}
 use Rattle.model.specs.Limits.{omega-limit}
 use Rattle.model.specs.Index.{count}
-use Rattle.model.specs.Bounds.{allowed, highest}
+use Rattle.model.specs.Ceilings.{allowed, highest}
 use Rattle.bits.specs.Bits.{member}
 use Rattle.masks.specs.declared.Mask.{Mask}
 use Rattle.masks.specs.Masks.{has}

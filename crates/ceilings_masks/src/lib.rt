@@ -1,7 +1,7 @@
 // Sets of ceilings, for each counter and for one ceiling beside the others.
-use bounds::entries::counter_at;
 use ceilings::highest;
 use ceilings::limit;
+use ceilings_form::entries::counter_at;
 use masks::Mask;
 use masks::and;
 use masks::below;
@@ -20,14 +20,15 @@ ghost use mathlib.Core.Bool.{_&&_, _||_};
 ghost use Prim.Native.Nat.{ℕ, _+_, _*_, _≤_, _<_};
 ghost use lib.Dec.{ltb};
 ghost use lib.ListN.{length};
-ghost use Rattle.model.specs.Limits.{maxBounds, maxCounters, omega-limit};
-ghost use Rattle.model.specs.Bounds.{bound-entries, bound-entry, bounds};
+ghost use Rattle.model.specs.Limits.{maxCeilings, maxCounters, omega-limit};
+ghost use Rattle.model.specs.Ceilings.{ceiling-entries, ceiling-entry, ceilings-of};
 ghost use Rattle.bits.specs.Bits.{bit, Row, Set-is};
 ghost use Rattle.masks.specs.Masks.{has};
-ghost use Rattle.bounds.specs.Limits.{In-form};
-ghost use Rattle.bounds.specs.Parts.{Whole};
+ghost use Rattle.ceilings_form.specs.Limits.{In-form};
+ghost use Rattle.ceilings_form.specs.Parts.{Whole};
 ghost use Rattle.ceilings.specs.Table.{Limits-table};
-ghost use Rattle.ceilings_masks.specs.Compared.{reaches, allows, Holders, exceeds, exceeds-by-one, takes-more, Counted, Neighbours};
+ghost use Rattle.ceilings_masks.specs.Compared.{reaches, allows, Holders, exceeds, exceeds-by-one, takes-more};
+ghost use Rattle.ceilings_masks.specs.Compared.{Counted, Neighbours};
 
 // The ceilings that one ceiling exceeds at a counter, at two of them and at three.
 pub struct Over {
@@ -56,7 +57,7 @@ fn in_word(ceilings: usize, i: usize) -> usize
 
 // Word i of the ceilings whose limit at counter x is `least` or more.
 fn word_from(limits: &[u16], ceilings: usize, x: usize, least: usize, i: usize) -> u64
-    requires { ⌜ (i < 4) × (ceilings ≤ maxBounds) ⌝ }
+    requires { ⌜ (i < 4) × (ceilings ≤ maxCeilings) ⌝ }
     requires { ⌜ Row (now limits) ceilings x ⌝ }
     ensures { λ r. ⌜ ((j : ℕ) → j < 64 → bit r j ≡ reaches (now (limits .entry)) ceilings x least (64 * i + j)) ⌝ }
 {
@@ -73,7 +74,7 @@ fn word_from(limits: &[u16], ceilings: usize, x: usize, least: usize, i: usize) 
 
 // The ceilings whose limit at counter x is `least` or more.
 fn limits_from(limits: &[u16], ceilings: usize, x: usize, least: usize) -> Mask
-    requires { ⌜ ceilings ≤ maxBounds ⌝ }
+    requires { ⌜ ceilings ≤ maxCeilings ⌝ }
     requires { ⌜ Row (now limits) ceilings x ⌝ }
     ensures { λ r. ⌜ ((k : ℕ) → k < 256 → has r k ≡ reaches (now (limits .entry)) ceilings x least k) ⌝ }
 {
@@ -97,7 +98,7 @@ pub fn fill_holders(
     holders: &mut [u64],
     unbounded: &mut [u64],
 )
-    requires { ⌜ (ceilings ≤ maxBounds) × (n ≤ maxCounters) ⌝ }
+    requires { ⌜ (ceilings ≤ maxCeilings) × (n ≤ maxCounters) ⌝ }
     requires { ⌜ n * ceilings ≤ length (now limits) ⌝ }
     requires { ⌜ (n * 4 ≤ length (now holders)) × (n * 4 ≤ length (now unbounded)) ⌝ }
     ensures { λ _. ⌜ Holders (now (limits .entry)) ceilings n (now (holders .exit)) (now (unbounded .exit)) ⌝ }
@@ -118,7 +119,7 @@ pub fn allowing(
     x: usize,
     count: usize,
 ) -> Mask
-    requires { ⌜ (ceilings ≤ maxBounds) × (x < n) ⌝ }
+    requires { ⌜ (ceilings ≤ maxCeilings) × (x < n) ⌝ }
     requires { ⌜ n * ceilings ≤ length (now limits) ⌝ }
     requires { ⌜ Holders (now limits) ceilings n (now holders) (now unbounded) ⌝ }
     ensures { λ r. ⌜ ((k : ℕ) → k < 256 → has r k ≡ allows (now (limits .entry)) ceilings x count k) ⌝ }
@@ -160,7 +161,7 @@ fn put_counter(
     short: &mut [u64],
     more: &mut [u64],
 ) -> Mask
-    requires { ⌜ (ceilings ≤ maxBounds) × (x < n) ⌝ }
+    requires { ⌜ (ceilings ≤ maxCeilings) × (x < n) ⌝ }
     requires { ⌜ k < ceilings ⌝ }
     requires { ⌜ n * ceilings ≤ length (now limits) ⌝ }
     requires { ⌜ Holders (now limits) ceilings n (now holders) (now unbounded) ⌝ }
@@ -205,12 +206,12 @@ pub fn compare(
 ) -> Over
     requires { ⌜ Whole (now ws) s ⌝ }
     requires { ⌜ In-form (now ws) s n ⌝ }
-    requires { ⌜ Limits-table (bounds (now ws) s n) (now limits) ⌝ }
-    requires { ⌜ Holders (now limits) (s .bounds) n (now holders) (now unbounded) ⌝ }
-    requires { ⌜ (k < s .bounds) × (e ≡ bound-entry n (bound-entries (now ws) s) k) ⌝ }
+    requires { ⌜ Limits-table (ceilings-of (now ws) s n) (now limits) ⌝ }
+    requires { ⌜ Holders (now limits) (s .ceilings) n (now holders) (now unbounded) ⌝ }
+    requires { ⌜ (k < s .ceilings) × (e ≡ ceiling-entry n (ceiling-entries (now ws) s) k) ⌝ }
     requires { ⌜ (n * 4 ≤ length (now short)) × (n * 4 ≤ length (now more)) ⌝ }
-    ensures { λ r. ⌜ Counted (now (limits .entry)) (s .bounds) n k r ⌝ }
-    ensures { λ _. ⌜ Neighbours (now (limits .entry)) (s .bounds) n k (now (short .exit)) (now (more .exit)) ⌝ }
+    ensures { λ r. ⌜ Counted (now (limits .entry)) (s .ceilings) n k r ⌝ }
+    ensures { λ _. ⌜ Neighbours (now (limits .entry)) (s .ceilings) n k (now (short .exit)) (now (more .exit)) ⌝ }
 {
     let mut over = Over {
         once: none(),
@@ -223,7 +224,7 @@ pub fn compare(
         if x == n {
             return over;
         }
-        let m = put_counter(limits, s.bounds, n, holders, unbounded, k, x, short, more);
+        let m = put_counter(limits, s.ceilings, n, holders, unbounded, k, x, short, more);
         over = over_more(over, m);
         i += 1;
     }

@@ -88,13 +88,13 @@ module _ (p : Program) (rows : Columns) where
       sym (past-row (i + 1) q (sym (read-none (bad-step p) rows (a .rest) (i + 1)) ∙ (rw (no-further _ _ (a .more) z (a .said)) at (a .goes-on))))
 
 -- past the rows there is no item
-pub bad-inside : (ws : List ℕ) (s : Sizes) (r : ℕ) → left (bad-rows ws s) r ≡ 40 → r < s .conditions
+pub bad-inside : (ws : List ℕ) (s : Sizes) (r : ℕ) → left (bad-rows ws s) r ≡ 40 → r < s .badrows
 unfolding bad-rows left columns
-bad-inside ws s r h = elim (decLt r (s .conditions)) [
+bad-inside ws s r h = elim (decLt r (s .badrows)) [
   | yes below ↦ below
   | no beyond ↦
-      let l = length-take (s .conditions) (drop (bads-at s + 2) ws) in
-      let z = List·getD-eq-default (take (s .conditions) (drop (bads-at s + 2) ws)) 0 {n = r} (omega arith) in
+      let l = length-take (s .badrows) (drop (bads-at s + 2) ws) in
+      let z = List·getD-eq-default (take (s .badrows) (drop (bads-at s + 2) ws)) 0 {n = r} (omega arith) in
       absurd (omega arith)
 ]
 

@@ -20,16 +20,16 @@ use Rattle.model.specs.Tables.{tables}
 use Rattle.model.specs.Bads.{bad, bad-step, bad-rows, bad-row, counted, met}
 use Rattle.model.specs.Counters.{counter-of}
 use Rattle.model.specs.Markings.{standing, count-in}
-use Rattle.model.specs.Bounds.{bounds, highest, bad-allowed, met-check}
+use Rattle.model.specs.Ceilings.{ceilings-of, highest, bad-allowed, met-check}
 use Rattle.model.specs.Verify.{answer}
 use Rattle.model.proofs.Reader.{by-option}
 use Rattle.bits.specs.Bits.{Row}
 use Rattle.ceilings.specs.Table.{held, Limits-table}
 use Rattle.ceilings.proofs.Cells.{row-in}
 use Rattle.ceilings_met.specs.Items.{Ready, most, Bads-in-form, Bad-stands, bad-end}
-use Rattle.bounds.proofs.Limited.{highest-same}
+use Rattle.ceilings_form.proofs.Limited.{highest-same}
 use Rattle.ceilings_met.proofs.BadRows.{bad-inside, met-item, met-over}
-use Rattle.bounds.proofs.Repeated.{Walked, walked-start, walked-row, walked-inside, walked-stands, walked-next}
+use Rattle.ceilings_form.proofs.Repeated.{Walked, walked-start, walked-row, walked-inside, walked-stands, walked-next}
 
 -- the answer of a search for the first
 first-refused : (k j e : ℕ) (v : ℕ → Verdict) → k ≡ j → j < e → v j ≡ answer (unless (eqb k e) (v k))
@@ -54,14 +54,14 @@ module _ (ws : List ℕ) (s : Sizes) (n : ℕ) where
 
   module _ (k : ℕ) where
     -- an item with a counter, and one without
-    module _ (limits items : List ℕ) (ready : Ready ws s n limits items) (below : k < s .bounds) (r x : ℕ) (is-item : left rows r ≡ 40) (value : x ≡ getD items r 0) where
-      pub count-known : (h : ℕ) → x < n → h ≡ highest (held limits (s .bounds) k) x → h ≡ most ws s n k (counted rows r)
-      unfolding count-in standing bounds
+    module _ (limits items : List ℕ) (ready : Ready ws s n limits items) (below : k < s .ceilings) (r x : ℕ) (is-item : left rows r ≡ 40) (value : x ≡ getD items r 0) where
+      pub count-known : (h : ℕ) → x < n → h ≡ highest (held limits (s .ceilings) k) x → h ≡ most ws s n k (counted rows r)
+      unfolding count-in standing ceilings-of
       count-known h l e =
           by-option (counter-of (program ws s) (tables ws s) (counted rows r))
           (λ z. let w = ready .items-table .no-counter r is-item z in absurd (omega arith))
           (λ y z. let w = ready .items-table .counter r y is-item z in let same : x ≡ y = omega arith in
-          rw z (e ∙ (rw same (highest-same (held limits (s .bounds) k) (bounds ws s n .limit k) y (ready .limits-table .limit k y below (w .1))))))
+          rw z (e ∙ (rw same (highest-same (held limits (s .ceilings) k) (ceilings-of ws s n .limit k) y (ready .limits-table .limit k y below (w .1))))))
 
       pub count-none : n ≤ x → 0 ≡ most ws s n k (counted rows r)
       unfolding count-in standing
@@ -88,8 +88,8 @@ module _ (ws : List ℕ) (s : Sizes) (n : ℕ) where
   abbrev pub allows : ℕ → ℕ → Bool
   allows r k = met (most ws s n k) rows r
 
-  pub allows-some : (r : ℕ) (b : Bool) → any 0 (s .bounds) (allows r) ≡ b → b ≡ bad-allowed (program ws s) (tables ws s) (bounds ws s n) rows r
-  unfolding bad-allowed bounds
+  pub allows-some : (r : ℕ) (b : Bool) → any 0 (s .ceilings) (allows r) ≡ b → b ≡ bad-allowed (program ws s) (tables ws s) (ceilings-of ws s n) rows r
+  unfolding bad-allowed ceilings-of
   allows-some r b h = sym h
 
   -- the bads one after the other: the first j end before row r
@@ -107,31 +107,31 @@ module _ (ws : List ℕ) (s : Sizes) (n : ℕ) where
   unfolding bad-end
   bads-next j r q w h e = rw e (walked-next (bad-step (program ws s)) rows bad (s .bads) j r w h)
 
-  pub bads-inside : (j r : ℕ) → Bads-walked j r → r ≤ s .conditions
+  pub bads-inside : (j r : ℕ) → Bads-walked j r → r ≤ s .badrows
   unfolding bad-rows columns
   bads-inside j r w = walked-inside (bad-step (program ws s)) rows bad (s .bads) j r w
 
   -- bad j is allowed
   pub bad-here : ℕ → Bool
-  bad-here j = bad-allowed (program ws s) (tables ws s) (bounds ws s n) rows (bad-row (program ws s) rows j)
+  bad-here j = bad-allowed (program ws s) (tables ws s) (ceilings-of ws s n) rows (bad-row (program ws s) rows j)
 
-  pub bad-at : (j r : ℕ) (b : Bool) → Bads-walked j r → b ≡ bad-allowed (program ws s) (tables ws s) (bounds ws s n) rows r → bad-here j ≡ b
+  pub bad-at : (j r : ℕ) (b : Bool) → Bads-walked j r → b ≡ bad-allowed (program ws s) (tables ws s) (ceilings-of ws s n) rows r → bad-here j ≡ b
   unfolding bad-here bad-row
   bad-at j r b w e = rw (walked-row (bad-step (program ws s)) rows bad (s .bads) j r w) (sym e)
 
   -- the answer
   module _ (j : ℕ) where
-    pub met-refused : (r at : ℕ) → Bads-walked j r → j < s .bads → first 0 (s .bads) bad-here ≡ j → at ≡ bads-at s + 2 → Met (at + r) ≡ answer (met-check s (program ws s) (tables ws s) (bounds ws s n) rows)
+    pub met-refused : (r at : ℕ) → Bads-walked j r → j < s .bads → first 0 (s .bads) bad-here ≡ j → at ≡ bads-at s + 2 → Met (at + r) ≡ answer (met-check s (program ws s) (tables ws s) (ceilings-of ws s n) rows)
     unfolding met-check bad-here bad-row
     met-refused r at w h f e =
         rw (e, ← walked-row (bad-step (program ws s)) rows bad (s .bads) j r w)
         (first-refused (first 0 (s .bads) bad-here) j (s .bads) (λ i. Met (bads-at s + 2 + bad-row (program ws s) rows i)) f h)
 
-    pub met-safe : j ≡ s .bads → first 0 (s .bads) bad-here ≡ j → Safe ≡ answer (met-check s (program ws s) (tables ws s) (bounds ws s n) rows)
+    pub met-safe : j ≡ s .bads → first 0 (s .bads) bad-here ≡ j → Safe ≡ answer (met-check s (program ws s) (tables ws s) (ceilings-of ws s n) rows)
     unfolding met-check bad-here
     met-safe e f = first-passed (first 0 (s .bads) bad-here) (s .bads) (λ i. Met (bads-at s + 2 + bad-row (program ws s) rows i)) (f ∙ e)
 
 -- the limits of a counter stand in the table
-pub row-of : (ws : List ℕ) (s : Sizes) (n : ℕ) (limits : List ℕ) → Limits-table (bounds ws s n) limits → (x : ℕ) → x < n → Row limits (s .bounds) x
-unfolding bounds
-row-of ws s n limits table x h = row-in limits n (s .bounds) x h (table .room)
+pub row-of : (ws : List ℕ) (s : Sizes) (n : ℕ) (limits : List ℕ) → Limits-table (ceilings-of ws s n) limits → (x : ℕ) → x < n → Row limits (s .ceilings) x
+unfolding ceilings-of
+row-of ws s n limits table x h = row-in limits n (s .ceilings) x h (table .room)

@@ -11,19 +11,19 @@ use Rattle.model.specs.declared.Sizes.{Sizes}
 use Rattle.model.specs.declared.Verdict.the-variants.{Safe, Start}
 use Rattle.model.specs.Index.{any}
 use Rattle.model.specs.Verdict.{unless}
-use Rattle.model.specs.Message.{bounds-at}
+use Rattle.model.specs.Message.{ceilings-at}
 use Rattle.model.specs.Rows.{Program, program, size}
 use Rattle.model.specs.Heads.{start}
 use Rattle.model.specs.Tables.{Tables, tables, state, state-index}
 use Rattle.model.specs.Markings.{initial}
-use Rattle.model.specs.Bounds.{Bound, bounds, under, under-some, start-check}
+use Rattle.model.specs.Ceilings.{Ceiling-limits, ceilings-of, under, under-some, start-check}
 use Rattle.model.specs.Verify.{answer}
 use Rattle.model.proofs.Logic.{test}
 use Rattle.model.proofs.Index.{any-hit, any-miss}
 use Rattle.model.proofs.Bounded.Under.{under-iff}
 use Rattle.ceilings.specs.Table.{held, Limits-table}
 
-module _ (p : Program) (t : Tables) (n x₀ : ℕ) (at-start : x₀ ≡ state-index t (state (size p) (start p))) (b : Bound) where
+module _ (p : Program) (t : Tables) (n x₀ : ℕ) (at-start : x₀ ≡ state-index t (state (size p) (start p))) (b : Ceiling-limits) where
   initial-one : (x : ℕ) → x ≡ x₀ → initial p t x ≡ 1
   unfolding initial
   initial-one x e = rw (eq-eqb x _ (e ∙ at-start), initial)
@@ -49,33 +49,33 @@ module _ (p : Program) (t : Tables) (n x₀ : ℕ) (at-start : x₀ ≡ state-in
 module _ (ws : List ℕ) (s : Sizes) (n : ℕ) where
   -- ceiling k covers the start
   pub covers-start : ℕ → Bool
-  covers-start k = under n (bounds ws s n .limit k) (initial (program ws s) (tables ws s))
+  covers-start k = under n (ceilings-of ws s n .limit k) (initial (program ws s) (tables ws s))
 
-  answer-safe : (b : Bool) → b ≡ true → Safe ≡ answer (unless b (Start (bounds-at s)))
+  answer-safe : (b : Bool) → b ≡ true → Safe ≡ answer (unless b (Start (ceilings-at s)))
   unfolding unless answer
   answer-safe b h = rw h
 
-  answer-start : (b : Bool) → b ≡ false → Start (bounds-at s) ≡ answer (unless b (Start (bounds-at s)))
+  answer-start : (b : Bool) → b ≡ false → Start (ceilings-at s) ≡ answer (unless b (Start (ceilings-at s)))
   unfolding unless answer
   answer-start b h = rw h
 
-  pub start-safe : any 0 (s .bounds) covers-start ≡ true → Safe ≡ answer (start-check s (program ws s) (tables ws s) (bounds ws s n))
-  unfolding start-check under-some covers-start bounds
+  pub start-safe : any 0 (s .ceilings) covers-start ≡ true → Safe ≡ answer (start-check s (program ws s) (tables ws s) (ceilings-of ws s n))
+  unfolding start-check under-some covers-start ceilings-of
   start-safe h = answer-safe _ h
 
-  pub start-refused : any 0 (s .bounds) covers-start ≡ false → Start (bounds-at s) ≡ answer (start-check s (program ws s) (tables ws s) (bounds ws s n))
-  unfolding start-check under-some covers-start bounds
+  pub start-refused : any 0 (s .ceilings) covers-start ≡ false → Start (ceilings-at s) ≡ answer (start-check s (program ws s) (tables ws s) (ceilings-of ws s n))
+  unfolding start-check under-some covers-start ceilings-of
   start-refused h = answer-start _ h
 
-  module _ (limits : List ℕ) (table : Limits-table (bounds ws s n) limits) (x₀ : ℕ) (at-start : x₀ ≡ state-index (tables ws s) (state (size (program ws s)) (start (program ws s)))) (inside : x₀ < n) (k l : ℕ) (below : k < s .bounds) (value : l ≡ held limits (s .bounds) k x₀) where
-    same : l ≡ bounds ws s n .limit k x₀
-    unfolding bounds
+  module _ (limits : List ℕ) (table : Limits-table (ceilings-of ws s n) limits) (x₀ : ℕ) (at-start : x₀ ≡ state-index (tables ws s) (state (size (program ws s)) (start (program ws s)))) (inside : x₀ < n) (k l : ℕ) (below : k < s .ceilings) (value : l ≡ held limits (s .ceilings) k x₀) where
+    same : l ≡ ceilings-of ws s n .limit k x₀
+    unfolding ceilings-of
     same = value ∙ table .limit k x₀ below inside
 
-    pub start-hit : 1 ≤ l → any k (s .bounds) covers-start ≡ true
+    pub start-hit : 1 ≤ l → any k (s .ceilings) covers-start ≡ true
     unfolding covers-start
-    start-hit h = any-hit k (s .bounds) _ below (start-under (program ws s) (tables ws s) n x₀ at-start (bounds ws s n .limit k) (let e = same in omega arith))
+    start-hit h = any-hit k (s .ceilings) _ below (start-under (program ws s) (tables ws s) n x₀ at-start (ceilings-of ws s n .limit k) (let e = same in omega arith))
 
-    pub start-miss : l < 1 → any k (s .bounds) covers-start ≡ any (k + 1) (s .bounds) covers-start
+    pub start-miss : l < 1 → any k (s .ceilings) covers-start ≡ any (k + 1) (s .ceilings) covers-start
     unfolding covers-start
-    start-miss h = any-miss k (s .bounds) _ below (start-not-under (program ws s) (tables ws s) n x₀ at-start (bounds ws s n .limit k) inside (let e = same in omega arith))
+    start-miss h = any-miss k (s .ceilings) _ below (start-not-under (program ws s) (tables ws s) n x₀ at-start (ceilings-of ws s n .limit k) inside (let e = same in omega arith))

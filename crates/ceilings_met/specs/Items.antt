@@ -13,8 +13,8 @@ use Rattle.model.specs.Tables.{Tables, tables}
 use Rattle.model.specs.Bads.{bad, bad-step, bad-rows, Counted, counted}
 use Rattle.model.specs.Counters.{counter-of}
 use Rattle.model.specs.Markings.{count-in}
-use Rattle.model.specs.Bounds.{bounds, highest}
-use Rattle.bounds.specs.Parts.{Whole}
+use Rattle.model.specs.Ceilings.{ceilings-of, highest}
+use Rattle.ceilings_form.specs.Parts.{Whole}
 use Rattle.ceilings.specs.Table.{Limits-table}
 
 -- for the row r of an item: the number of its counter, one of n; or one from n on where it has none
@@ -27,12 +27,12 @@ pub record Items-counted (p : Program) (t : Tables) (rows : Columns) (n : ℕ) (
 pub record Ready (ws : List ℕ) (s : Sizes) (n : ℕ) (limits items : List ℕ) : Type 0 where
   pub whole : Whole ws s
   pub counters : n ≤ maxCounters
-  pub limits-table : Limits-table (bounds ws s n) limits
+  pub limits-table : Limits-table (ceilings-of ws s n) limits
   pub items-table : Items-counted (program ws s) (tables ws s) (bad-rows ws s) n items
 
 -- the highest counts under ceiling k, of a state or letter
 abbrev pub most : List ℕ → Sizes → ℕ → ℕ → Counted → ℕ
-most ws s n k = count-in (program ws s) (tables ws s) (highest (bounds ws s n .limit k))
+most ws s n k = count-in (program ws s) (tables ws s) (highest (ceilings-of ws s n .limit k))
 
 -- refusal 6 refuses nothing: the rows are the bads and nothing else
 abbrev pub Bads-in-form : List ℕ → Sizes → Type 0

@@ -14,9 +14,9 @@ use Rattle.model.specs.Bads.{bad-rows}
 use Rattle.model.specs.Rules.{rules}
 use Rattle.model.specs.Tables.{tables}
 use Rattle.model.specs.Counters.{counter-count}
-use Rattle.model.specs.Bounds.{bounds, bound-check, start-check, met-check, leak-check}
-use Rattle.model.specs.Verify.{program-check, evidence-check, bounds-check, message, message-check, check, answer, verdict}
-use Rattle.model.proofs.Exact.Answer.{Refuses, program-refuses, bounds-refuse}
+use Rattle.model.specs.Ceilings.{ceilings-of, ceiling-check, start-check, met-check, leak-check}
+use Rattle.model.specs.Verify.{program-check, evidence-check, ceilings-check, message, message-check, check, answer, verdict}
+use Rattle.model.proofs.Exact.Answer.{Refuses, program-refuses, ceilings-refuse}
 use Rattle.system_space.specs.Space.{words-after}
 use Rattle.answers.specs.Safe.{is-safe}
 use Rattle.checks.specs.Order.{taken, ceilings, from-3, from-4, from-5, from-6, from-7, from-8, from-9, from-10, from-11, from-12, from-13, from-14}
@@ -39,7 +39,7 @@ in-threes a b c d e f g h i j k l =
     three a b c _ ∙ ap (λ x. a >> (b >> (c >> x))) (four d e f g _ ∙ ap (λ x. d >> (e >> (f >> (g >> x)))) (four h i j k l))
 
 pub in-order : (ws : List ℕ) (s : Sizes) (n : ℕ) → message-check (taken ws s) n ≡ from-3 ws s n
-unfolding message-check taken program-check evidence-check bounds-check ceilings from-3 from-4 from-5 from-6 from-7 from-8 from-9 from-10 from-11 from-12 from-13 from-14
+unfolding message-check taken program-check evidence-check ceilings-check ceilings from-3 from-4 from-5 from-6 from-7 from-8 from-9 from-10 from-11 from-12 from-13 from-14
 in-order ws s n = in-threes _ _ _ _ _ _ _ _ _ _ _ _
 
 -- a check that finds nothing leaves those behind it
@@ -57,29 +57,29 @@ pub scopes-refuse : (p : Program) → row-check p ≡ none → name-check p ≡ 
 unfolding program-check
 scopes-refuse p r n = behind _ _ (behind _ _ (program-refuses p) r) n
 
-pub leaks-refuse : (ws : List ℕ) (s : Sizes) → bound-check ws s (counter-count (program ws s) (tables ws s)) ≡ none → start-check s (program ws s) (tables ws s) (ceilings ws s) ≡ none → met-check s (program ws s) (tables ws s) (ceilings ws s) (bad-rows ws s) ≡ none → Refuses (leak-check ws s (ceilings ws s) (rules (program ws s) (tables ws s)))
-unfolding bounds-check taken ceilings
-leaks-refuse ws s b h m = behind _ _ (behind _ _ (behind _ _ (bounds-refuse (taken ws s)) b) h) m
+pub leaks-refuse : (ws : List ℕ) (s : Sizes) → ceiling-check ws s (counter-count (program ws s) (tables ws s)) ≡ none → start-check s (program ws s) (tables ws s) (ceilings ws s) ≡ none → met-check s (program ws s) (tables ws s) (ceilings ws s) (bad-rows ws s) ≡ none → Refuses (leak-check ws s (ceilings ws s) (rules (program ws s) (tables ws s)))
+unfolding ceilings-check taken ceilings
+leaks-refuse ws s b h m = behind _ _ (behind _ _ (behind _ _ (ceilings-refuse (taken ws s)) b) h) m
 
 -- what the code finds of the n counters that it has counted is what the model says of the message
 module _ (ws : List ℕ) (s : Sizes) (n : ℕ) (v : Verdict) where
   told : (f : ℕ → Check) → v ≡ answer (f n) → n ≡ counter-count (program ws s) (tables ws s) → v ≡ answer (f (counter-count (program ws s) (tables ws s)))
   told f h e = h ∙ ap (λ k. answer (f k)) e
 
-  pub bound-told : v ≡ answer (bound-check ws s n) → n ≡ counter-count (program ws s) (tables ws s) → v ≡ answer (bound-check ws s (counter-count (program ws s) (tables ws s)))
-  bound-told = told (bound-check ws s)
+  pub ceiling-told : v ≡ answer (ceiling-check ws s n) → n ≡ counter-count (program ws s) (tables ws s) → v ≡ answer (ceiling-check ws s (counter-count (program ws s) (tables ws s)))
+  ceiling-told = told (ceiling-check ws s)
 
-  pub start-told : v ≡ answer (start-check s (program ws s) (tables ws s) (bounds ws s n)) → n ≡ counter-count (program ws s) (tables ws s) → v ≡ answer (start-check s (program ws s) (tables ws s) (ceilings ws s))
+  pub start-told : v ≡ answer (start-check s (program ws s) (tables ws s) (ceilings-of ws s n)) → n ≡ counter-count (program ws s) (tables ws s) → v ≡ answer (start-check s (program ws s) (tables ws s) (ceilings ws s))
   unfolding ceilings
-  start-told = told (λ k. start-check s (program ws s) (tables ws s) (bounds ws s k))
+  start-told = told (λ k. start-check s (program ws s) (tables ws s) (ceilings-of ws s k))
 
-  pub met-told : v ≡ answer (met-check s (program ws s) (tables ws s) (bounds ws s n) (bad-rows ws s)) → n ≡ counter-count (program ws s) (tables ws s) → v ≡ answer (met-check s (program ws s) (tables ws s) (ceilings ws s) (bad-rows ws s))
+  pub met-told : v ≡ answer (met-check s (program ws s) (tables ws s) (ceilings-of ws s n) (bad-rows ws s)) → n ≡ counter-count (program ws s) (tables ws s) → v ≡ answer (met-check s (program ws s) (tables ws s) (ceilings ws s) (bad-rows ws s))
   unfolding ceilings
-  met-told = told (λ k. met-check s (program ws s) (tables ws s) (bounds ws s k) (bad-rows ws s))
+  met-told = told (λ k. met-check s (program ws s) (tables ws s) (ceilings-of ws s k) (bad-rows ws s))
 
-  pub leak-told : v ≡ answer (leak-check ws s (bounds ws s n) (rules (program ws s) (tables ws s))) → n ≡ counter-count (program ws s) (tables ws s) → v ≡ answer (leak-check ws s (ceilings ws s) (rules (program ws s) (tables ws s)))
+  pub leak-told : v ≡ answer (leak-check ws s (ceilings-of ws s n) (rules (program ws s) (tables ws s))) → n ≡ counter-count (program ws s) (tables ws s) → v ≡ answer (leak-check ws s (ceilings ws s) (rules (program ws s) (tables ws s)))
   unfolding ceilings
-  leak-told = told (λ k. leak-check ws s (bounds ws s k) (rules (program ws s) (tables ws s)))
+  leak-told = told (λ k. leak-check ws s (ceilings-of ws s k) (rules (program ws s) (tables ws s)))
 
 -- a refusal ends the checks, and the lent words stay
 pub ends-with : (m c r : Check) (v : Verdict) (f : Bool) (ws : List ℕ) (s : Sizes) (lent : List ℕ) → m ≡ c >> r → v ≡ answer c → f ≡ is-safe v → f ≡ false → (v ≡ answer m) × (lent ≡ words-after v ws s lent)

@@ -1,5 +1,5 @@
 -- What one layer's tables say is what the next one asks.
-use Prim.Native.Nat.{ℕ, zero, suc, _*_, _≤_, _<_}
+use Prim.Native.Nat.{ℕ, _*_, _≤_, _<_}
 use native.Mathlib.Omega.{arith}
 use mathlib.Core.Path.{_≡_, refl, sym, ap, subst, _∙_}
 use mathlib.Core.List.{List}
@@ -26,15 +26,10 @@ use Rattle.program.specs.Rows.{from}
 use Rattle.program.specs.Layout.{owner}
 use Rattle.layout.specs.Tables.{After-table, Inner-upto, or-end}
 use Rattle.positions.specs.Positions.{Ends, Owners}
-use Rattle.bounds.specs.Parts as bounds
+use Rattle.ceilings_form.specs.Parts as ceilings
 use Rattle.lists.specs.Ready.{Ready}
 use Rattle.evidence.specs.Whole.{Parts-whole}
-use Rattle.values.specs.Values as values
-use Rattle.values.specs.Values.{width}
-use Rattle.bits.specs.Bits.{Row, bit}
 use Rattle.rooms.specs.Cleared.{Cleared}
-use Rattle.rules.specs.Derived as rules
-use Rattle.system_letters.specs.Letters.{Starts}
 use Rattle.system_letters.proofs.Pairs.{letters-few}
 use Rattle.ceilings_met.specs.Items.{Items-counted}
 use Rattle.rules.specs.Derived.{Rule-room}
@@ -50,8 +45,8 @@ pub ready : (ws : List ℕ) (s : Sizes) → Parts-whole ws s → program-check (
 ready ws s w p e =
     record { whole = w .program; held = w .held; limits = w .limits; well-formed = p; in-form = e }
 
-pub bounds-whole : (ws : List ℕ) (s : Sizes) → Parts-whole ws s → bounds.Whole ws s
-bounds-whole ws s w = record { limits = w .limits; held = w .held }
+pub ceilings-whole : (ws : List ℕ) (s : Sizes) → Parts-whole ws s → ceilings.Whole ws s
+ceilings-whole ws s w = record { limits = w .limits; held = w .held }
 
 -- refusal 9 found nothing
 pub few : (s : Sizes) (p : Program) (t : Tables) → counter-check s p t ≡ none → counter-count p t ≤ maxCounters
@@ -98,32 +93,8 @@ pub start-told : (ws : List ℕ) (s : Sizes) (r x : ℕ) → r ≡ start (progra
 unfolding program columns
 start-told ws s r x e h = h ∙ ap (λ q. state-index (tables ws s) (state (s .rows) q)) e
 
--- the values of names, as the rules ask for them
-pub flow-starts : (ws : List ℕ) (s : Sizes) (starts : List ℕ) → values.Flow-starts (program ws s) (tables ws s) starts → Starts (tables ws s .flow) (s .names) starts
-unfolding program
-flow-starts ws s starts h = record { room = h .room; start = h .from }
-
-sets-room : (k w : ℕ) (t : List ℕ) → ((n : ℕ) → n < k → Row t w n) → k * w ≤ length t
-sets-room zero w t h = omega arith
-sets-room (suc k) w t h = let z = h k (omega arith) .room in omega arith
-
--- a set has a bit for each row and one more
-pub width-holds : (r : ℕ) → r < 64 * width r
-unfolding width
-width-holds r = omega arith
-
-pub flow-sets : (ws : List ℕ) (s : Sizes) (w : ℕ) (flow : List ℕ) → w ≡ width (s .rows) → values.Flow-sets (program ws s) (tables ws s) flow → rules.Flow-sets (program ws s) (tables ws s) w flow
-unfolding program columns
-flow-sets ws s w flow e h =
-    subst (λ x. rules.Flow-sets (program ws s) (tables ws s) x flow) (sym e)
-    (record {
-      wide = width-holds (s .rows);
-      room = sets-room (s .names) (width (s .rows)) flow (λ n b. h .of-name n b .row);
-      has = λ n v b c. h .of-name n b .holds v (let z = width-holds (s .rows) in omega arith);
-    })
-
-pub bounds-of-ready : (ws : List ℕ) (s : Sizes) → Ready ws s → bounds.Whole ws s
-bounds-of-ready ws s h = record { limits = h .limits; held = h .held }
+pub ceilings-of-ready : (ws : List ℕ) (s : Sizes) → Ready ws s → ceilings.Whole ws s
+ceilings-of-ready ws s h = record { limits = h .limits; held = h .held }
 
 -- a table of items, by another name of the number of counters
 pub items-of : (p : Program) (t : Tables) (rows : Columns) (n k : ℕ) (items : List ℕ) → n ≡ k → Items-counted p t rows k items → Items-counted p t rows n items

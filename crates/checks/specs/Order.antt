@@ -10,7 +10,7 @@ use Rattle.model.specs.Tables.{tables, entry-check}
 use Rattle.model.specs.Closed.{open-check}
 use Rattle.model.specs.Counters.{counter-count, counter-check}
 use Rattle.model.specs.Rules.{rules}
-use Rattle.model.specs.Bounds.{Bounds, bounds, bound-check, start-check, met-check, leak-check}
+use Rattle.model.specs.Ceilings.{Ceilings, ceilings-of, ceiling-check, start-check, met-check, leak-check}
 use Rattle.model.specs.Listing.{space-check}
 use Rattle.model.specs.Verify.{Message}
 
@@ -23,12 +23,12 @@ taken ws s =
       program = program ws s;
       bads = bad-rows ws s;
       tables = tables ws s;
-      bounds = bounds ws s (counter-count (program ws s) (tables ws s));
+      ceilings = ceilings-of ws s (counter-count (program ws s) (tables ws s));
     }
 
 -- the ceilings of the message
-unfoldable pub ceilings : List ℕ → Sizes → Bounds
-ceilings ws s = bounds ws s (counter-count (program ws s) (tables ws s))
+unfoldable pub ceilings : List ℕ → Sizes → Ceilings
+ceilings ws s = ceilings-of ws s (counter-count (program ws s) (tables ws s))
 
 module _ (ws : List ℕ) (s : Sizes) (lent : ℕ) where
   unfoldable pub from-14 : Check
@@ -44,7 +44,7 @@ module _ (ws : List ℕ) (s : Sizes) (lent : ℕ) where
   from-11 = start-check s (program ws s) (tables ws s) (ceilings ws s) >> from-12
 
   unfoldable pub from-10 : Check
-  from-10 = bound-check ws s (counter-count (program ws s) (tables ws s)) >> from-11
+  from-10 = ceiling-check ws s (counter-count (program ws s) (tables ws s)) >> from-11
 
   unfoldable pub from-9 : Check
   from-9 = counter-check s (program ws s) (tables ws s) >> from-10

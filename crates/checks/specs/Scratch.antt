@@ -8,8 +8,8 @@ use Rattle.model.specs.Limits.{maxCounters}
 use Rattle.model.specs.Rows.{program}
 use Rattle.model.specs.Tables.{tables}
 use Rattle.model.specs.Counters.{counter-count}
-use Rattle.model.specs.Bounds.{bounds, bound-entries}
-use Rattle.bounds.specs.Limits.{In-form, Starts-table}
+use Rattle.model.specs.Ceilings.{ceilings-of, ceiling-entries}
+use Rattle.ceilings_form.specs.Limits.{In-form, Starts-table}
 use Rattle.ceilings.specs.Table.{Limits-table}
 
 -- A message of these sizes may have n counters: one for each state, and no more for letters than there is mail.
@@ -19,7 +19,7 @@ pub record Countable (s : Sizes) (n : ℕ) : Type 0 where
 
 -- a limit of 0 for each counter under each ceiling
 pub record Limits-room (s : Sizes) (limits : List ℕ) : Type 0 where
-  pub cells : (n : ℕ) → Countable s n → n * s .bounds ≤ length limits
+  pub cells : (n : ℕ) → Countable s n → n * s .ceilings ≤ length limits
   pub blank : (z : ℕ) → getD limits z 0 ≡ 0
 
 -- a set of ceilings for each of n counters, and for each state
@@ -34,5 +34,5 @@ pub record Mask-room (n : ℕ) (holders unbounded group short more : List ℕ) :
 pub record Limited (ws : List ℕ) (s : Sizes) (n : ℕ) (limits ceiling-at : List ℕ) : Type 0 where
   pub counted : n ≡ counter-count (program ws s) (tables ws s)
   pub in-form : In-form ws s n
-  pub limits-table : Limits-table (bounds ws s n) limits
-  pub starts-table : Starts-table n (bound-entries ws s) (s .bounds) ceiling-at
+  pub limits-table : Limits-table (ceilings-of ws s n) limits
+  pub starts-table : Starts-table n (ceiling-entries ws s) (s .ceilings) ceiling-at

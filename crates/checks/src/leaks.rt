@@ -14,7 +14,7 @@ ghost use Prim.Native.Nat.{_≤_};
 ghost use Rattle.model.specs.Rows.{program};
 ghost use Rattle.model.specs.Tables.{tables};
 ghost use Rattle.model.specs.Rules.{rules};
-ghost use Rattle.model.specs.Bounds.{bounds, leak-check};
+ghost use Rattle.model.specs.Ceilings.{ceilings-of, leak-check};
 ghost use Rattle.model.specs.Verify.{answer};
 ghost use Rattle.rules.specs.Derived.{Rule-tables};
 ghost use Rattle.system_totals.specs.Lines.{Totalled};
@@ -53,11 +53,11 @@ fn leaks_on(
     requires { ⌜ Limited (now ws) s n (now limits) (now «ceiling_at») ⌝ }
     requires { ⌜ Mask-room n (now holders) (now unbounded) (now group) (now short) (now more) ⌝ }
     ensures { λ l. ⌜ l .verdict ≡
-        answer (leak-check (now (ws .entry)) s (bounds (now (ws .entry)) s n)
+        answer (leak-check (now (ws .entry)) s (ceilings-of (now (ws .entry)) s n)
         (rules (program (now (ws .entry)) s) (tables (now (ws .entry)) s))) ⌝ }
     ensures { λ l. ⌜ Totalled (program (now (ws .entry)) s) (tables (now (ws .entry)) s) (l .totals) ⌝ }
 {
-    fill_holders(limits, s.bounds, n, holders, unbounded);
+    fill_holders(limits, s.ceilings, n, holders, unbounded);
     let mut at = words16_1056();
     let mut tos = words16_1056();
     let mut others = words16_1056();
@@ -137,7 +137,7 @@ fn few_leaks(
     requires { ⌜ Limited (now ws) s n (now limits) (now «ceiling_at») ⌝ }
     requires { ⌜ n ≤ 32 ⌝ }
     ensures { λ l. ⌜ l .verdict ≡
-        answer (leak-check (now (ws .entry)) s (bounds (now (ws .entry)) s n)
+        answer (leak-check (now (ws .entry)) s (ceilings-of (now (ws .entry)) s n)
         (rules (program (now (ws .entry)) s) (tables (now (ws .entry)) s))) ⌝ }
     ensures { λ l. ⌜ Totalled (program (now (ws .entry)) s) (tables (now (ws .entry)) s) (l .totals) ⌝ }
 {
@@ -190,7 +190,7 @@ fn many_leaks(
         (now «letter_at») (now letters) (now branches) ⌝ }
     requires { ⌜ Limited (now ws) s n (now limits) (now «ceiling_at») ⌝ }
     ensures { λ l. ⌜ l .verdict ≡
-        answer (leak-check (now (ws .entry)) s (bounds (now (ws .entry)) s n)
+        answer (leak-check (now (ws .entry)) s (ceilings-of (now (ws .entry)) s n)
         (rules (program (now (ws .entry)) s) (tables (now (ws .entry)) s))) ⌝ }
     ensures { λ l. ⌜ Totalled (program (now (ws .entry)) s) (tables (now (ws .entry)) s) (l .totals) ⌝ }
 {
@@ -243,7 +243,7 @@ pub fn leak_verdict(
         (now «letter_at») (now letters) (now branches) ⌝ }
     requires { ⌜ Limited (now ws) s n (now limits) (now «ceiling_at») ⌝ }
     ensures { λ l. ⌜ l .verdict ≡
-        answer (leak-check (now (ws .entry)) s (bounds (now (ws .entry)) s n)
+        answer (leak-check (now (ws .entry)) s (ceilings-of (now (ws .entry)) s n)
         (rules (program (now (ws .entry)) s) (tables (now (ws .entry)) s))) ⌝ }
     ensures { λ l. ⌜ Totalled (program (now (ws .entry)) s) (tables (now (ws .entry)) s) (l .totals) ⌝ }
 {

@@ -5,8 +5,8 @@ use crate::stages::met_verdict;
 use crate::stages::start_verdict;
 use answers::is_safe;
 use bads::bad_check;
-use bounds::entries::bound_check;
 use ceilings::fill_limits;
+use ceilings_form::entries::ceiling_check;
 use closure_sized::open_verdict;
 use evidence::entries::entry_check;
 use grammar::row_check;
@@ -83,7 +83,7 @@ pub fn words_verdict(
         return counters;
     }
     let n = counter_count(ws, s, &letter_at, &letters);
-    let form = bound_check(ws, s, n);
+    let form = ceiling_check(ws, s, n);
     if !is_safe(form) {
         return form;
     }

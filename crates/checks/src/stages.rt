@@ -13,7 +13,7 @@ ghost use Rattle.model.specs.Bads.{bad-rows};
 ghost use Rattle.model.specs.Tables.{tables};
 ghost use Rattle.model.specs.Closed.{open-check};
 ghost use Rattle.model.specs.Counters.{counter-count};
-ghost use Rattle.model.specs.Bounds.{bounds, start-check, met-check};
+ghost use Rattle.model.specs.Ceilings.{ceilings-of, start-check, met-check};
 ghost use Rattle.model.specs.Limits.{maxCounters};
 ghost use Rattle.model.specs.Verify.{answer};
 ghost use Rattle.lists.specs.Ready.{Ready};
@@ -29,10 +29,10 @@ pub fn start_verdict(ws: &[u16], s: Sizes, afters: &[u16], n: usize, limits: &[u
     requires { ⌜ Ends (program (now ws) s) (now afters) ⌝ }
     requires { ⌜ open-check s (program (now ws) s) (tables (now ws) s) ≡ none ⌝ }
     requires { ⌜ (n ≡ counter-count (program (now ws) s) (tables (now ws) s)) × (n ≤ maxCounters) ⌝ }
-    requires { ⌜ Limits-table (bounds (now ws) s n) (now limits) ⌝ }
+    requires { ⌜ Limits-table (ceilings-of (now ws) s n) (now limits) ⌝ }
     ensures { λ v. ⌜ v ≡
         answer (start-check s (program (now (ws .entry)) s) (tables (now (ws .entry)) s)
-        (bounds (now (ws .entry)) s n)) ⌝ }
+        (ceilings-of (now (ws .entry)) s n)) ⌝ }
 {
     let first = start(ws, s, afters);
     let counter = state_index(ws, s, s.rows, first);
@@ -52,10 +52,10 @@ pub fn met_verdict(
     requires { ⌜ Bads-in-form (now ws) s ⌝ }
     requires { ⌜ Class-letters (program (now ws) s) (tables (now ws) s) (now «letter_at») (now letters) ⌝ }
     requires { ⌜ (n ≡ counter-count (program (now ws) s) (tables (now ws) s)) × (n ≤ maxCounters) ⌝ }
-    requires { ⌜ Limits-table (bounds (now ws) s n) (now limits) ⌝ }
+    requires { ⌜ Limits-table (ceilings-of (now ws) s n) (now limits) ⌝ }
     ensures { λ v. ⌜ v ≡
-        answer (met-check s (program (now (ws .entry)) s) (tables (now (ws .entry)) s) (bounds (now (ws .entry)) s n)
-        (bad-rows (now (ws .entry)) s)) ⌝ }
+        answer (met-check s (program (now (ws .entry)) s) (tables (now (ws .entry)) s)
+        (ceilings-of (now (ws .entry)) s n) (bad-rows (now (ws .entry)) s)) ⌝ }
 {
     let mut items = [0u16; 256];
     fill_items(ws, s, letter_at, letters, &mut items);

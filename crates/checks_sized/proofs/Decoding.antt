@@ -9,7 +9,7 @@ use Rattle.model.specs.declared.Sizes.{Sizes}
 use Rattle.model.specs.declared.Verdict.{Verdict}
 use Rattle.model.specs.Verdict.{_>>_}
 use Rattle.model.specs.Words.{words}
-use Rattle.model.specs.Message.{sizes, parts-check, bounds-at, end-at}
+use Rattle.model.specs.Message.{sizes, parts-check, ceilings-at, end-at}
 use Rattle.model.specs.Rows.{program}
 use Rattle.model.specs.Tables.{tables}
 use Rattle.model.specs.Listing.{system-words, written}
@@ -33,7 +33,7 @@ pub decoded : (bytes all : List ℕ) (rest : List ℕ) → all ≡ words bytes +
 decoded bytes all rest e = subst (λ n. take n all ≡ words bytes) (words-length bytes) (ap (take (length (words bytes))) e ∙ front (words bytes) rest)
 
 program-fits : (s : Sizes) → 4 + 2 * s .rows ≤ end-at s
-unfolding end-at bounds-at
+unfolding end-at ceilings-at
 program-fits s = omega arith
 
 module _ (bytes : List ℕ) (s : Sizes) (ws : List ℕ) (w : Whole-message bytes s) (e : ws ≡ words bytes) where

@@ -11,18 +11,18 @@ use Rattle.checks.specs.Scratch.{Countable}
 use Rattle.closure_sized.proofs.Opening.{product-most}
 
 -- limits of each counter under each ceiling
-pub few-cells : (s : Sizes) (k : ℕ) (limits : List ℕ) → (s .states + s .mails) * s .bounds ≤ k → Cleared k limits → (n : ℕ) → Countable s n → n * s .bounds ≤ length limits
+pub few-cells : (s : Sizes) (k : ℕ) (limits : List ℕ) → (s .states + s .mails) * s .ceilings ≤ k → Cleared k limits → (n : ℕ) → Countable s n → n * s .ceilings ≤ length limits
 few-cells s k limits m c n h =
-    let z = mul-le-mul-right (s .bounds) (h .listed) in
+    let z = mul-le-mul-right (s .ceilings) (h .listed) in
     let q = c .room in
     omega arith
 
-pub all-cells : (s : Sizes) (limits : List ℕ) → Within-limits s → Cleared 131072 limits → (n : ℕ) → Countable s n → n * s .bounds ≤ length limits
+pub all-cells : (s : Sizes) (limits : List ℕ) → Within-limits s → Cleared 131072 limits → (n : ℕ) → Countable s n → n * s .ceilings ≤ length limits
 all-cells s limits l c n h =
-    let z = product-most n (s .bounds) 512 256 (let a = h .few in omega arith) (l .bounds) in
+    let z = product-most n (s .ceilings) 512 256 (let a = h .few in omega arith) (l .ceilings) in
     let q = c .room in
     omega arith
 
 -- so many limits fit a word
-pub cells-small : (s : Sizes) → Within-limits s → (s .states + s .mails) * s .bounds ≤ 262144
-cells-small s l = product-most (s .states + s .mails) (s .bounds) 1024 256 (let a = l .states in let b = l .mails in omega arith) (l .bounds)
+pub cells-small : (s : Sizes) → Within-limits s → (s .states + s .mails) * s .ceilings ≤ 262144
+cells-small s l = product-most (s .states + s .mails) (s .ceilings) 1024 256 (let a = l .states in let b = l .mails in omega arith) (l .ceilings)

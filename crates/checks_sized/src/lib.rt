@@ -24,7 +24,7 @@ ghost use Rattle.closure_sized.specs.Flow.{Flow-room};
 fn few_limits(ws: &[u16], s: Sizes, flow: &mut [u64], lent: &mut [u32]) -> Verdict
     requires { ⌜ Parts-whole (now ws) s ⌝ }
     requires { ⌜ Flow-room s (now flow) ⌝ }
-    requires { ⌜ (s .states + s .mails) * s .bounds ≤ 2048 ⌝ }
+    requires { ⌜ (s .states + s .mails) * s .ceilings ≤ 2048 ⌝ }
     ensures { λ v. ⌜ v ≡ answer (message-check (taken (now (ws .entry)) s) (length (now (lent .entry)))) ⌝ }
     ensures { λ v. ⌜ now (lent .exit) ≡ words-after v (now (ws .entry)) s (now (lent .entry)) ⌝ }
 {
@@ -36,7 +36,7 @@ fn few_limits(ws: &[u16], s: Sizes, flow: &mut [u64], lent: &mut [u32]) -> Verdi
 fn more_limits(ws: &[u16], s: Sizes, flow: &mut [u64], lent: &mut [u32]) -> Verdict
     requires { ⌜ Parts-whole (now ws) s ⌝ }
     requires { ⌜ Flow-room s (now flow) ⌝ }
-    requires { ⌜ (s .states + s .mails) * s .bounds ≤ 16384 ⌝ }
+    requires { ⌜ (s .states + s .mails) * s .ceilings ≤ 16384 ⌝ }
     ensures { λ v. ⌜ v ≡ answer (message-check (taken (now (ws .entry)) s) (length (now (lent .entry)))) ⌝ }
     ensures { λ v. ⌜ now (lent .exit) ≡ words-after v (now (ws .entry)) s (now (lent .entry)) ⌝ }
 {
@@ -62,7 +62,7 @@ fn flow_verdict(ws: &[u16], s: Sizes, flow: &mut [u64], lent: &mut [u32]) -> Ver
     ensures { λ v. ⌜ v ≡ answer (message-check (taken (now (ws .entry)) s) (length (now (lent .entry)))) ⌝ }
     ensures { λ v. ⌜ now (lent .exit) ≡ words-after v (now (ws .entry)) s (now (lent .entry)) ⌝ }
 {
-    let cells = (s.states + s.mails) * s.bounds;
+    let cells = (s.states + s.mails) * s.ceilings;
     if cells <= 2048 {
         return few_limits(ws, s, flow, lent);
     }

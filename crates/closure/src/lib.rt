@@ -29,10 +29,11 @@ ghost use Rattle.model.specs.Closed.{open-check};
 ghost use Rattle.model.specs.Verify.{answer};
 ghost use Rattle.model.specs.Demands.{Within-limits};
 ghost use Rattle.bits.specs.Bits.{Row};
+ghost use Rattle.lists.specs.Lists.{Starts};
 ghost use Rattle.lists.specs.Ready.{Ready};
 ghost use Rattle.positions.specs.Positions.{Ends, Owners};
 ghost use Rattle.positions.specs.Branches.{Branch-bits};
-ghost use Rattle.values.specs.Values.{width, Values, Flow-sets, Mail-sets, Flow-starts};
+ghost use Rattle.values.specs.Values.{width, Values, Flow-sets, Mail-sets};
 ghost use Rattle.matching.specs.Patterns.{Matches};
 ghost use Rattle.codes.specs.Codes.{Codes};
 ghost use Rattle.stated.specs.Stated.{Begins, Stated};
@@ -93,7 +94,7 @@ fn fill_tables(
     requires { ⌜ Ends (program (now ws) s) (now afters) ⌝ }
     requires { ⌜ Indexed s (now starts) (now firsts) (now nexts) ⌝ }
     requires { ⌜ Cleared s (now flow) (now mail) (now may) (now held) ⌝ }
-    ensures { λ _. ⌜ Flow-starts (program (now (ws .entry)) s) (tables (now (ws .entry)) s) (now (starts .exit)) ⌝ }
+    ensures { λ _. ⌜ Starts (tables (now (ws .entry)) s .flow) (s .names) (now (starts .exit)) ⌝ }
     ensures { λ _. ⌜ Flow-sets (program (now (ws .entry)) s) (tables (now (ws .entry)) s) (now (flow .exit)) ⌝ }
     ensures { λ _. ⌜ Mail-sets (program (now (ws .entry)) s) (tables (now (ws .entry)) s) (now (mail .exit)) ⌝ }
     ensures { λ _. ⌜ Matches (program (now (ws .entry)) s) (tables (now (ws .entry)) s)
@@ -126,7 +127,7 @@ fn settled_bits(
     requires { ⌜ Ready (now ws) s ⌝ }
     requires { ⌜ Ends (program (now ws) s) (now afters) ⌝ }
     requires { ⌜ Owners (program (now ws) s) (now inners) ⌝ }
-    requires { ⌜ Flow-starts (program (now ws) s) (tables (now ws) s) (now starts) ⌝ }
+    requires { ⌜ Starts (tables (now ws) s .flow) (s .names) (now starts) ⌝ }
     requires { ⌜ Flow-sets (program (now ws) s) (tables (now ws) s) (now flow) ⌝ }
     requires { ⌜ Mail-sets (program (now ws) s) (tables (now ws) s) (now mail) ⌝ }
     requires { ⌜ Matches (program (now ws) s) (tables (now ws) s) (now may) (now held) 0 ⌝ }
@@ -175,7 +176,7 @@ fn first_open(
     requires { ⌜ Ready (now ws) s ⌝ }
     requires { ⌜ Ends (program (now ws) s) (now afters) ⌝ }
     requires { ⌜ Owners (program (now ws) s) (now inners) ⌝ }
-    requires { ⌜ Flow-starts (program (now ws) s) (tables (now ws) s) (now starts) ⌝ }
+    requires { ⌜ Starts (tables (now ws) s .flow) (s .names) (now starts) ⌝ }
     requires { ⌜ Flow-sets (program (now ws) s) (tables (now ws) s) (now flow) ⌝ }
     requires { ⌜ Mail-sets (program (now ws) s) (tables (now ws) s) (now mail) ⌝ }
     requires { ⌜ Matches (program (now ws) s) (tables (now ws) s) (now may) (now held) 0 ⌝ }
@@ -258,7 +259,7 @@ pub fn open_check(
     requires { ⌜ Unsettled s (now codes) ⌝ }
     ensures { λ v. ⌜ v ≡ answer (open-check s (program (now (ws .entry)) s) (tables (now (ws .entry)) s)) ⌝ }
     ensures { λ v. ⌜ (v ≡ Safe →
-        Flow-starts (program (now (ws .entry)) s) (tables (now (ws .entry)) s) (now (starts .exit))) ⌝ }
+        Starts (tables (now (ws .entry)) s .flow) (s .names) (now (starts .exit))) ⌝ }
     ensures { λ v. ⌜ (v ≡ Safe →
         Flow-sets (program (now (ws .entry)) s) (tables (now (ws .entry)) s) (now (flow .exit))) ⌝ }
     ensures { λ v. ⌜ (v ≡ Safe →

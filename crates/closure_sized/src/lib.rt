@@ -20,10 +20,11 @@ ghost use Rattle.model.specs.Rows.{program};
 ghost use Rattle.model.specs.Tables.{tables};
 ghost use Rattle.model.specs.Closed.{open-check};
 ghost use Rattle.model.specs.Verify.{answer};
+ghost use Rattle.lists.specs.Lists.{Starts};
 ghost use Rattle.lists.specs.Ready.{Ready};
 ghost use Rattle.positions.specs.Positions.{Ends, Owners};
 ghost use Rattle.positions.specs.Branches.{Branch-bits};
-ghost use Rattle.values.specs.Values.{Flow-sets, Flow-starts};
+ghost use Rattle.values.specs.Values.{Flow-sets};
 ghost use Rattle.closure_sized.specs.Flow.{Flow-room};
 
 // Refusal 8 of a small message.
@@ -44,7 +45,7 @@ fn small_open(
     requires { ⌜ (s .rows ≤ 64) × (s .names ≤ 64) ⌝ }
     ensures { λ v. ⌜ v ≡ answer (open-check s (program (now (ws .entry)) s) (tables (now (ws .entry)) s)) ⌝ }
     ensures { λ v. ⌜ (v ≡ Safe →
-        Flow-starts (program (now (ws .entry)) s) (tables (now (ws .entry)) s) (now (starts .exit))) ⌝ }
+        Starts (tables (now (ws .entry)) s .flow) (s .names) (now (starts .exit))) ⌝ }
     ensures { λ v. ⌜ (v ≡ Safe →
         Flow-sets (program (now (ws .entry)) s) (tables (now (ws .entry)) s) (now (flow .exit))) ⌝ }
     ensures { λ v. ⌜ (v ≡ Safe →
@@ -93,7 +94,7 @@ fn middle_open(
     requires { ⌜ (s .rows ≤ 256) × (s .names ≤ 256) ⌝ }
     ensures { λ v. ⌜ v ≡ answer (open-check s (program (now (ws .entry)) s) (tables (now (ws .entry)) s)) ⌝ }
     ensures { λ v. ⌜ (v ≡ Safe →
-        Flow-starts (program (now (ws .entry)) s) (tables (now (ws .entry)) s) (now (starts .exit))) ⌝ }
+        Starts (tables (now (ws .entry)) s .flow) (s .names) (now (starts .exit))) ⌝ }
     ensures { λ v. ⌜ (v ≡ Safe →
         Flow-sets (program (now (ws .entry)) s) (tables (now (ws .entry)) s) (now (flow .exit))) ⌝ }
     ensures { λ v. ⌜ (v ≡ Safe →
@@ -141,7 +142,7 @@ fn large_open(
     requires { ⌜ (s .names < length (now starts)) × (s .states ≤ length (now branches)) ⌝ }
     ensures { λ v. ⌜ v ≡ answer (open-check s (program (now (ws .entry)) s) (tables (now (ws .entry)) s)) ⌝ }
     ensures { λ v. ⌜ (v ≡ Safe →
-        Flow-starts (program (now (ws .entry)) s) (tables (now (ws .entry)) s) (now (starts .exit))) ⌝ }
+        Starts (tables (now (ws .entry)) s .flow) (s .names) (now (starts .exit))) ⌝ }
     ensures { λ v. ⌜ (v ≡ Safe →
         Flow-sets (program (now (ws .entry)) s) (tables (now (ws .entry)) s) (now (flow .exit))) ⌝ }
     ensures { λ v. ⌜ (v ≡ Safe →
@@ -189,7 +190,7 @@ pub fn open_verdict(
     requires { ⌜ (s .names < length (now starts)) × (s .states ≤ length (now branches)) ⌝ }
     ensures { λ v. ⌜ v ≡ answer (open-check s (program (now (ws .entry)) s) (tables (now (ws .entry)) s)) ⌝ }
     ensures { λ v. ⌜ (v ≡ Safe →
-        Flow-starts (program (now (ws .entry)) s) (tables (now (ws .entry)) s) (now (starts .exit))) ⌝ }
+        Starts (tables (now (ws .entry)) s .flow) (s .names) (now (starts .exit))) ⌝ }
     ensures { λ v. ⌜ (v ≡ Safe →
         Flow-sets (program (now (ws .entry)) s) (tables (now (ws .entry)) s) (now (flow .exit))) ⌝ }
     ensures { λ v. ⌜ (v ≡ Safe →

@@ -5,9 +5,10 @@ ghost use mathlib.Core.Path.{_≡_};
 ghost use Prim.Native.Nat.{_<_};
 ghost use Rattle.model.specs.Rows.{program};
 ghost use Rattle.model.specs.Tables.{tables};
+ghost use Rattle.lists.specs.Lists.{Starts};
 ghost use Rattle.lists.specs.Ready.{Ready};
 ghost use Rattle.positions.specs.Positions.{Ends};
-ghost use Rattle.values.specs.Values.{Flow-sets, Mail-sets, Flow-starts};
+ghost use Rattle.values.specs.Values.{Flow-sets, Mail-sets};
 ghost use Rattle.matching.specs.Patterns.{Matches};
 ghost use Rattle.settled.specs.Settled.{Settled};
 ghost use Rattle.codes.specs.Codes.{Codes};
@@ -27,7 +28,7 @@ pub fn code_at(
 ) -> usize
     requires { ⌜ Ready (now ws) s ⌝ }
     requires { ⌜ Ends (program (now ws) s) (now afters) ⌝ }
-    requires { ⌜ Flow-starts (program (now ws) s) (tables (now ws) s) (now starts) ⌝ }
+    requires { ⌜ Starts (tables (now ws) s .flow) (s .names) (now starts) ⌝ }
     requires { ⌜ Flow-sets (program (now ws) s) (tables (now ws) s) (now flow) ⌝ }
     requires { ⌜ Mail-sets (program (now ws) s) (tables (now ws) s) (now mail) ⌝ }
     requires { ⌜ Matches (program (now ws) s) (tables (now ws) s) (now may) (now held) 0 ⌝ }

@@ -65,9 +65,9 @@ unfolding misplaced
 misplaced-end p t c i h = first-end i (c .size) (λ k. not (in-place p t c k)) h
 
 -- where the list of n entries behind k others stands
-pub list-is : (s : Sizes) (n k l r : ℕ) → l ≡ 9 + 2 * s .rows + 2 * s .conditions + k → r ≡ 9 + 2 * s .rows + 2 * s .conditions + s .flows + s .mails + s .states + k → _≡_ {A = Arrays} (record { size = n; lefts = l; rights = r }) (list-arrays s n k)
+pub list-is : (s : Sizes) (n k l r : ℕ) → l ≡ 9 + 2 * s .rows + 2 * s .badrows + k → r ≡ 9 + 2 * s .rows + 2 * s .badrows + s .flows + s .mails + s .states + k → _≡_ {A = Arrays} (record { size = n; lefts = l; rights = r }) (list-arrays s n k)
 unfolding list-arrays tables-at
 list-is s n k l r el er =
-    let x : l ≡ 4 + 2 * s .rows + 2 + 2 * s .conditions + 3 + k = omega arith in
-    let y : r ≡ 4 + 2 * s .rows + 2 + 2 * s .conditions + 3 + (s .flows + s .mails + s .states) + k = omega arith in
+    let x : l ≡ 4 + 2 * s .rows + 2 + 2 * s .badrows + 3 + k = omega arith in
+    let y : r ≡ 4 + 2 * s .rows + 2 + 2 * s .badrows + 3 + (s .flows + s .mails + s .states) + k = omega arith in
     rw (x, y)

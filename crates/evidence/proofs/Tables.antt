@@ -11,7 +11,7 @@ use Rattle.model.specs.declared.Verdict.{Verdict}
 use Rattle.model.specs.declared.Verdict.the-variants.{Safe, Entry}
 use Rattle.model.specs.Words.{columns}
 use Rattle.model.specs.Verdict.{Check, unless}
-use Rattle.model.specs.Message.{tables-at, bounds-at, end-at}
+use Rattle.model.specs.Message.{tables-at, ceilings-at, end-at}
 use Rattle.model.specs.Rows.{program}
 use Rattle.model.specs.Tables.{entries, tables, first-misplaced, list-check, entry-check}
 use Rattle.model.specs.Verify.{answer}
@@ -27,7 +27,7 @@ use Rattle.evidence.specs.Ranges.{legal-left, legal-right, legal, in-pla
 module _ (ws : List ℕ) (s : Sizes) where
   -- a list of the tables lies within the words
   pub list-held : (n k : ℕ) (a : Arrays) → Parts-whole ws s → a ≡ list-arrays s n k → n + k ≤ s .flows + s .mails + s .states → Held ws a × (a .size ≡ n)
-  unfolding list-arrays tables-at bounds-at end-at
+  unfolding list-arrays tables-at ceilings-at end-at
   list-held n k a whole e h = let w = whole .held in rw e (record { lefts = omega arith; rights = omega arith }, refl)
 
   -- the code has looked through the list of n entries behind k others, and stopped at i

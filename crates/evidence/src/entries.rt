@@ -88,7 +88,7 @@ fn list(s: Sizes, n: usize, k: usize) -> Arrays
     requires { ⌜ k ≤ s .flows + s .mails ⌝ }
     ensures { λ a. ⌜ a ≡ list-arrays s n k ⌝ }
 {
-    let first = 9 + 2 * s.rows + 2 * s.conditions;
+    let first = 9 + 2 * s.rows + 2 * s.badrows;
     let second = first + s.flows + s.mails + s.states;
     Arrays {
         size: n,

@@ -1,5 +1,9 @@
 // What document 01 calls a class, a function, a value and a head, as tests on a number.
 use model::Sizes;
+use model::TAG_BUILD;
+use model::TAG_FUNCTION;
+use model::TAG_GLOBAL;
+use model::TAG_SPAWN;
 use program::rows::tag;
 ghost use mathlib.Core.Path.{_≡_};
 ghost use Rattle.model.specs.Rows.{program, tag, is-head};
@@ -12,7 +16,7 @@ pub fn is_class(ws: &[u16], s: Sizes, c: usize) -> bool
     requires { ⌜ Whole (now ws) s ⌝ }
     ensures { λ b. ⌜ b ≡ is-class (program (now (ws .entry)) s) c ⌝ }
 {
-    tag(ws, s, c) == 6 || c == s.rows
+    tag(ws, s, c) == TAG_SPAWN || c == s.rows
 }
 
 // A row with tag 2, a function, or a class.
@@ -21,7 +25,7 @@ pub fn is_value(ws: &[u16], s: Sizes, v: usize) -> bool
     ensures { λ b. ⌜ b ≡ is-value (program (now (ws .entry)) s) v ⌝ }
 {
     match tag(ws, s, v) {
-        2 | 3 | 6 | 11 => true,
+        TAG_BUILD | TAG_FUNCTION | TAG_SPAWN | TAG_GLOBAL => true,
         _ => v == s.rows,
     }
 }

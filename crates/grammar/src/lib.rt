@@ -2,6 +2,23 @@
 use model::MAX_BRANCHES;
 use model::MAX_DEPTH;
 use model::Sizes;
+use model::TAG_BRANCHES;
+use model::TAG_BUILD;
+use model::TAG_CALL;
+use model::TAG_CASE;
+use model::TAG_CONSTRUCTOR;
+use model::TAG_FUNCTION;
+use model::TAG_GIVE;
+use model::TAG_GLOBAL;
+use model::TAG_MADE;
+use model::TAG_OPERAND;
+use model::TAG_PARAMETER;
+use model::TAG_PATTERN_ANY;
+use model::TAG_PATTERN_NAME;
+use model::TAG_RECEIVE;
+use model::TAG_SELF;
+use model::TAG_SEND;
+use model::TAG_SPAWN;
 use model::Verdict;
 use program::readers::Next;
 use program::readers::call_parts;
@@ -17,7 +34,8 @@ ghost use mathlib.Core.Path.{_≡_};
 ghost use mathlib.Core.List.{[], _∷_};
 ghost use Prim.Native.Nat.{_+_, _≤_, _<_};
 ghost use lib.ListN.{replicate};
-ghost use Rattle.model.specs.Rows.{program, tag, kind, global, expression, branches, body-form, branch-items, lead, is-branch-count, declarations, whole, row-check};
+ghost use Rattle.model.specs.Rows.{program, tag, kind, global, expression, branches, body-form, branch-items, lead};
+ghost use Rattle.model.specs.Rows.{is-branch-count, declarations, whole, row-check};
 ghost use Rattle.model.specs.Verify.{answer};
 ghost use Rattle.program.specs.Rows.{Whole, reading, from};
 
@@ -37,12 +55,12 @@ fn expression(ws: &[u16], s: Sizes, r: usize) -> Next
     let n = num(ws, s, r);
     let next = r + 1;
     match tag(ws, s, r) {
-        1 => if n < s.names {
+        TAG_GIVE => if n < s.names {
             Next::Past(next)
         } else {
             Next::Wrong(r)
         },
-        2..=7 => {
+        TAG_BUILD..=TAG_SELF => {
             if n >= s.names {
                 return Next::Wrong(r);
             }
@@ -51,18 +69,21 @@ fn expression(ws: &[u16], s: Sizes, r: usize) -> Next
                 Next::Wrong(q) => Next::Wrong(q),
             }
         }
-        8 => if n < s.names {
+        TAG_CASE => if n < s.names {
             case_branches(ws, s, next)
         } else {
             Next::Wrong(r)
         },
-        9 => if is_branch_count(n) {
+        TAG_RECEIVE => if is_branch_count(n) {
             branches(ws, s, next, n)
         } else {
             Next::Wrong(r)
         },
         // constructors, functions, parts of expressions and patterns: none begins an expression
-        10 | 11 | 20..=25 | 30..=32 => Next::Wrong(r),
+        TAG_CONSTRUCTOR
+        | TAG_GLOBAL
+        | TAG_MADE..=TAG_BRANCHES
+        | TAG_PATTERN_NAME..=TAG_PATTERN_ANY => Next::Wrong(r),
         _ => Next::Wrong(r),
     }
 }
@@ -76,11 +97,11 @@ fn lead(ws: &[u16], s: Sizes, r: usize) -> Next
 {
     let next = r + 1;
     match tag(ws, s, r) {
-        2 => made(ws, s, next),
-        3 => body_form(ws, s, next),
-        4 => call_parts(ws, s, next),
-        5 => names(ws, s, next, 2, 21),
-        6 => names(ws, s, next, 1, 21),
+        TAG_BUILD => made(ws, s, next),
+        TAG_FUNCTION => body_form(ws, s, next),
+        TAG_CALL => call_parts(ws, s, next),
+        TAG_SEND => names(ws, s, next, 2, TAG_OPERAND),
+        TAG_SPAWN => names(ws, s, next, 1, TAG_OPERAND),
         _ => Next::Past(next),
     }
 }
@@ -91,7 +112,7 @@ fn body_form(ws: &[u16], s: Sizes, r: usize) -> Next
     requires { ⌜ r ≤ s .rows ⌝ }
     ensures { λ x. ⌜ reading x ≡ from (program (now (ws .entry)) s) body-form r ⌝ }
 {
-    match counted(ws, s, r, 23) {
+    match counted(ws, s, r, TAG_PARAMETER) {
         Next::Past(q) => expression(ws, s, q),
         Next::Wrong(q) => Next::Wrong(q),
     }
@@ -104,7 +125,7 @@ fn case_branches(ws: &[u16], s: Sizes, r: usize) -> Next
     ensures { λ x. ⌜ reading x ≡ from (program (now (ws .entry)) s) (branches ∷ []) r ⌝ }
 {
     let n = num(ws, s, r);
-    if tag(ws, s, r) != 25 {
+    if tag(ws, s, r) != TAG_BRANCHES {
         return Next::Wrong(r);
     }
     if is_branch_count(n) {
@@ -145,7 +166,7 @@ fn globals(ws: &[u16], s: Sizes, r: usize) -> Next
     let mut left = s.functions;
     let mut q = r;
     while left > 0 {
-        if !is_row(ws, s, q, 11, s.names) {
+        if !is_row(ws, s, q, TAG_GLOBAL, s.names) {
             return Next::Wrong(q);
         }
         q = match body_form(ws, s, q + 1) {

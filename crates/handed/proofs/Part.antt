@@ -8,7 +8,7 @@ use lib.ListN.{length, take, length-take}
 use Rattle.model.specs.declared.Verdict.{Verdict}
 use Rattle.model.specs.declared.Verdict.the-variants.{Safe}
 use Rattle.model.specs.Words.{words}
-use Rattle.model.specs.Message.{sizes, bads-at, bounds-at, end-at}
+use Rattle.model.specs.Message.{sizes, bads-at, ceilings-at, end-at}
 use Rattle.model.specs.Verify.{message, check, verdict, if-safe, part-handed}
 use Rattle.model.proofs.Exact.Checks.{then-none}
 use Rattle.model.proofs.Exact.Answer.{verdict-safe}
@@ -32,7 +32,7 @@ module _ (bytes : List ℕ) (n : ℕ) (w : Verdict) (told : w ≡ verdict bytes 
 
   -- it lies within the message
   part-fits : f ≡ true → (k : ℕ) → k ≡ bads-at (sizes (words bytes)) → 2 * k ≤ length bytes
-  unfolding bads-at end-at bounds-at message check
+  unfolding bads-at end-at ceilings-at message check
   part-fits h k e =
       let passes = then-none _ _ .0 (verdict-safe bytes n .0 (safe-told h)) .0 in
       let whole = whole-check bytes passes in

@@ -1,6 +1,15 @@
 // Where expressions and patterns end: one table, filled from the last row to the first.
 use crate::tables::entry;
 use model::Sizes;
+use model::TAG_BUILD;
+use model::TAG_CALL;
+use model::TAG_CASE;
+use model::TAG_FUNCTION;
+use model::TAG_PATTERN_CONSTRUCTOR;
+use model::TAG_RECEIVE;
+use model::TAG_SELF;
+use model::TAG_SEND;
+use model::TAG_SPAWN;
 use program::rows::num;
 use program::rows::tag;
 ghost use mathlib.Core.Path.{_≡_};
@@ -33,22 +42,22 @@ pub fn rest_row(ws: &[u16], s: Sizes, table: &[u16], r: usize) -> usize
     let second = r + 2;
     let third = r + 3;
     match tag(ws, s, r) {
-        2 => {
+        TAG_BUILD => {
             let k = num(ws, s, next);
             let n = num(ws, s, k);
             second + n
         }
-        3 => {
+        TAG_FUNCTION => {
             let n = num(ws, s, next);
             let body = second + n;
             entry(table, body)
         }
-        4 => {
+        TAG_CALL => {
             let n = num(ws, s, second);
             third + n
         }
-        5 => third,
-        6 => second,
+        TAG_SEND => third,
+        TAG_SPAWN => second,
         _ => next,
     }
 }
@@ -63,17 +72,17 @@ fn end_row(ws: &[u16], s: Sizes, table: &[u16], r: usize) -> usize
     let next = r + 1;
     let n = num(ws, s, r);
     match tag(ws, s, r) {
-        2..=7 => {
+        TAG_BUILD..=TAG_SELF => {
             let rest = rest_row(ws, s, table, r);
             entry(table, rest)
         }
-        8 => {
+        TAG_CASE => {
             let count = num(ws, s, next);
             let first = r + 2;
             hops(table, first, 2 * count)
         }
-        9 => hops(table, next, 2 * n),
-        31 => {
+        TAG_RECEIVE => hops(table, next, 2 * n),
+        TAG_PATTERN_CONSTRUCTOR => {
             let arity = num(ws, s, n);
             hops(table, next, arity)
         }

@@ -1,6 +1,8 @@
 // The innermost function around each row.
 use crate::tables::entry;
 use model::Sizes;
+use model::TAG_FUNCTION;
+use model::TAG_GLOBAL;
 use program::rows::num;
 use program::rows::tag;
 ghost use mathlib.Core.Path.{_≡_};
@@ -17,7 +19,7 @@ ghost use Rattle.layout.specs.Tables.{After-table, Inner-upto, Candidate
 fn is_function(t: usize) -> bool
     ensures { λ b. ⌜ b ≡ (eqb t 3 || eqb t 11) ⌝ }
 {
-    t == 3 || t == 11
+    t == TAG_FUNCTION || t == TAG_GLOBAL
 }
 
 // The row after the body form of the function at row f.

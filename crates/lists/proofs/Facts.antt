@@ -10,7 +10,7 @@ use borrow.Author.Tests.{lt-ltb, le-ltb}
 use Rattle.model.specs.declared.Sizes.{Sizes}
 use Rattle.model.specs.Index.{any, first}
 use Rattle.model.specs.Words.{Columns, columns}
-use Rattle.model.specs.Message.{tables-at, bounds-at, end-at}
+use Rattle.model.specs.Message.{tables-at, ceilings-at, end-at}
 use Rattle.model.specs.Rows.{program, tag, is-head, is-name}
 use Rattle.model.specs.Heads.{is-class}
 use Rattle.model.specs.Tables.{tables, entries, is-value, has, state, state-at, same-state, state-index}
@@ -75,7 +75,7 @@ module _ (ws : List ℕ) (s : Sizes) where
 
   -- n entries behind k others lie in the words
   span-held : (n k : ℕ) → end-at s ≤ length ws → n + k ≤ s .flows + s .mails + s .states → Held ws (span-at s n k)
-  unfolding span-at end-at bounds-at tables-at
+  unfolding span-at end-at ceilings-at tables-at
   span-held n k h l = record { left-held = omega arith; right-held = omega arith }
 
 module _ {ws : List ℕ} {s : Sizes} (h : Ready ws s) where

@@ -1,8 +1,9 @@
 -- The lists of the tables part as the code reads them: where their columns stand, and where a pair has its place.
 use Prim.Native.Nat.{ℕ, _+_, _≤_, _<_}
+use mathlib.Core.Path.{_≡_}
 use mathlib.Core.Bool.{Bool, true, false, not, _&&_}
 use mathlib.Core.List.{List}
-use lib.ListN.{length}
+use lib.ListN.{length, getD}
 use lib.Dec.{ltb, eqb}
 use Rattle.model.specs.declared.Sizes.{Sizes}
 use Rattle.model.specs.Index.{first}
@@ -57,3 +58,8 @@ range-from c a = place c a 0
 -- ... up to here
 unfoldable pub range-to : Columns → ℕ → ℕ
 range-to c a = place c (a + 1) 0
+
+-- word a is where the entries that begin with a stand, and where those of the number before end, for a up to n
+pub record Starts (c : Columns) (n : ℕ) (starts : List ℕ) : Type 0 where
+  pub room : n < length starts
+  pub start : (a : ℕ) → a ≤ n → getD starts a 0 ≡ range-from c a

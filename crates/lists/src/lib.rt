@@ -9,7 +9,8 @@ ghost use Rattle.model.specs.Message.{tables-at};
 ghost use Rattle.model.specs.Rows.{program};
 ghost use Rattle.model.specs.Tables.{tables, has, state, state-index};
 ghost use Rattle.model.specs.Demands.{Within-limits};
-ghost use Rattle.lists.specs.Lists.{Ascending, span-at, flow-span, mail-span, state-span, listed, Held, under, place, pair-index, range-from, range-to};
+ghost use Rattle.lists.specs.Lists.{Ascending, span-at, flow-span, mail-span, state-span, listed, Held, under};
+ghost use Rattle.lists.specs.Lists.{place, pair-index, range-from, range-to};
 ghost use Rattle.lists.specs.Ready.{Ready};
 
 // Where a list stands: its size, and the words at which its two columns begin.
@@ -32,7 +33,7 @@ pub fn tables_at(s: Sizes) -> usize
     requires { ⌜ Within-limits s ⌝ }
     ensures { λ r. ⌜ r ≡ tables-at s ⌝ }
 {
-    4 + 2 * s.rows + 2 + 2 * s.conditions
+    4 + 2 * s.rows + 2 + 2 * s.badrows
 }
 
 // The list of n entries behind k others.

@@ -1,5 +1,6 @@
 // The rows that build values, as a chain for each constructor.
 use model::Sizes;
+use model::TAG_BUILD;
 use program::rows::num;
 use program::rows::tag;
 ghost use Prim.Native.Nat.{_≤_};
@@ -22,7 +23,7 @@ pub fn fill_builds(ws: &[u16], s: Sizes, firsts: &mut [u16], nexts: &mut [u16])
     let mut r = s.rows;
     while r > 0 {
         r -= 1;
-        if tag(ws, s, r) == 2 {
+        if tag(ws, s, r) == TAG_BUILD {
             let made = num(ws, s, r + 1);
             nexts[r] = firsts[made];
             firsts[made] = r as u16;

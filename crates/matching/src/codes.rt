@@ -1,6 +1,8 @@
 // The code of a pattern: whether it may match, and whether its names then hold what they are to.
 use lists::word;
 use model::Sizes;
+use model::TAG_PATTERN_CONSTRUCTOR;
+use model::TAG_PATTERN_NAME;
 use program::rows::num;
 use program::rows::tag;
 use sets::common;
@@ -48,7 +50,7 @@ fn leaf_code(
     if !meets(sets, sets, w, k, k) {
         return 0;
     }
-    if kind != 30 {
+    if kind != TAG_PATTERN_NAME {
         return 1;
     }
     let name = num(ws, s, q);
@@ -75,7 +77,7 @@ pub fn values_code(
         (now (sets .entry)) k q c ⌝ }
 {
     let kind = tag(ws, s, q);
-    if kind == 31 {
+    if kind == TAG_PATTERN_CONSTRUCTOR {
         let w = width(s);
         return common(sets, may, held, w, k, q);
     }

@@ -2,6 +2,7 @@
 use crate::codes::arguments_code;
 use lists::word;
 use model::Sizes;
+use model::TAG_PATTERN_CONSTRUCTOR;
 use program::rows::num;
 use program::rows::tag;
 use sets::put;
@@ -87,7 +88,7 @@ pub fn fill_patterns(
     let mut q = s.rows;
     while q > 0 {
         q -= 1;
-        if tag(ws, s, q) == 31 {
+        if tag(ws, s, q) == TAG_PATTERN_CONSTRUCTOR {
             fill_pattern(ws, s, afters, flow, firsts, nexts, may, held, q);
         }
     }

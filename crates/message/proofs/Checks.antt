@@ -12,7 +12,7 @@ use Rattle.model.specs.declared.Verdict.{Verdict}
 use Rattle.model.specs.declared.Verdict.the-variants.{Length, Size}
 use Rattle.model.specs.Words.{words}
 use Rattle.model.specs.Verdict.{Check, _>>_, unless}
-use Rattle.model.specs.Message.{Limited, sizes, sizes-check, part-check, program-part, bads-part, tables-part, bounds-part, nothing-left, end-at, parts-check}
+use Rattle.model.specs.Message.{Limited, sizes, sizes-check, part-check, program-part, bads-part, tables-part, ceilings-part, nothing-left, end-at, parts-check}
 use Rattle.model.proofs.Logic.{test}
 use Rattle.message.specs.declared.Parts.{Parts}
 use Rattle.message.specs.declared.Parts.the-variants.{Whole, Refused}
@@ -99,7 +99,7 @@ pub no-bytes-left : (bytes : List ℕ) (s : Sizes) (n : ℕ) → n ≡ end-at s 
 unfolding nothing-left unless answered
 no-bytes-left bytes s n e h = rw (← e, le-leb (length bytes) (2 * n) h)
 
-pub parts-by : (bytes : List ℕ) (s : Sizes) (x : Parts) → s ≡ sizes (words bytes) → x ≡ answered (program-part (words bytes) s >> (bads-part (words bytes) s >> (tables-part (words bytes) s >> (bounds-part (words bytes) s >> nothing-left bytes s)))) s → x ≡ parts-of bytes
+pub parts-by : (bytes : List ℕ) (s : Sizes) (x : Parts) → s ≡ sizes (words bytes) → x ≡ answered (program-part (words bytes) s >> (bads-part (words bytes) s >> (tables-part (words bytes) s >> (ceilings-part (words bytes) s >> nothing-left bytes s)))) s → x ≡ parts-of bytes
 unfolding parts-of parts-check
 parts-by bytes s x e t = rw (← e) t
 

@@ -13,7 +13,7 @@ use Rattle.model.specs.declared.Verdict.{Verdict}
 use Rattle.model.specs.declared.Verdict.the-variants.{Size}
 use Rattle.model.specs.Words.{words}
 use Rattle.model.specs.Verdict.{Check, _>>_, unless}
-use Rattle.model.specs.Message.{Limited, bounds-at, end-at, sizes, sizes-check, part-check, program-part, bads-part, tables-part, bounds-part, nothing-left, parts-check}
+use Rattle.model.specs.Message.{Limited, ceilings-at, end-at, sizes, sizes-check, part-check, program-part, bads-part, tables-part, ceilings-part, nothing-left, parts-check}
 use Rattle.model.specs.Demands.{Between, Within-limits}
 use Rattle.model.proofs.Logic.{test, and-left, and-right}
 use Rattle.message.specs.declared.Parts.the-variants.{Whole, Refused}
@@ -74,7 +74,7 @@ part-whole-is ws at ls elements h =
 
 -- the four parts refuse nothing, and nothing is left
 pub whole-check : (bytes : List ℕ) → parts-check bytes ≡ none → Whole-message bytes (sizes (words bytes))
-unfolding parts-check program-part bads-part tables-part bounds-part nothing-left bounds-at end-at
+unfolding parts-check program-part bads-part tables-part ceilings-part nothing-left ceilings-at end-at
 whole-check bytes h =
     let behind-program = then-right _ _ h in
     let behind-bads = then-right _ _ behind-program in
@@ -82,7 +82,7 @@ whole-check bytes h =
     let program = part-whole-is _ _ _ _ (then-left _ _ h) .0 in
     let bads = part-whole-is _ _ _ _ (then-left _ _ behind-program) .0 in
     let tables = part-whole-is _ _ _ _ (then-left _ _ behind-bads) .0 in
-    let (bounds, fit) = part-whole-is _ _ _ _ (then-left _ _ behind-tables) in
+    let (ceilings, fit) = part-whole-is _ _ _ _ (then-left _ _ behind-tables) in
     let left : length bytes ≤ 2 * end-at (sizes (words bytes)) = leb-true _ _ (unless-passes _ _ (then-right _ _ behind-tables)) in
     let half = words-length bytes in
     record {
@@ -95,12 +95,12 @@ whole-check bytes h =
             constructors = program .1 .1 .0 .1;
             functions = program .1 .1 .1 .0 .1;
             bads = bads .0;
-            conditions = bads .1 .0;
+            badrows = bads .1 .0;
             flows = tables .0 .1;
             mails = tables .1 .0 .1;
             states = tables .1 .1 .0 .1;
-            bounds = bounds .0 .1;
-            limits = bounds .1 .0 .1;
+            ceilings = ceilings .0 .1;
+            entries = ceilings .1 .0 .1;
           };
       words-end = omega arith;
       bytes-end = omega arith;

@@ -6,8 +6,8 @@ use mathlib.Core.Option.{some, none}
 use Rattle.model.specs.declared.Sizes.{Sizes}
 use Rattle.model.specs.Words.{words}
 use Rattle.model.specs.Verdict.{Check}
-use Rattle.model.specs.Message.{bounds-from, sizes, parts-check}
-use Rattle.model.specs.Limits.{maxRows, maxBadRows, maxFlows, maxMails, maxStates, maxBoundEntries}
+use Rattle.model.specs.Message.{ceilings-from, sizes, parts-check}
+use Rattle.model.specs.Limits.{maxRows, maxBadRows, maxFlows, maxMails, maxStates, maxCeilingEntries}
 use Rattle.message.specs.declared.Parts.{Parts}
 use Rattle.message.specs.declared.Parts.the-variants.{Whole, Refused}
 use Rattle.message.specs.declared.Checked.{Checked}
@@ -15,7 +15,7 @@ use Rattle.message.specs.declared.Checked.the-variants.{Pass, Fail}
 
 -- the words of the longest message: each part at the limits of its sizes
 abbrev pub maxWords : ℕ
-maxWords = bounds-from maxRows maxBadRows (maxFlows + maxMails + maxStates) + 2 + 2 * maxBoundEntries
+maxWords = ceilings-from maxRows maxBadRows (maxFlows + maxMails + maxStates) + 2 + 2 * maxCeilingEntries
 
 -- a check of the model as the code gives it
 unfoldable pub checked : Check → Checked

@@ -4,15 +4,15 @@ ghost use mathlib.Core.List.{List};
 ghost use Prim.Native.Nat.{_+_, _*_, _^_, _<_};
 ghost use lib.ListN.{length};
 ghost use Rattle.model.specs.Words.{words};
-ghost use Rattle.model.specs.Message.{Limited, part-check, program-part, bads-part, tables-part, bounds-part};
+ghost use Rattle.model.specs.Message.{Limited, part-check, program-part, bads-part, tables-part, ceilings-part};
 ghost use Rattle.sizes.specs.Sizes.{Placed, first-outside};
 ghost use Rattle.message.specs.Parts.{checked, parts-of};
 use model::Sizes;
 use model::Verdict;
 use sizes::bads_at;
 use sizes::bads_outside;
-use sizes::bounds_at;
-use sizes::bounds_outside;
+use sizes::ceilings_at;
+use sizes::ceilings_outside;
 use sizes::end_at;
 use sizes::program_outside;
 use sizes::sizes_of;
@@ -65,7 +65,7 @@ fn bads_part(bytes: &[u8], s: Sizes) -> Checked
     requires { ⌜ Placed s ⌝ }
     ensures { λ r. ⌜ r ≡ checked (bads-part (words (now (bytes .entry))) s) ⌝ }
 {
-    part(bytes, bads_at(s), 2, bads_outside(s), s.conditions)
+    part(bytes, bads_at(s), 2, bads_outside(s), s.badrows)
 }
 
 // The tables part: flow, mail and state entries; first and second columns.
@@ -83,11 +83,11 @@ fn tables_part(bytes: &[u8], s: Sizes) -> Checked
 }
 
 // The ceilings part: ceilings and their entries; counter numbers and limits.
-fn bounds_part(bytes: &[u8], s: Sizes) -> Checked
+fn ceilings_part(bytes: &[u8], s: Sizes) -> Checked
     requires { ⌜ Placed s ⌝ }
-    ensures { λ r. ⌜ r ≡ checked (bounds-part (words (now (bytes .entry))) s) ⌝ }
+    ensures { λ r. ⌜ r ≡ checked (ceilings-part (words (now (bytes .entry))) s) ⌝ }
 {
-    part(bytes, bounds_at(s), 2, bounds_outside(s), s.limits)
+    part(bytes, ceilings_at(s), 2, ceilings_outside(s), s.entries)
 }
 
 // Refusals 1 and 2 of any bytes, part by part; then that no bytes remain.
@@ -104,7 +104,7 @@ pub fn parts_of(bytes: &[u8]) -> Parts
     if let Checked::Fail(v) = tables_part(bytes, s) {
         return Parts::Refused(v);
     }
-    if let Checked::Fail(v) = bounds_part(bytes, s) {
+    if let Checked::Fail(v) = ceilings_part(bytes, s) {
         return Parts::Refused(v);
     }
     let end = end_at(s);

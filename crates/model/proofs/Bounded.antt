@@ -1,4 +1,4 @@
--- Refusals 10 to 13 are exact: the counts under the bounds hold the start, are kept by each rule and meet no bad.
+-- Refusals 10 to 13 are exact: the counts under the ceilings hold the start, are kept by each rule and meet no bad.
 pub mod Words
 pub mod Under
 pub mod Met

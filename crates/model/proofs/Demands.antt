@@ -6,14 +6,14 @@ use mathlib.Core.List.{List}
 use lib.ListN.{length, take, drop, length-take, length-drop}
 use Rattle.model.specs.declared.Verdict.{Verdict}
 use Rattle.model.specs.declared.Verdict.the-variants.{Safe, Length, Size, Row, Name, Scope, Bad, Entry, Open, Counters, Ceiling, Start, Met, Leak, Space}
-use Rattle.model.specs.Message.{sizes, bounds-at, end-at}
+use Rattle.model.specs.Message.{sizes, ceilings-at, end-at}
 use Rattle.model.specs.Words.{words, columns}
 use Rattle.model.specs.Rows.{size, tag, program}
 use Rattle.model.specs.Listing.{listed-rules}
 use Rattle.model.specs.Verify.{message, verdict, if-safe, lent-after, part-handed}
 use Rattle.model.specs.Demands.{All-runs-followed, Refusal-changes-nothing, Safe-exactly, System-written, Runs-stay-counted}
 use Rattle.model.proofs.Exact.Parts.{words-length}
-use Rattle.model.proofs.Exact.Sound.{Bounds-exactly}
+use Rattle.model.proofs.Exact.Sound.{Ceilings-exactly}
 use Rattle.model.proofs.Exact.Sound
 use Rattle.model.proofs.Parse.Lengths.{Columns-whole}
 use Rattle.model.proofs.Listed.{listed-system}
@@ -51,12 +51,12 @@ refusal-changes-nothing =
     }
 
 -- refusals 11 to 13 are exact
-bounds-exactly : Bounds-exactly
-bounds-exactly bytes short formed = tests-exact bytes short (message-keys bytes (formed .program .rows-fit) (formed .form .mail)) (formed .form .bads)
+ceilings-exactly : Ceilings-exactly
+ceilings-exactly bytes short formed = tests-exact bytes short (message-keys bytes (formed .program .rows-fit) (formed .form .mail)) (formed .form .bads)
 
 -- Demand 2
 pub safe-exactly : Safe-exactly
-safe-exactly = Sound.safe-exactly bounds-exactly
+safe-exactly = Sound.safe-exactly ceilings-exactly
 
 pub system-written : System-written
 unfolding lent-after if-safe
@@ -67,7 +67,7 @@ column-whole : (ws : List ℕ) (n at : ℕ) → at + n ≤ length ws → length 
 column-whole ws n at h = omega (arith, length-take n (drop at ws), length-drop at ws)
 
 rows-whole : (bytes : List ℕ) → length bytes ≡ 2 * end-at (message bytes .sizes) → Columns-whole (message bytes .program)
-unfolding message program columns end-at bounds-at
+unfolding message program columns end-at ceilings-at
 rows-whole bytes h =
     let (a, b) = words-length bytes in
     let n : ℕ = sizes (words bytes) .rows in

@@ -15,7 +15,7 @@ use Rattle.model.specs.declared.Verdict.the-variants.{Safe, Row, Name, S
 use Rattle.model.specs.Limits.{maxCounters}
 use Rattle.model.specs.Words.{Columns, left, right}
 use Rattle.model.specs.Verdict.{Check, _>>_}
-use Rattle.model.specs.Message.{bads-at, tables-at, bounds-at, parts-check}
+use Rattle.model.specs.Message.{bads-at, tables-at, ceilings-at, parts-check}
 use Rattle.model.specs.Reader.{Grammar, first-wrong}
 use Rattle.model.specs.Rows.{Program, size, tag, is-head, is-name, step, whole, row-check}
 use Rattle.model.specs.Scopes.{bound-again, name-check, out-of-scope, scope-check}
@@ -27,13 +27,13 @@ use Rattle.model.specs.Counters.{counter-count, counter-check}
 use Rattle.model.specs.Rules.{rules}
 use Rattle.model.specs.Listing.{system-words, space-check}
 use Rattle.model.specs.Markings.{initial}
-use Rattle.model.specs.Bounds.{Bounds, bound-entries, bound-step, bounds-of, bounds, bound-check, start-check, met-check, leak-check}
-use Rattle.model.specs.Verify.{Message, message, program-check, evidence-check, bounds-check, message-check, check, answer, verdict}
+use Rattle.model.specs.Ceilings.{Ceilings, ceiling-entries, ceiling-step, ceilings-ahead, ceilings-of, ceiling-check, start-check, met-check, leak-check}
+use Rattle.model.specs.Verify.{Message, message, program-check, evidence-check, ceilings-check, message-check, check, answer, verdict}
 use Rattle.model.specs.Wanted.{Present, Wanted-first}
 use Rattle.model.specs.Wanted.{Entry as Table-entry}
 use Rattle.model.specs.Demands.{Bytes, Listed, Under-one}
 use Rattle.model.specs.Refusals.{First-such, Behind, Behind, Message-part, parts, Whole, Wrong, Bound-again, Bound, Reads-outside, Placed, Lacks, Allowed, Passed, Refused, Refused-exactly, Said, Verdict-exactly, of-sound, of-refused}
-use Rattle.model.specs.Refusals.{parts-passed, rows-passed, names-passed, scopes-passed, bads-passed, entries-passed, closed-passed, counters-passed, bounds-passed, start-passed, bad-passed, kept-passed}
+use Rattle.model.specs.Refusals.{parts-passed, rows-passed, names-passed, scopes-passed, bads-passed, entries-passed, closed-passed, counters-passed, ceilings-passed, start-passed, bad-passed, kept-passed}
 use Rattle.model.specs.Refusals.{sizes-short, arrays-short, bytes-remain, size-outside, row-wrong, name-again, name-unbound, scope-left, bad-wrong, flow-misplaced, mail-misplaced, state-misplaced, opening-missing, state-open, counters-over, ceiling-wrong, start-outside, bad-met, ceiling-left, no-space}
 use Rattle.model.proofs.Logic.{test}
 use Rattle.model.proofs.Reader.{by-option}
@@ -44,7 +44,7 @@ use Rattle.model.proofs.Exact.Parts.{Part-wrong, parts-none, parts-some
 use Rattle.model.proofs.Exact.Reading.{first-wrong-some}
 use Rattle.model.proofs.Exact.Rows.{row-none, reads-name}
 use Rattle.model.proofs.Exact.Names.{None-again, again-iff, again-none, once-iff, binder-iff, name-none, outside-iff}
-use Rattle.model.proofs.Exact.Entries.{placed-iff, list-none, entry-none, bad-none, bound-none}
+use Rattle.model.proofs.Exact.Entries.{placed-iff, list-none, entry-none, bad-none, ceiling-none}
 use Rattle.model.proofs.Exact.Closed.{finds-first, lacks-iff, function-below, open-none}
 use Rattle.model.proofs.Exact.Finds.{Finds, found-iff, missing-iff}
 use Rattle.model.proofs.Bounded.Under.{under-some-exact}
@@ -95,8 +95,8 @@ module _ (bytes : List ℕ) (short : Bytes bytes) (lent : ℕ) where
   abbrev t : Tables
   t = m .tables
 
-  abbrev bs : Bounds
-  bs = m .bounds
+  abbrev bs : Ceilings
+  bs = m .ceilings
 
   -- Each check refuses what its line says, exactly.
 
@@ -159,19 +159,19 @@ module _ (bytes : List ℕ) (short : Bytes bytes) (lent : ℕ) where
   unfolding counter-check
   counter-none = unless-iff _ _ (leb-iff (counter-count p t) maxCounters)
 
-  bound-some : (v : Verdict) → (bound-check (m .words) s (counter-count p t) ≡ some v) ↔ ((e : ℕ) × Wrong (bound-step (bs .counters)) (bound-entries (m .words) s) (bounds-of (s .bounds)) e × (Ceiling (bounds-at s + 2 + e) ≡ v))
-  unfolding bound-check message bounds
-  bound-some v = wrong-some (bound-step (bs .counters)) (bound-entries (m .words) s) (bounds-of (s .bounds)) (λ e. Ceiling (bounds-at s + 2 + e)) v
+  ceiling-some : (v : Verdict) → (ceiling-check (m .words) s (counter-count p t) ≡ some v) ↔ ((e : ℕ) × Wrong (ceiling-step (bs .counters)) (ceiling-entries (m .words) s) (ceilings-ahead (s .ceilings)) e × (Ceiling (ceilings-at s + 2 + e) ≡ v))
+  unfolding ceiling-check message ceilings-of
+  ceiling-some v = wrong-some (ceiling-step (bs .counters)) (ceiling-entries (m .words) s) (ceilings-ahead (s .ceilings)) (λ e. Ceiling (ceilings-at s + 2 + e)) v
 
-  start-some : (v : Verdict) → (start-check s p t bs ≡ some v) ↔ ((Under-one bs (initial p t) → ⊥) × (Start (bounds-at s) ≡ v))
+  start-some : (v : Verdict) → (start-check s p t bs ≡ some v) ↔ ((Under-one bs (initial p t) → ⊥) × (Start (ceilings-at s) ≡ v))
   unfolding start-check
   start-some v = unless-refutes _ _ v (under-some-exact bs (initial p t))
 
   keys : Passed bytes 12 → Keys p t
-  keys (start-passed (bounds-passed (counters-passed (closed-passed (entries-passed (bads-passed (scopes-passed (names-passed (rows-passed x fit) again bound) within) bads) flow mail states) closed) few) form) under) = message-keys bytes fit mail
+  keys (start-passed (ceilings-passed (counters-passed (closed-passed (entries-passed (bads-passed (scopes-passed (names-passed (rows-passed x fit) again bound) within) bads) flow mail states) closed) few) form) under) = message-keys bytes fit mail
 
   bads-known : Passed bytes 12 → first-wrong (bad-step p) (m .bads) (replicate (s .bads) bad) ≡ none
-  bads-known (start-passed (bounds-passed (counters-passed (closed-passed (entries-passed (bads-passed x bads) flow mail states) closed) few) form) under) = bads
+  bads-known (start-passed (ceilings-passed (counters-passed (closed-passed (entries-passed (bads-passed x bads) flow mail states) closed) few) form) under) = bads
 
   met-none : Passed bytes 12 → (met-check s p t bs (m .bads) ≡ none) ↔ ((j : ℕ) → j < s .bads → Allowed m j → ⊥)
   met-none x = met-exact bytes short (keys x) (bads-known x)
@@ -278,12 +278,12 @@ module _ (bytes : List ℕ) (short : Bytes bytes) (lent : ℕ) where
         passes = λ x h. counters-passed x (counter-none .0 h);
       }
 
-  bound-stage : Stage (bound-check (m .words) s (counter-count p t)) (Passed bytes 10) (Passed bytes 11)
-  unfolding message bounds
-  bound-stage =
+  ceiling-stage : Stage (ceiling-check (m .words) s (counter-count p t)) (Passed bytes 10) (Passed bytes 11)
+  unfolding message ceilings-of
+  ceiling-stage =
       record {
-        refuses = λ x v h. let (e, w, q) = bound-some v .0 h in told (ceiling-wrong e x w) q;
-        passes = λ x h. bounds-passed x (bound-none (m .words) s (bs .counters) .0 h);
+        refuses = λ x v h. let (e, w, q) = ceiling-some v .0 h in told (ceiling-wrong e x w) q;
+        passes = λ x h. ceilings-passed x (ceiling-none (m .words) s (bs .counters) .0 h);
       }
 
   start-stage : Stage (start-check s p t bs) (Passed bytes 11) (Passed bytes 12)
@@ -318,25 +318,25 @@ module _ (bytes : List ℕ) (short : Bytes bytes) (lent : ℕ) where
   abbrev checks : List Check
   checks =
       row-check p ∷ name-check p ∷ scope-check p ∷ bad-check (m .words) s p ∷ entry-check s p t ∷ open-check s p t ∷ counter-check s p t ∷
-      bound-check (m .words) s (counter-count p t) ∷ start-check s p t bs ∷ met-check s p t bs (m .bads) ∷ leak-check (m .words) s bs (rules p t) ∷ []
+      ceiling-check (m .words) s (counter-count p t) ∷ start-check s p t bs ∷ met-check s p t bs (m .bads) ∷ leak-check (m .words) s bs (rules p t) ∷ []
 
   abbrev from : List Check → Check
   from [] = space-check p t lent
   from (c ∷ cs) = c >> from cs
 
   in-order : check bytes lent ≡ (parts-check bytes >> from checks)
-  unfolding check message-check program-check evidence-check bounds-check
-  in-order = simp (program-check, evidence-check, bounds-check, then-assoc)
+  unfolding check message-check program-check evidence-check ceilings-check
+  in-order = simp (program-check, evidence-check, ceilings-check, then-assoc)
 
   refuses-as-said : (v : Verdict) → check bytes lent ≡ some v → Refused bytes lent v
   refuses-as-said v h =
       (parts-stage then row-stage then name-stage then scope-stage then bad-stage then entry-stage then open-stage then counter-stage then
-      bound-stage then start-stage then met-stage then leak-stage then space-stage)
+      ceiling-stage then start-stage then met-stage then leak-stage then space-stage)
       .refuses tt v (sym in-order ∙ h)
 
   -- Where checks have passed, the answer is that of the others.
   others : {k : ℕ} → Passed bytes k → check bytes lent ≡ from (drop (k - 3) checks)
-  unfolding message bounds
+  unfolding message ceilings-of
   others (parts-passed a b) = in-order ∙ skip _ (parts-none bytes .1 (a, b))
   others (rows-passed x fit) = others x ∙ skip _ (row-none p .1 fit)
   others (names-passed x again bound) = others x ∙ skip _ (name-none p .1 (once-iff p .0 again, bound))
@@ -345,7 +345,7 @@ module _ (bytes : List ℕ) (short : Bytes bytes) (lent : ℕ) where
   others (entries-passed x flow mail states) = others x ∙ skip _ (entry-none s p t .1 (flow, (mail, states)))
   others (closed-passed x closed) = others x ∙ skip _ (open-none (m .words) s t .1 closed)
   others (counters-passed x few) = others x ∙ skip _ (counter-none .1 few)
-  others (bounds-passed x fit) = others x ∙ skip _ (bound-none (m .words) s (bs .counters) .1 fit)
+  others (ceilings-passed x fit) = others x ∙ skip _ (ceiling-none (m .words) s (bs .counters) .1 fit)
   others (start-passed x under) = others x ∙ skip _ (start-check-exact s p t bs .1 under)
   others (bad-passed x none-met) = others x ∙ skip _ (met-none x .1 none-met)
   others (kept-passed x none-left) = others x ∙ skip _ (leak-none bytes short (keys-met x) .1 none-left)
@@ -375,7 +375,7 @@ module _ (bytes : List ℕ) (short : Bytes bytes) (lent : ℕ) where
   said-refuses v (opening-missing e x w n) = others x ∙ stop _ (open-some v .1 (inl ((e, w, n), refl)))
   said-refuses v (state-open i x o f) = others x ∙ stop _ (open-some v .1 (inr (o, (i, f, refl))))
   said-refuses v (counters-over x l) = others x ∙ stop _ (counter-some v .1 (λ z. omega arith, refl))
-  said-refuses v (ceiling-wrong e x w) = others x ∙ stop _ (bound-some v .1 (e, w, refl))
+  said-refuses v (ceiling-wrong e x w) = others x ∙ stop _ (ceiling-some v .1 (e, w, refl))
   said-refuses v (start-outside x n) = others x ∙ stop _ (start-some v .1 (n, refl))
   said-refuses v (bad-met j x f) = others x ∙ stop _ (met-some x v .1 (j, f, refl))
   said-refuses v (ceiling-left k x f) = others x ∙ stop _ (leak-refuses bytes short (keys-met x) v .1 (k, f, refl))

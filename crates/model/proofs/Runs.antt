@@ -29,10 +29,10 @@ use Rattle.model.proofs.Parse.Locations.{start-location}
 use Rattle.model.proofs.Parse.Lengths.{Columns-whole}
 use Rattle.model.proofs.Stepped.{step-stepped}
 
--- counts that agree with a station, under one bound
+-- counts that agree with a station, under one ceiling
 pub record Agrees (m : Message) (qs : Processes) (counts : Marking) : Type 0 where
   pub equal : Equal-counts m qs counts
-  pub bounded : Under-one (m .bounds) counts
+  pub bounded : Under-one (m .ceilings) counts
 
 -- some rules lead from counts to counts that agree
 pub record Leads (m : Message) (ρs : List Rule) (counts : Marking) (qs : Processes) : Type 0 where

@@ -7,6 +7,7 @@ use lib.ListN.{replicate}
 use lib.Dec.{leb, ltb, eqb}
 use Rattle.model.specs.declared.Sizes.{Sizes}
 use Rattle.model.specs.declared.Verdict.the-variants.{Bad}
+use Rattle.model.specs.Tags.{tag-class, tag-head, tag-letter, tag-minimum, tag-bad-end}
 use Rattle.model.specs.Words.{Columns, left, right, columns}
 use Rattle.model.specs.Verdict.{Check}
 use Rattle.model.specs.Message.{bads-at}
@@ -17,7 +18,7 @@ use Rattle.model.specs.Letters.{letters}
 
 -- "Bads: B bads, E rows; tags, numbers"
 unfoldable pub bad-rows : List ℕ → Sizes → Columns
-bad-rows ws s = columns ws (s .conditions) (bads-at s + 2) (bads-at s + 2 + s .conditions)
+bad-rows ws s = columns ws (s .badrows) (bads-at s + 2) (bads-at s + 2 + s .badrows)
 
 pub data Part : Type 0 where
   bad : Part  -- its first item
@@ -30,10 +31,11 @@ abbrev pub item : List Part
 item = subject ∷ minimum ∷ further ∷ []
 
 unfoldable pub bad-step : Program → Grammar Part
-bad-step p bad t n = fits (eqb t 40 && is-class p n) item
-bad-step p subject t n = fits (eqb t 41 && is-head (tag p n) || eqb t 42 && ltb n (letters p)) []
-bad-step p minimum t n = fits (eqb t 43 && leb 1 n) []
-bad-step p further t n = elim (eqb t 44) [ true ↦ fits (eqb n 0) [] | false ↦ fits (eqb t 40 && is-class p n) item ]
+bad-step p bad t n = fits (eqb t tag-class && is-class p n) item
+bad-step p subject t n = fits (eqb t tag-head && is-head (tag p n) || eqb t tag-letter && ltb n (letters p)) []
+bad-step p minimum t n = fits (eqb t tag-minimum && leb 1 n) []
+bad-step p further t n =
+    elim (eqb t tag-bad-end) [ true ↦ fits (eqb n 0) [] | false ↦ fits (eqb t tag-class && is-class p n) item ]
 
 -- 6: "form, class, head, letter, no item, or not B bads: first such tag, a row after B bads included; rows ending
 -- early: the word past the tags"
@@ -52,7 +54,7 @@ pub data Counted : Type 0 where
 
 unfoldable pub counted : Columns → ℕ → Counted
 counted rows r =
-    elim (eqb (left rows (r + 1)) 41) [
+    elim (eqb (left rows (r + 1)) tag-head) [
       | true ↦ state-of (right rows r) (right rows (r + 1))
       | false ↦ letter-of (right rows r) (right rows (r + 1))
     ]
@@ -62,7 +64,7 @@ counted rows r =
 unfoldable pub met-from : (Counted → ℕ) → Columns → ℕ → ℕ → Bool
 met-from counts rows zero r = true
 met-from counts rows (suc n) r =
-    elim (eqb (left rows r) 40) [
+    elim (eqb (left rows r) tag-class) [
       | true ↦ leb (right rows (r + 2)) (counts (counted rows r)) && met-from counts rows n (r + 3)
       | false ↦ true
     ]

@@ -25,8 +25,8 @@ bad-words bads rows = bads ∷ length rows ∷ arrays rows
 unfoldable pub table-words : Pairs → Pairs → Pairs → List ℕ
 table-words flow mail states = length flow ∷ length mail ∷ length states ∷ arrays (flow ++ mail ++ states)
 
-unfoldable pub bound-words : ℕ → Pairs → List ℕ
-bound-words bounds entries = bounds ∷ length entries ∷ arrays entries
+unfoldable pub ceiling-words : ℕ → Pairs → List ℕ
+ceiling-words ceilings entries = ceilings ∷ length entries ∷ arrays entries
 
 -- little-endian
 unfoldable pub to-bytes : List ℕ → List ℕ
@@ -82,22 +82,22 @@ a-tables = table-words ((0, 10) ∷ (1, 2) ∷ (2, 2) ∷ []) ((10, 2) ∷ [])
     ((10, 1) ∷ (10, 2) ∷ (10, 4) ∷ (10, 7) ∷ (10, 9) ∷ [])
 
 -- "Ceilings 5 11"
-unfoldable pub a-bounds : List ℕ
-a-bounds = bound-words 5
+unfoldable pub a-ceilings : List ℕ
+a-ceilings = ceiling-words 5
     ((0, 1) ∷ (6, 0) ∷ (1, 1) ∷ (6, 0) ∷ (2, 1) ∷ (6, 0) ∷ (3, 1) ∷ (5, 1) ∷ (6, 0) ∷ (4, 1) ∷ (6, 0) ∷ [])
 
 unfoldable pub a-words : List ℕ
-a-words = a-program ++ a-bads ++ a-tables ++ a-bounds
+a-words = a-program ++ a-bads ++ a-tables ++ a-ceilings
 
--- station A with another word, with other tables, with other bounds
+-- station A with another word, with other tables, with other ceilings
 unfoldable pub with-word : ℕ → ℕ → List ℕ
 with-word i w = to-bytes (set a-words i w)
 
 unfoldable pub with-tables : List ℕ → List ℕ
-with-tables tables = to-bytes (a-program ++ a-bads ++ tables ++ a-bounds)
+with-tables tables = to-bytes (a-program ++ a-bads ++ tables ++ a-ceilings)
 
-unfoldable pub with-bounds : List ℕ → List ℕ
-with-bounds bounds = to-bytes (a-program ++ a-bads ++ a-tables ++ bounds)
+unfoldable pub with-ceilings : List ℕ → List ℕ
+with-ceilings ceilings = to-bytes (a-program ++ a-bads ++ a-tables ++ ceilings)
 
 -- "`5 1 4 10`, `50 0`, `51 1`, `50 1`, `51 2`, `50 2`, `51 3`, `53 5`, `50 3`, `51 4`, `52 5`"
 unfoldable pub a-listing : List ℕ
@@ -130,16 +130,16 @@ proved-cases =
     ((10, 1) ∷ (10, 2) ∷ (10, 4) ∷ (10, 7) ∷ (10, 9) ∷ []))) 8 42 ∷
     -- first ceiling gone: 11 at 55
     refused 30
-    (with-bounds
-    (bound-words 4 ((1, 1) ∷ (6, 0) ∷ (2, 1) ∷ (6, 0) ∷ (3, 1) ∷ (5, 1) ∷ (6, 0) ∷ (4, 1) ∷ (6, 0) ∷ []))) 11 55 ∷
+    (with-ceilings
+    (ceiling-words 4 ((1, 1) ∷ (6, 0) ∷ (2, 1) ∷ (6, 0) ∷ (3, 1) ∷ (5, 1) ∷ (6, 0) ∷ (4, 1) ∷ (6, 0) ∷ []))) 11 55 ∷
     -- last gone: 13 at 63
     refused 30
-    (with-bounds
-    (bound-words 4 ((0, 1) ∷ (6, 0) ∷ (1, 1) ∷ (6, 0) ∷ (2, 1) ∷ (6, 0) ∷ (3, 1) ∷ (5, 1) ∷ (6, 0) ∷ []))) 13 63 ∷
+    (with-ceilings
+    (ceiling-words 4 ((0, 1) ∷ (6, 0) ∷ (1, 1) ∷ (6, 0) ∷ (2, 1) ∷ (6, 0) ∷ (3, 1) ∷ (5, 1) ∷ (6, 0) ∷ []))) 13 63 ∷
     -- one ceiling, counters 0 to 4 unbounded, counter 5 at 65,534, minimum 65,535: 13 at 57
     refused 30
     (to-bytes
-    (set (a-program ++ a-bads ++ a-tables ++ bound-words 1
+    (set (a-program ++ a-bads ++ a-tables ++ ceiling-words 1
     ((0, 65535) ∷ (1, 65535) ∷ (2, 65535) ∷ (3, 65535) ∷ (4, 65535) ∷ (5, 65534) ∷ (6, 0) ∷ [])) 32 65535))
     13 57 ∷
     -- lent 23 words: 14 at 24
@@ -164,7 +164,7 @@ unfoldable pub two-receives-with : Pairs → List ℕ
 two-receives-with states =
     to-bytes
     (two-receives ++ two-receives-bads ++ table-words ((0, 14) ∷ (1, 2) ∷ (2, 2) ∷ (3, 2) ∷ []) ((14, 2) ∷ []) states ++
-    bound-words 6
+    ceiling-words 6
     ((0, 1) ∷ (8, 0) ∷ (1, 1) ∷ (8, 0) ∷ (2, 1) ∷ (8, 0) ∷ (3, 1) ∷ (7, 1) ∷ (8, 0) ∷ (4, 1) ∷ (8, 0) ∷ (6, 1) ∷
     (8, 0) ∷ []))
 
@@ -182,14 +182,14 @@ two-callers = program-words 5 1 1
     ((10, 0) ∷ (11, 0) ∷ (22, 1) ∷ (23, 1) ∷ (1, 1) ∷ (2, 2) ∷ (20, 0) ∷ (4, 3) ∷ (21, 0) ∷ (22, 1) ∷ (21, 2) ∷
     (4, 4) ∷ (21, 0) ∷ (22, 1) ∷ (21, 3) ∷ (1, 4) ∷ [])
 
--- f holds row 1, the others row 5 (the build). One process: a bound for each state. The bad: two processes at the
+-- f holds row 1, the others row 5 (the build). One process: a ceiling for each state. The bad: two processes at the
 -- build.
 unfoldable pub two-callers-evidence : List ℕ
 two-callers-evidence =
     bad-words 1 ((40, 16) ∷ (41, 5) ∷ (43, 2) ∷ (44, 0) ∷ []) ++
     table-words ((0, 1) ∷ (1, 5) ∷ (2, 5) ∷ (3, 5) ∷ (4, 5) ∷ []) []
     ((16, 4) ∷ (16, 5) ∷ (16, 7) ∷ (16, 11) ∷ (16, 15) ∷ []) ++
-    bound-words 5 ((0, 1) ∷ (5, 0) ∷ (1, 1) ∷ (5, 0) ∷ (2, 1) ∷ (5, 0) ∷ (3, 1) ∷ (5, 0) ∷ (4, 1) ∷ (5, 0) ∷ [])
+    ceiling-words 5 ((0, 1) ∷ (5, 0) ∷ (1, 1) ∷ (5, 0) ∷ (2, 1) ∷ (5, 0) ∷ (3, 1) ∷ (5, 0) ∷ (4, 1) ∷ (5, 0) ∷ [])
 
 -- state 0, at row 4, has a rule to the rest of each call: states 3 (row 11) and 4 (row 15)
 unfoldable pub two-callers-listing : List ℕ
@@ -210,7 +210,7 @@ nested-with flow =
     to-bytes
     (nested ++ bad-words 1 ((40, 16) ∷ (41, 2) ∷ (43, 2) ∷ (44, 0) ∷ []) ++
     table-words flow [] ((16, 2) ∷ (16, 4) ∷ (16, 7) ∷ (16, 10) ∷ (16, 15) ∷ []) ++
-    bound-words 5 ((0, 1) ∷ (5, 0) ∷ (1, 1) ∷ (5, 0) ∷ (2, 1) ∷ (5, 0) ∷ (3, 1) ∷ (5, 0) ∷ (4, 1) ∷ (5, 0) ∷ []))
+    ceiling-words 5 ((0, 1) ∷ (5, 0) ∷ (1, 1) ∷ (5, 0) ∷ (2, 1) ∷ (5, 0) ∷ (3, 1) ∷ (5, 0) ∷ (4, 1) ∷ (5, 0) ∷ []))
 
 unfoldable pub nested-listing : List ℕ
 nested-listing =
@@ -227,7 +227,7 @@ two-classes = program-words 10 1 2
     (21, 2) ∷ (22, 1) ∷ (21, 8) ∷ (1, 9) ∷ [])
 
 -- The given mail. States 0 (15,3), 1 (15,5), 2 (27,9), 3 (27,11), 4 (27,14), 5 (27,15), 6 (27,17), 7 (27,21), 8
--- (27,22), 9 (27,26); letter counters 10 for (15, 0) and 11 for (27, 0). Nothing leads to state 5, so one bound keeps
+-- (27,22), 9 (27,26); letter counters 10 for (15, 0) and 11 for (27, 0). Nothing leads to state 5, so one ceiling keeps
 -- it at 1 and all else unbounded. The bad: two processes at row 15.
 unfoldable pub two-classes-with : Pairs → List ℕ
 two-classes-with mail =
@@ -237,7 +237,7 @@ two-classes-with mail =
     ((0, 1) ∷ (1, 9) ∷ (2, 6) ∷ (3, 15) ∷ (3, 27) ∷ (4, 9) ∷ (5, 9) ∷ (6, 15) ∷ (7, 9) ∷ (8, 27) ∷ (9, 9) ∷
     []) mail
     ((15, 3) ∷ (15, 5) ∷ (27, 9) ∷ (27, 11) ∷ (27, 14) ∷ (27, 15) ∷ (27, 17) ∷ (27, 21) ∷ (27, 22) ∷ (27, 26) ∷ []) ++
-    bound-words 1
+    ceiling-words 1
     ((0, 65535) ∷ (1, 65535) ∷ (2, 65535) ∷ (3, 65535) ∷ (4, 65535) ∷ (5, 1) ∷ (6, 65535) ∷ (7, 65535) ∷
     (8, 65535) ∷ (9, 65535) ∷ (10, 65535) ∷ (11, 65535) ∷ (12, 0) ∷ []))
 
@@ -263,7 +263,7 @@ unfoldable pub no-argument-evidence : List ℕ
 no-argument-evidence =
     bad-words 1 ((40, 18) ∷ (41, 15) ∷ (43, 1) ∷ (44, 0) ∷ []) ++
     table-words ((0, 2) ∷ (3, 5) ∷ (3, 9) ∷ []) [] ((18, 9) ∷ (18, 11) ∷ (18, 17) ∷ []) ++
-    bound-words 3 ((0, 1) ∷ (3, 0) ∷ (1, 1) ∷ (3, 0) ∷ (2, 1) ∷ (3, 0) ∷ [])
+    ceiling-words 3 ((0, 1) ∷ (3, 0) ∷ (1, 1) ∷ (3, 0) ∷ (2, 1) ∷ (3, 0) ∷ [])
 
 unfoldable pub no-argument-listing : List ℕ
 no-argument-listing =
@@ -281,7 +281,7 @@ unfoldable pub endless-evidence : List ℕ
 endless-evidence =
     bad-words 1 ((40, 10) ∷ (41, 2) ∷ (43, 2) ∷ (44, 0) ∷ []) ++ table-words ((0, 0) ∷ []) []
     ((10, 2) ∷ (10, 6) ∷ []) ++
-    bound-words 2 ((0, 1) ∷ (2, 0) ∷ (1, 1) ∷ (2, 0) ∷ [])
+    ceiling-words 2 ((0, 1) ∷ (2, 0) ∷ (1, 1) ∷ (2, 0) ∷ [])
 
 unfoldable pub endless-listing : List ℕ
 endless-listing =
@@ -300,7 +300,7 @@ unfoldable pub brood-evidence : List ℕ
 brood-evidence =
     bad-words 1 ((40, 2) ∷ (41, 2) ∷ (43, 2) ∷ (44, 0) ∷ []) ++
     table-words ((0, 0) ∷ (1, 2) ∷ (2, 5) ∷ []) [] ((2, 2) ∷ (2, 4) ∷ (5, 2) ∷ (5, 4) ∷ (8, 5) ∷ (8, 7) ∷ []) ++
-    bound-words 3 ((4, 1) ∷ (6, 0) ∷ (2, 1) ∷ (5, 1) ∷ (6, 0) ∷ (0, 1) ∷ (1, 65535) ∷ (3, 1) ∷ (5, 1) ∷ (6, 0) ∷ [])
+    ceiling-words 3 ((4, 1) ∷ (6, 0) ∷ (2, 1) ∷ (5, 1) ∷ (6, 0) ∷ (0, 1) ∷ (1, 65535) ∷ (3, 1) ∷ (5, 1) ∷ (6, 0) ∷ [])
 
 unfoldable pub brood-listing : List ℕ
 brood-listing =
@@ -322,7 +322,7 @@ selective-evidence =
     bad-words 1 ((40, 18) ∷ (42, 0) ∷ (43, 2) ∷ (44, 0) ∷ []) ++
     table-words ((0, 18) ∷ (1, 3) ∷ (2, 5) ∷ (3, 3) ∷ (4, 5) ∷ (5, 3) ∷ (5, 5) ∷ []) ((18, 3) ∷ (18, 5) ∷ [])
     ((18, 2) ∷ (18, 3) ∷ (18, 5) ∷ (18, 7) ∷ (18, 10) ∷ (18, 13) ∷ (18, 15) ∷ (18, 17) ∷ []) ++
-    bound-words 8
+    ceiling-words 8
     ((0, 1) ∷ (10, 0) ∷ (1, 1) ∷ (10, 0) ∷ (2, 1) ∷ (10, 0) ∷ (3, 1) ∷ (10, 0) ∷ (4, 1) ∷ (8, 1) ∷ (10, 0) ∷
     (5, 1) ∷ (8, 1) ∷ (9, 1) ∷ (10, 0) ∷ (6, 1) ∷ (8, 1) ∷ (10, 0) ∷ (7, 1) ∷ (10, 0) ∷ [])
 
@@ -365,12 +365,12 @@ own-cases =
     -- a message passed over
     safe 0 selective (to-bytes (selective ++ selective-evidence)) selective-listing ∷
     -- K = 0: the start lies under no ceiling; with entries: the first is one too many
-    refused 30 (with-bounds (bound-words 0 [])) 11 55 ∷
-    refused 30 (with-bounds (bound-words 0 ((6, 0) ∷ []))) 10 57 ∷
+    refused 30 (with-ceilings (ceiling-words 0 [])) 11 55 ∷
+    refused 30 (with-ceilings (ceiling-words 0 ((6, 0) ∷ []))) 10 57 ∷
     -- a ceiling of its closing entry alone is in form and covers nothing that is needed
     safe 0 a-program
-    (with-bounds
-    (bound-words 6
+    (with-ceilings
+    (ceiling-words 6
     ((6, 0) ∷ (0, 1) ∷ (6, 0) ∷ (1, 1) ∷ (6, 0) ∷ (2, 1) ∷ (6, 0) ∷ (3, 1) ∷ (5, 1) ∷ (6, 0) ∷ (4, 1) ∷ (6, 0) ∷
     []))) a-listing ∷
     -- the last word of each part with its second byte missing: the parts end at words 24, 34, 55 and 79

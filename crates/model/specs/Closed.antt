@@ -8,11 +8,13 @@ use lib.Dec.{eqb}
 use Rattle.model.specs.declared.Sizes.{Sizes}
 use Rattle.model.specs.declared.Verdict.the-variants.{Open}
 use Rattle.model.specs.Limits.{maxDepth}
+use Rattle.model.specs.Tags.{tag-build, tag-call, tag-global, tag-pattern-name, tag-pattern-constructor}
 use Rattle.model.specs.Index.{implies, all, first}
 use Rattle.model.specs.Verdict.{Check, _>>_, unless}
 use Rattle.model.specs.Message.{tables-at}
 use Rattle.model.specs.Rows.{Program, size, tag, num, arity, pattern, past-items}
-use Rattle.model.specs.Heads.{Call, call-at, head-at, gives, builds, makes, calls, sends, spawns, selfs, cases, receives, no-head, branch-body, is-class, parameters, body, takes, innermost, start}
+use Rattle.model.specs.Heads.{Call, call-at, head-at, gives, builds, makes, calls, sends, spawns, selfs, cases}
+use Rattle.model.specs.Heads.{receives, no-head, branch-body, is-class, parameters, body, takes, innermost, start}
 use Rattle.model.specs.Tables.{Tables, has, each, some-of, State, state, state-at, has-state}
 
 -- the row of subpattern i of the constructor pattern at row q, which may be d levels deep
@@ -25,14 +27,14 @@ argument p v i = num p (v + 2 + i)
 
 -- v is a build row of the constructor of the pattern at row q
 unfoldable pub same-constructor : Program → ℕ → ℕ → Bool
-same-constructor p q v = eqb (tag p v) 2 && eqb (num p (v + 1)) (num p q)
+same-constructor p q v = eqb (tag p v) tag-build && eqb (num p (v + 1)) (num p q)
 
 -- "A name or any-pattern may match everything. A constructor pattern may match a build row of that constructor if each
 -- subpattern may match some value of the argument name." The pattern at row q may be d levels deep.
 unfoldable pub may-match : Program → Tables → ℕ → ℕ → ℕ → Bool
 may-match p t zero q v = true
 may-match p t (suc d) q v =
-    elim (eqb (tag p q) 31) [
+    elim (eqb (tag p q) tag-pattern-constructor) [
       | true ↦
           same-constructor p q v &&
           all 0 (arity p (num p q))
@@ -45,12 +47,12 @@ may-match p t (suc d) q v =
 unfoldable pub names-hold : Program → Tables → ℕ → ℕ → ℕ → Bool
 names-hold p t zero q v = true
 names-hold p t (suc d) q v =
-    elim (eqb (tag p q) 31) [
+    elim (eqb (tag p q) tag-pattern-constructor) [
       | true ↦
           all 0 (arity p (num p q))
           (λ i. each (t .flow) (argument p v i)
           (λ w. implies (may-match p t d (subpattern p (suc d) q i) w) (names-hold p t d (subpattern p (suc d) q i) w)))
-      | false ↦ implies (eqb (tag p q) 30) (has (t .flow) (num p q) v)
+      | false ↦ implies (eqb (tag p q) tag-pattern-name) (has (t .flow) (num p q) v)
     ]
 
 -- the branch whose pattern stands at row q may match v
@@ -85,7 +87,7 @@ call-closed p t c call =
 unfoldable pub returns-to : Program → Tables → ℕ → ℕ → ℕ → Bool
 returns-to p t c f i =
     let s : State = state-at t i in
-    eqb (s .class) c && (eqb (tag p (s .location)) 4 && may-call p t (call-at p (s .location)) f)
+    eqb (s .class) c && (eqb (tag p (s .location)) tag-call && may-call p t (call-at p (s .location)) f)
 
 -- "the call's name holds the values; state (c, call's rest)"
 unfoldable pub return-closed : Program → Tables → ℕ → ℕ → Call → Bool
@@ -134,7 +136,7 @@ state-closed p t s =
 -- "Wanted first: each tag 11 name holds its own row, and state (R, start)"
 unfoldable pub opening-closed : Program → Tables → Bool
 opening-closed p t =
-    all 0 (size p) (λ r. implies (eqb (tag p r) 11) (has (t .flow) (num p r) r)) &&
+    all 0 (size p) (λ r. implies (eqb (tag p r) tag-global) (has (t .flow) (num p r) r)) &&
     has-state t (state (size p) (start p))
 
 -- 8: "an opening entry missing: size F; else the first state that lacks something, its first column's word"

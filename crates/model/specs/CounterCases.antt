@@ -6,7 +6,7 @@ use mathlib.Core.List.{List, [], _∷_, _++_, map}
 use lib.ListN.{drop}
 use Rattle.model.specs.Index.{gather}
 use Rattle.model.specs.Rules.{from-all}
-use Rattle.model.specs.Cases.{Pairs, program-words, bad-words, table-words, bound-words, to-bytes}
+use Rattle.model.specs.Cases.{Pairs, program-words, bad-words, table-words, ceiling-words, to-bytes}
 use Rattle.model.specs.VerdictCases.{Verdict-case, at}
 
 -- receive { x -> 15 times p = spawn x; case x of { 15 times c0 -> x } }: 65 rows
@@ -36,7 +36,7 @@ unfoldable pub crowd-with : Pairs → List ℕ
 crowd-with states =
     to-bytes
     (program-words 16 1 0 crowd ++ bad-words 1 ((40, 65) ∷ (41, 1) ∷ (43, 2) ∷ (44, 0) ∷ []) ++
-    table-words ((0, 65) ∷ []) ((65, 65) ∷ []) states ++ bound-words 0 [])
+    table-words ((0, 65) ∷ []) ((65, 65) ∷ []) states ++ ceiling-words 0 [])
 
 unfoldable pub counter-cases : List Verdict-case
 counter-cases =

@@ -10,7 +10,7 @@ use lib.ListN.{length, take, getD, replicate}
 use Rattle.model.specs.declared.Sizes.{Sizes}
 use Rattle.model.specs.declared.Verdict.the-variants.{Safe}
 use Rattle.model.specs.Limits.{maxRows, maxNames, maxConstructors, maxFunctions, maxBads, minBadRows, maxBadRows}
-use Rattle.model.specs.Limits.{maxFlows, maxMails, maxStates, maxBounds, maxBoundEntries, maxCounters}
+use Rattle.model.specs.Limits.{maxFlows, maxMails, maxStates, maxCeilings, maxCeilingEntries, maxCounters}
 use Rattle.model.specs.Limits.{omega-limit}
 use Rattle.model.specs.Words.{Columns, left, right}
 use Rattle.model.specs.Message.{end-at}
@@ -29,7 +29,7 @@ use Rattle.model.specs.Counters.{counter-count}
 use Rattle.model.specs.Rules.{Rule, rules}
 use Rattle.model.specs.Listing.{system-words, written, listed-rules}
 use Rattle.model.specs.Markings.{Marking, usable, fire, initial, fire-all, count-in}
-use Rattle.model.specs.Bounds.{Bounds, bound-entries, bound-step, bounds-of}
+use Rattle.model.specs.Ceilings.{Ceilings, ceiling-entries, ceiling-step, ceilings-ahead}
 use Rattle.model.specs.Verify.{Message, message, verdict, lent-after, part-handed}
 
 -- the bytes of a message are bytes: every list that a slice of bytes holds is so
@@ -54,12 +54,12 @@ pub record Within-limits (s : Sizes) : Type 0 where
   pub constructors : s .constructors ≤ maxConstructors
   pub functions : s .functions ≤ maxFunctions
   pub bads : Between 1 maxBads (s .bads)
-  pub conditions : Between minBadRows maxBadRows (s .conditions)
+  pub badrows : Between minBadRows maxBadRows (s .badrows)
   pub flows : s .flows ≤ maxFlows
   pub mails : s .mails ≤ maxMails
   pub states : s .states ≤ maxStates
-  pub bounds : s .bounds ≤ maxBounds
-  pub limits : s .limits ≤ maxBoundEntries
+  pub ceilings : s .ceilings ≤ maxCeilings
+  pub entries : s .entries ≤ maxCeilingEntries
 
 -- "the program is well formed": its rows fit, each name below V is bound in one place, each name read is in scope
 pub record Well-formed (p : Program) : Type 0 where
@@ -87,16 +87,16 @@ pub record In-form (m : Message) : Type 0 where
   pub flow : Listed (is-name (m .program)) (is-value (m .program)) (m .tables .flow)
   pub mail : Listed (is-class (m .program)) (is-value (m .program)) (m .tables .mail)
   pub states : Listed (is-class (m .program)) (λ r. is-head (tag (m .program) r)) (m .tables .states)
-  pub bounds :
-      first-wrong (bound-step (m .bounds .counters)) (bound-entries (m .words) (m .sizes))
-      (bounds-of (m .sizes .bounds)) ≡ none
+  pub ceilings :
+      first-wrong (ceiling-step (m .ceilings .counters)) (ceiling-entries (m .words) (m .sizes))
+      (ceilings-ahead (m .sizes .ceilings)) ≡ none
 
 -- "Counts lie under a ceiling when each is at most its limit there, or that is unbounded"
-abbrev pub Under : Bounds → ℕ → Marking → Type 0
+abbrev pub Under : Ceilings → ℕ → Marking → Type 0
 Under bs k m = (x : ℕ) → x < bs .counters → (bs .limit k x ≡ omega-limit) ⊎ (m x ≤ bs .limit k x)
 
 -- under one of the ceilings
-abbrev pub Under-one : Bounds → Marking → Type 0
+abbrev pub Under-one : Ceilings → Marking → Type 0
 Under-one bs m = (k : ℕ) × (k < bs .size) × Under bs k m
 
 -- bad number j is met by the counts
@@ -105,11 +105,12 @@ Met m counts j = All-met (count-in (m .program) (m .tables) counts) (m .bads) j
 
 -- "the counts under the ceilings contain the start, are kept by each derived rule and meet no named bad count"
 pub record Inductive (m : Message) : Type 0 where
-  pub contain-start : Under-one (m .bounds) (initial (m .program) (m .tables))
+  pub contain-start : Under-one (m .ceilings) (initial (m .program) (m .tables))
   pub kept :
-      (counts : Marking) (ρ : Rule) → Under-one (m .bounds) counts → List·Memᴰ ρ (rules (m .program) (m .tables)) →
-      usable ρ counts ≡ true → Under-one (m .bounds) (fire ρ counts)
-  pub meet-no-bad : (counts : Marking) (j : ℕ) → Under-one (m .bounds) counts → j < m .sizes .bads → Met m counts j → ⊥
+      (counts : Marking) (ρ : Rule) → Under-one (m .ceilings) counts → List·Memᴰ ρ (rules (m .program) (m .tables)) →
+      usable ρ counts ≡ true → Under-one (m .ceilings) (fire ρ counts)
+  pub meet-no-bad :
+      (counts : Marking) (j : ℕ) → Under-one (m .ceilings) counts → j < m .sizes .bads → Met m counts j → ⊥
 
 -- everything that a safe message has
 pub record Sound (bytes : List ℕ) (lent : ℕ) : Type 0 where
@@ -156,7 +157,7 @@ pub record Together (m : Message) (numbers : List ℕ) (options : List (Option R
   pub counts : Marking
   pub is-run : fire-all (used options) (initial (m .program) (m .tables)) ≡ some counts
   pub equal : Equal-counts m (run (m .program) numbers) counts
-  pub bounded : Under-one (m .bounds) counts
+  pub bounded : Under-one (m .ceilings) counts
   pub no-bad : (j : ℕ) → j < m .sizes .bads → Met m counts j → ⊥
 
 -- the whole list, with its rules: at the start and after each number

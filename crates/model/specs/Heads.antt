@@ -5,9 +5,11 @@ use mathlib.Core.List.{List, [], _∷_}
 use mathlib.Core.Option.{Option}
 use lib.ListN.{take, drop}
 use lib.Dec.{ltb, eqb}
+use Rattle.model.specs.Tags.{tag-function, tag-spawn, tag-global}
 use Rattle.model.specs.Index.{last}
 use Rattle.model.specs.Limits.{maxDepth}
-use Rattle.model.specs.Rows.{Program, size, tag, num, kind, header, expression, pattern, body-form, branch, arity, declarations, past-items}
+use Rattle.model.specs.Rows.{Program, size, tag, num, kind, header, expression, pattern, body-form, branch, arity}
+use Rattle.model.specs.Rows.{declarations, past-items}
 use Rattle.model.specs.Rows.{give, build, function, call, send, spawn, self, case, receive, other}
 use Rattle.model.specs.Scopes.{rest}
 
@@ -72,7 +74,7 @@ branch-body p q = past-items p (pattern maxDepth ∷ []) q
 
 -- a function is a row with tag 3 or 11
 unfoldable pub is-function : Program → ℕ → Bool
-is-function p f = eqb (tag p f) 3 || eqb (tag p f) 11
+is-function p f = eqb (tag p f) tag-function || eqb (tag p f) tag-global
 
 -- of the function at row f: its parameters' names and its body's expression
 unfoldable pub parameters : Program → ℕ → List ℕ
@@ -95,4 +97,4 @@ start p = past-items p (declarations p) 0
 
 -- "A class is a spawn row, or R for the starting process"
 unfoldable pub is-class : Program → ℕ → Bool
-is-class p c = eqb (tag p c) 6 || eqb c (size p)
+is-class p c = eqb (tag p c) tag-spawn || eqb c (size p)

@@ -3,6 +3,7 @@ use Prim.Native.Nat.{ℕ, _+_}
 use mathlib.Core.Bool.{Bool, true, false, _&&_}
 use mathlib.Core.List.{List, [], _∷_}
 use lib.Dec.{eqb}
+use Rattle.model.specs.Tags.{tag-build}
 use Rattle.model.specs.Rows.{Program, tag, num}
 use Rattle.model.specs.Heads.{is-function}
 use Rattle.model.specs.Values.{Value, closure, built, address, Process, Processes}
@@ -26,7 +27,7 @@ letters p = p .constructors + 2
 -- of a value of the tables: "a row with tag 2, 3 or 11, or a class (a process address)"
 unfoldable pub row-shape : Program → ℕ → Shape
 row-shape p v =
-    elim (eqb (tag p v) 2) [
+    elim (eqb (tag p v) tag-build) [
       | true ↦ constructed (num p (v + 1))
       | false ↦ elim (is-function p v) [ true ↦ functional | false ↦ addressed ]
     ]

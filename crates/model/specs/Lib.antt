@@ -1,4 +1,5 @@
 pub mod Limits
+pub mod Tags
 pub mod Index
 pub mod Words
 pub mod Verdict
@@ -20,7 +21,7 @@ pub mod Counters
 pub mod Rules
 pub mod Listing
 pub mod Markings
-pub mod Bounds
+pub mod Ceilings
 pub mod Verify
 pub mod Cases
 pub mod Shown

@@ -41,12 +41,12 @@ abbrev pub maxStates : ℕ
 maxStates = 512
 
 -- K to 256
-abbrev pub maxBounds : ℕ
-maxBounds = 256
+abbrev pub maxCeilings : ℕ
+maxCeilings = 256
 
 -- ceiling entries to 8,192
-abbrev pub maxBoundEntries : ℕ
-maxBoundEntries = 8192
+abbrev pub maxCeilingEntries : ℕ
+maxCeilingEntries = 8192
 
 -- counters to 512
 abbrev pub maxCounters : ℕ

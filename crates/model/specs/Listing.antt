@@ -5,6 +5,7 @@ use mathlib.Core.List.{List, [], _∷_, _++_, map}
 use lib.ListN.{length, getD, drop}
 use lib.Dec.{leb, eqb}
 use Rattle.model.specs.declared.Verdict.the-variants.{Space}
+use Rattle.model.specs.Tags.{tag-from, tag-to, tag-reads, tag-puts, tag-starts}
 use Rattle.model.specs.Verdict.{Check, unless}
 use Rattle.model.specs.Words.{Columns, left, right, columns}
 use Rattle.model.specs.Rows.{Program}
@@ -23,13 +24,13 @@ line t n = record { tag = t; number = n }
 -- "nothing, (52, letter counter read), (53, letter counter put) or (54, new state)"
 unfoldable pub effect-lines : Effect → List Line
 effect-lines quiet = []
-effect-lines (reads x) = line 52 x ∷ []
-effect-lines (puts x) = line 53 x ∷ []
-effect-lines (starts x) = line 54 x ∷ []
+effect-lines (reads x) = line tag-reads x ∷ []
+effect-lines (puts x) = line tag-puts x ∷ []
+effect-lines (starts x) = line tag-starts x ∷ []
 
 -- "A rule is (50, from), (51, to), then ..."
 unfoldable pub rule-lines : Rule → List Line
-rule-lines ρ = line 50 (ρ .from) ∷ line 51 (ρ .to) ∷ effect-lines (ρ .effect)
+rule-lines ρ = line tag-from (ρ .from) ∷ line tag-to (ρ .to) ∷ effect-lines (ρ .effect)
 
 -- "Written as 32-bit words S, letters, rules, rows, then tags, then numbers"
 unfoldable pub listing : ℕ → ℕ → List Rule → List ℕ
@@ -54,12 +55,12 @@ listed-rows ws = columns ws (getD ws 3 0) 4 (4 + getD ws 3 0)
 
 unfoldable pub effect-at : Columns → ℕ → Effect
 effect-at rows r =
-    elim (eqb (left rows r) 52) [
+    elim (eqb (left rows r) tag-reads) [
       | true ↦ reads (right rows r)
       | false ↦
-          elim (eqb (left rows r) 53) [
+          elim (eqb (left rows r) tag-puts) [
             | true ↦ puts (right rows r)
-            | false ↦ elim (eqb (left rows r) 54) [ true ↦ starts (right rows r) | false ↦ quiet ]
+            | false ↦ elim (eqb (left rows r) tag-starts) [ true ↦ starts (right rows r) | false ↦ quiet ]
           ]
     ]
 
@@ -67,7 +68,7 @@ effect-at rows r =
 unfoldable pub rules-from : Columns → ℕ → ℕ → List Rule
 rules-from rows zero r = []
 rules-from rows (suc n) r =
-    elim (eqb (left rows r) 50) [
+    elim (eqb (left rows r) tag-from) [
       | true ↦ rule (right rows r) (right rows (r + 1)) (effect-at rows (r + 2)) ∷ rules-from rows n (r + 1)
       | false ↦ rules-from rows n (r + 1)
     ]

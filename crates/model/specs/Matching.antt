@@ -4,6 +4,7 @@ use mathlib.Core.Bool.{true, false}
 use mathlib.Core.List.{List, [], _∷_}
 use mathlib.Core.Option.{Option, some, none}
 use lib.Dec.{eqb}
+use Rattle.model.specs.Tags.{tag-pattern-name, tag-pattern-constructor, tag-pattern-any}
 use Rattle.model.specs.Rows.{Program, size, tag, num}
 use Rattle.model.specs.Heads.{branch-body}
 use Rattle.model.specs.Values.{Value, closure, built, address, Bindings, empty, bind, join}
@@ -22,13 +23,13 @@ match-rows p zero q empty held = some held
 match-rows p zero q (bind m v vs) held = none
 match-rows p (suc n) q empty held = some held
 match-rows p (suc n) q (bind m v vs) held =
-    elim (eqb (tag p q) 31) [
+    elim (eqb (tag p q) tag-pattern-constructor) [
       | true ↦ elim
           (arguments-of (num p q) v) [ none ↦ none | some inner ↦ match-rows p n (q + 1) (join inner vs) held ]
       | false ↦
-          elim (eqb (tag p q) 30) [
+          elim (eqb (tag p q) tag-pattern-name) [
             | true ↦ match-rows p n (q + 1) vs (bind (num p q) v held)
-            | false ↦ elim (eqb (tag p q) 32) [ true ↦ match-rows p n (q + 1) vs held | false ↦ none ]
+            | false ↦ elim (eqb (tag p q) tag-pattern-any) [ true ↦ match-rows p n (q + 1) vs held | false ↦ none ]
           ]
     ]
 

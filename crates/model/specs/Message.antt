@@ -8,7 +8,8 @@ use lib.ListN.{length, getD}
 use lib.Dec.{leb}
 use Rattle.model.specs.declared.Sizes.{Sizes}
 use Rattle.model.specs.declared.Verdict.the-variants.{Length, Size}
-use Rattle.model.specs.Limits.{maxRows, maxNames, maxConstructors, maxFunctions, maxBads, minBadRows, maxBadRows, maxFlows, maxMails, maxStates, maxBounds, maxBoundEntries}
+use Rattle.model.specs.Limits.{maxRows, maxNames, maxConstructors, maxFunctions, maxBads, minBadRows, maxBadRows}
+use Rattle.model.specs.Limits.{maxFlows, maxMails, maxStates, maxCeilings, maxCeilingEntries}
 use Rattle.model.specs.Words.{words}
 use Rattle.model.specs.Verdict.{Check, _>>_, unless}
 
@@ -20,21 +21,21 @@ bads-from rows = 4 + 2 * rows
 abbrev pub tables-from : ℕ → ℕ → ℕ
 tables-from rows bad-rows = bads-from rows + 2 + 2 * bad-rows
 
-abbrev pub bounds-from : ℕ → ℕ → ℕ → ℕ
-bounds-from rows bad-rows entries = tables-from rows bad-rows + 3 + 2 * entries
+abbrev pub ceilings-from : ℕ → ℕ → ℕ → ℕ
+ceilings-from rows bad-rows entries = tables-from rows bad-rows + 3 + 2 * entries
 
 unfoldable pub bads-at : Sizes → ℕ
 bads-at s = bads-from (s .rows)
 
 unfoldable pub tables-at : Sizes → ℕ
-tables-at s = tables-from (s .rows) (s .conditions)
+tables-at s = tables-from (s .rows) (s .badrows)
 
-unfoldable pub bounds-at : Sizes → ℕ
-bounds-at s = bounds-from (s .rows) (s .conditions) (s .flows + s .mails + s .states)
+unfoldable pub ceilings-at : Sizes → ℕ
+ceilings-at s = ceilings-from (s .rows) (s .badrows) (s .flows + s .mails + s .states)
 
 -- "the word past the ceilings"
 unfoldable pub end-at : Sizes → ℕ
-end-at s = bounds-at s + 2 + 2 * s .limits
+end-at s = ceilings-at s + 2 + 2 * s .entries
 
 -- "Program: R rows, V names, C constructors, G functions. Bads: B bads, E rows. Tables: F flow, M mail, S state
 -- entries. Ceilings: K ceilings, E entries": a size that is not there reads as 0
@@ -44,19 +45,19 @@ sizes ws =
     let b : ℕ = bads-from rows in
     let bad-rows : ℕ = getD ws (b + 1) 0 in
     let t : ℕ = tables-from rows bad-rows in
-    let k : ℕ = bounds-from rows bad-rows (getD ws t 0 + getD ws (t + 1) 0 + getD ws (t + 2) 0) in
+    let k : ℕ = ceilings-from rows bad-rows (getD ws t 0 + getD ws (t + 1) 0 + getD ws (t + 2) 0) in
     record {
       rows = rows;
       names = getD ws 1 0;
       constructors = getD ws 2 0;
       functions = getD ws 3 0;
       bads = getD ws b 0;
-      conditions = bad-rows;
+      badrows = bad-rows;
       flows = getD ws t 0;
       mails = getD ws (t + 1) 0;
       states = getD ws (t + 2) 0;
-      bounds = getD ws k 0;
-      limits = getD ws (k + 1) 0;
+      ceilings = getD ws k 0;
+      entries = getD ws (k + 1) 0;
     }
 
 -- a size and its limits, both allowed
@@ -89,25 +90,25 @@ program-sizes s =
     limited (s .functions) 0 maxFunctions ∷ []
 
 abbrev pub bads-sizes : Sizes → List Limited
-bads-sizes s = limited (s .bads) 1 maxBads ∷ limited (s .conditions) minBadRows maxBadRows ∷ []
+bads-sizes s = limited (s .bads) 1 maxBads ∷ limited (s .badrows) minBadRows maxBadRows ∷ []
 
 abbrev pub tables-sizes : Sizes → List Limited
 tables-sizes s = limited (s .flows) 0 maxFlows ∷ limited (s .mails) 0 maxMails ∷ limited (s .states) 0 maxStates ∷ []
 
-abbrev pub bounds-sizes : Sizes → List Limited
-bounds-sizes s = limited (s .bounds) 0 maxBounds ∷ limited (s .limits) 0 maxBoundEntries ∷ []
+abbrev pub ceilings-sizes : Sizes → List Limited
+ceilings-sizes s = limited (s .ceilings) 0 maxCeilings ∷ limited (s .entries) 0 maxCeilingEntries ∷ []
 
 unfoldable pub program-part : List ℕ → Sizes → Check
 program-part ws s = part-check ws 0 (program-sizes s) (s .rows)
 
 unfoldable pub bads-part : List ℕ → Sizes → Check
-bads-part ws s = part-check ws (bads-at s) (bads-sizes s) (s .conditions)
+bads-part ws s = part-check ws (bads-at s) (bads-sizes s) (s .badrows)
 
 unfoldable pub tables-part : List ℕ → Sizes → Check
 tables-part ws s = part-check ws (tables-at s) (tables-sizes s) (s .flows + s .mails + s .states)
 
-unfoldable pub bounds-part : List ℕ → Sizes → Check
-bounds-part ws s = part-check ws (bounds-at s) (bounds-sizes s) (s .limits)
+unfoldable pub ceilings-part : List ℕ → Sizes → Check
+ceilings-part ws s = part-check ws (ceilings-at s) (ceilings-sizes s) (s .entries)
 
 -- 1: "bytes remain: the word past the ceilings"
 unfoldable pub nothing-left : List ℕ → Sizes → Check
@@ -118,4 +119,4 @@ unfoldable pub parts-check : List ℕ → Check
 parts-check bytes =
     let ws : List ℕ = words bytes in
     let s : Sizes = sizes ws in
-    program-part ws s >> (bads-part ws s >> (tables-part ws s >> (bounds-part ws s >> nothing-left bytes s)))
+    program-part ws s >> (bads-part ws s >> (tables-part ws s >> (ceilings-part ws s >> nothing-left bytes s)))

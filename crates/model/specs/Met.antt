@@ -7,6 +7,7 @@ use mathlib.Core.Logic.{_↔_}
 use mathlib.Core.Option.{none}
 use lib.ListN.{replicate}
 use lib.Dec.{eqb}
+use Rattle.model.specs.Tags.{tag-bad-end}
 use Rattle.model.specs.Index.{count}
 use Rattle.model.specs.Words.{Columns, left, right}
 use Rattle.model.specs.Reader.{first-wrong}
@@ -25,7 +26,7 @@ pub data Item (rows : Columns) (r : ℕ) : Counted → ℕ → Type 0 where
 
 -- "then (44, 0)" closes a bad: a row is of bad number j where so many bads are closed before it
 unfoldable pub closed-before : Columns → ℕ → ℕ
-closed-before rows r = count 0 r (λ q. eqb (left rows q) 44)
+closed-before rows r = count 0 r (λ q. eqb (left rows q) tag-bad-end)
 
 -- "it is met when every item is, an item when its count is at least its minimum"
 abbrev pub All-met : (Counted → ℕ) → Columns → ℕ → Type 0

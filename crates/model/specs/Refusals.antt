@@ -13,8 +13,8 @@ use Rattle.model.specs.declared.Verdict.the-variants.{Safe, Length, Size
 use Rattle.model.specs.declared.Verdict.the-variants.{Counters, Ceiling, Start, Met, Leak, Space}
 use Rattle.model.specs.Limits.{maxCounters}
 use Rattle.model.specs.Words.{Columns, left, right}
-use Rattle.model.specs.Message.{bads-at, tables-at, bounds-at, end-at, Limited, program-sizes, bads-sizes}
-use Rattle.model.specs.Message.{tables-sizes, bounds-sizes}
+use Rattle.model.specs.Message.{bads-at, tables-at, ceilings-at, end-at, Limited, program-sizes, bads-sizes}
+use Rattle.model.specs.Message.{tables-sizes, ceilings-sizes}
 use Rattle.model.specs.Reader.{Grammar, first-wrong}
 use Rattle.model.specs.Rows.{Program, size, tag, num, is-head, is-name, step, whole}
 use Rattle.model.specs.Scopes.{binds, uses, binds-name, in-scope}
@@ -25,7 +25,7 @@ use Rattle.model.specs.Counters.{counter-count}
 use Rattle.model.specs.Rules.{Rule, rules}
 use Rattle.model.specs.Listing.{system-words}
 use Rattle.model.specs.Markings.{Marking, usable, fire, initial}
-use Rattle.model.specs.Bounds.{Bounds, bound-entries, bound-step, bounds-of, bound-entry}
+use Rattle.model.specs.Ceilings.{Ceilings, ceiling-entries, ceiling-step, ceilings-ahead, ceiling-entry}
 use Rattle.model.specs.Verify.{Message, message, verdict}
 use Rattle.model.specs.Wanted.{Present, Wanted-first, Wanted-by, Closed}
 use Rattle.model.specs.Wanted.{Entry as Table-entry}
@@ -52,9 +52,9 @@ pub record Message-part : Type 0 where
 abbrev pub parts : Sizes → List Message-part
 parts s =
     record { first = 0; sizes = program-sizes s; elements = s .rows } ∷
-    record { first = bads-at s; sizes = bads-sizes s; elements = s .conditions } ∷
+    record { first = bads-at s; sizes = bads-sizes s; elements = s .badrows } ∷
     record { first = tables-at s; sizes = tables-sizes s; elements = s .flows + s .mails + s .states } ∷
-    record { first = bounds-at s; sizes = bounds-sizes s; elements = s .limits } ∷ []
+    record { first = ceilings-at s; sizes = ceilings-sizes s; elements = s .entries } ∷ []
 
 abbrev pub Within : Limited → Type 0
 Within l = Between (l .least) (l .most) (l .size)
@@ -118,10 +118,10 @@ Lacks p t c at = (e : Table-entry) × Wanted-by p t c at e × (Present t e → �
 
 -- For 12: counts under a ceiling meet bad j
 abbrev pub Allowed : Message → ℕ → Type 0
-Allowed m j = (counts : Marking) × Under-one (m .bounds) counts × Meets m counts j
+Allowed m j = (counts : Marking) × Under-one (m .ceilings) counts × Meets m counts j
 
 -- For 13: from counts under ceiling k a rule leads out of all ceilings
-pub record Leaks (bs : Bounds) (ρs : List Rule) (k : ℕ) : Type 0 where
+pub record Leaks (bs : Ceilings) (ρs : List Rule) (k : ℕ) : Type 0 where
   pub counts : Marking
   pub under : Under bs k counts
   pub rule : Rule
@@ -145,8 +145,8 @@ module _ (bytes : List ℕ) where
   abbrev t : Tables
   t = m .tables
 
-  abbrev bs : Bounds
-  bs = m .bounds
+  abbrev bs : Ceilings
+  bs = m .ceilings
 
   abbrev No-name-again : Type 0
   No-name-again = (r : ℕ) → r < size p → Bound-again p r → ⊥
@@ -168,8 +168,9 @@ module _ (bytes : List ℕ) where
         Passed 7 → Flow-listed → Mail-listed → Listed (is-class p) (λ r. is-head (tag p r)) (t .states) → Passed 8
     closed-passed : Passed 8 → Closed p t → Passed 9
     counters-passed : Passed 9 → counter-count p t ≤ maxCounters → Passed 10
-    bounds-passed :
-        Passed 10 → first-wrong (bound-step (bs .counters)) (bound-entries ws s) (bounds-of (s .bounds)) ≡ none →
+    ceilings-passed :
+        Passed 10 →
+        first-wrong (ceiling-step (bs .counters)) (ceiling-entries ws s) (ceilings-ahead (s .ceilings)) ≡ none →
         Passed 11
     start-passed : Passed 11 → Under-one bs (initial p t) → Passed 12
     bad-passed : Passed 12 → ((j : ℕ) → j < s .bads → Allowed m j → ⊥) → Passed 13
@@ -224,10 +225,11 @@ module _ (bytes : List ℕ) where
     -- 10 ceiling: "form, or not K ceilings: first such entry's counter number, an entry after K ceilings included;
     -- entries ending early: the word past the counter numbers"
     ceiling-wrong :
-        (e : ℕ) → Passed 10 → Wrong (bound-step (bs .counters)) (bound-entries ws s) (bounds-of (s .bounds)) e →
-        Refused lent (Ceiling (bounds-at s + 2 + e))
+        (e : ℕ) → Passed 10 →
+        Wrong (ceiling-step (bs .counters)) (ceiling-entries ws s) (ceilings-ahead (s .ceilings)) e →
+        Refused lent (Ceiling (ceilings-at s + 2 + e))
     -- 11 start: "under no ceiling: size K"
-    start-outside : Passed 11 → (Under-one bs (initial p t) → ⊥) → Refused lent (Start (bounds-at s))
+    start-outside : Passed 11 → (Under-one bs (initial p t) → ⊥) → Refused lent (Start (ceilings-at s))
     -- 12 met: "a ceiling allows a bad: that first bad's first tag"
     bad-met :
         (j : ℕ) → Passed 12 → First-such (s .bads) (Allowed m) j →
@@ -235,7 +237,7 @@ module _ (bytes : List ℕ) where
     -- 13 leak: "from counts under a ceiling, a rule leads out of all ceilings: the first such ceiling's first entry"
     ceiling-left :
         (k : ℕ) → Passed 13 → First-such (bs .size) (Leaks bs (rules p t)) k →
-        Refused lent (Leak (bounds-at s + 2 + bound-entry (bs .counters) (bound-entries ws s) k))
+        Refused lent (Leak (ceilings-at s + 2 + ceiling-entry (bs .counters) (ceiling-entries ws s) k))
     -- 14 space: "system words exceed the lent slice: the words needed"
     no-space : Passed 14 → lent < length (system-words p t) → Refused lent (Space (length (system-words p t)))
 

@@ -8,6 +8,8 @@ use lib.Dec.{leb, ltb, eqb}
 use Rattle.model.specs.declared.Sizes.{Sizes}
 use Rattle.model.specs.declared.Verdict.the-variants.{Row}
 use Rattle.model.specs.Limits.{maxArity, maxBranches, maxDepth}
+use Rattle.model.specs.Tags.{tag-constructor, tag-global, tag-made, tag-operand, tag-count, tag-parameter}
+use Rattle.model.specs.Tags.{tag-branches, tag-pattern-name, tag-pattern-constructor, tag-pattern-any}
 use Rattle.model.specs.Words.{Columns, left, right, columns}
 use Rattle.model.specs.Verdict.{Check}
 use Rattle.model.specs.Reader.{Grammar, fits, read, after, first-wrong}
@@ -118,21 +120,21 @@ expression-step p t n =
 -- most
 unfoldable pub pattern-step : Program → ℕ → ℕ → ℕ → Option (List Item)
 pattern-step p d t n =
-    elim (eqb t 31) [
+    elim (eqb t tag-pattern-constructor) [
       | true ↦ fits (leb 1 d && ltb n (p .constructors)) (replicate (arity p n) (pattern (d - 1)))
-      | false ↦ fits (leb 1 d && (eqb t 30 && is-name p n || eqb t 32 && eqb n 0)) []
+      | false ↦ fits (leb 1 d && (eqb t tag-pattern-name && is-name p n || eqb t tag-pattern-any && eqb n 0)) []
     ]
 
 unfoldable pub step : Program → Grammar Item
-step p constructor t n = fits (eqb t 10 && leb n maxArity) []
-step p global t n = fits (eqb t 11 && is-name p n) body-form
-step p header t n = fits (eqb t 22 && leb n maxArity) (replicate n parameter)
-step p parameter t n = fits (eqb t 23 && is-name p n) []
+step p constructor t n = fits (eqb t tag-constructor && leb n maxArity) []
+step p global t n = fits (eqb t tag-global && is-name p n) body-form
+step p header t n = fits (eqb t tag-count && leb n maxArity) (replicate n parameter)
+step p parameter t n = fits (eqb t tag-parameter && is-name p n) []
 step p expression t n = expression-step p t n
-step p made t n = fits (eqb t 20 && ltb n (p .constructors)) (replicate (arity p n) operand)
-step p operand t n = fits (eqb t 21 && is-name p n) []
-step p arguments t n = fits (eqb t 22 && leb n maxArity) (replicate n operand)
-step p branches t n = fits (eqb t 25 && is-branch-count n) (branch-items n)
+step p made t n = fits (eqb t tag-made && ltb n (p .constructors)) (replicate (arity p n) operand)
+step p operand t n = fits (eqb t tag-operand && is-name p n) []
+step p arguments t n = fits (eqb t tag-count && leb n maxArity) (replicate n operand)
+step p branches t n = fits (eqb t tag-branches && is-branch-count n) (branch-items n)
 step p (pattern d) t n = pattern-step p d t n
 
 -- "First C rows (10, arity). Then G functions: (11, name bound), then a body form."

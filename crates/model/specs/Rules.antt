@@ -7,7 +7,8 @@ use lib.Dec.{eqb}
 use Rattle.model.specs.Index.{gather, only}
 use Rattle.model.specs.Words.{Columns, left, right}
 use Rattle.model.specs.Rows.{Program, size}
-use Rattle.model.specs.Heads.{call-at, head-at, gives, builds, makes, calls, sends, spawns, selfs, cases, receives, no-head, branch-body, is-class, body, takes, innermost}
+use Rattle.model.specs.Heads.{call-at, head-at, gives, builds, makes, calls, sends, spawns, selfs, cases}
+use Rattle.model.specs.Heads.{receives, no-head, branch-body, is-class, body, takes, innermost}
 use Rattle.model.specs.Letters.{letters, row-letter}
 use Rattle.model.specs.Tables.{Tables, some-of, State, state, state-at, state-index}
 use Rattle.model.specs.Closed.{may-take, returns-to}

@@ -5,8 +5,10 @@ use mathlib.Core.List.{List, [], _∷_, _++_}
 use mathlib.Core.Option.{Option, some, none}
 use lib.ListN.{length, getElem?, set}
 use Rattle.model.specs.Rows.{Program, size}
-use Rattle.model.specs.Heads.{call-at, head-at, gives, builds, makes, calls, sends, spawns, selfs, cases, receives, no-head, parameters, body, takes, start}
-use Rattle.model.specs.Values.{Value, closure, built, address, Bindings, empty, bind, value-of, values-of, bind-all, Frame, Process, process, Processes}
+use Rattle.model.specs.Heads.{call-at, head-at, gives, builds, makes, calls, sends, spawns, selfs, cases}
+use Rattle.model.specs.Heads.{receives, no-head, parameters, body, takes, start}
+use Rattle.model.specs.Values.{Value, closure, built, address, Bindings, empty, bind, value-of, values-of}
+use Rattle.model.specs.Values.{bind-all, Frame, Process, process, Processes}
 use Rattle.model.specs.Matching.{first-branch, receive-from}
 
 unfoldable pub _>>=_ : {A B : Type 0} → Option A → (A → Option B) → Option B

@@ -869,5 +869,9 @@ run-cases =
 
 -- the definitions above opened at once, for the theorems that compute the table
 unfoldable pub run-cases-opens : Unit {0}
-unfolding one-message three-letters passed-over any-branch both-branches case-branches half-match deep-pattern fresh-names yields-message kept-bindings global-function closure-over-closure callees-bindings callers-bindings arguments-in-order pushed-calls calls-itself endless receives-inside spawned two-of-one-row numbers-as-spawned own-address function-sent sent-on waits no-target wrong-count no-spawn no-match other-values arguments-kept run-stations run-cases
+unfolding one-message three-letters passed-over any-branch both-branches case-branches half-match deep-pattern
+    fresh-names yields-message kept-bindings global-function closure-over-closure callees-bindings callers-bindings
+    arguments-in-order pushed-calls calls-itself endless receives-inside spawned two-of-one-row numbers-as-spawned
+    own-address function-sent sent-on waits no-target wrong-count no-spawn no-match other-values arguments-kept
+    run-stations run-cases
 run-cases-opens = tt

@@ -5,17 +5,19 @@ use mathlib.Core.List.{[], _∷_}
 use mathlib.Core.Option.{none}
 use lib.Dec.{leb, ltb, eqb}
 use Rattle.model.specs.declared.Verdict.the-variants.{Name, Scope}
+use Rattle.model.specs.Tags.{tag-give, tag-build, tag-self, tag-case, tag-global, tag-operand, tag-parameter}
+use Rattle.model.specs.Tags.{tag-pattern-name}
 use Rattle.model.specs.Index.{any, all, first}
 use Rattle.model.specs.Verdict.{Check, _>>_, unless}
 use Rattle.model.specs.Rows.{Program, size, tag, num, kind, is-head, lead, expression, past-items}
 
 -- "name bound": the rows with tags 2 to 7, 11, 23 and 30
 unfoldable pub binds : ℕ → Bool
-binds t = leb 2 t && leb t 7 || (eqb t 11 || (eqb t 23 || eqb t 30))
+binds t = leb tag-build t && leb t tag-self || (eqb t tag-global || (eqb t tag-parameter || eqb t tag-pattern-name))
 
 -- "name read": the rows with tags 1, 8 and 21
 unfoldable pub uses : ℕ → Bool
-uses t = eqb t 1 || (eqb t 8 || eqb t 21)
+uses t = eqb t tag-give || (eqb t tag-case || eqb t tag-operand)
 
 -- row r binds the name n
 unfoldable pub binds-name : Program → ℕ → ℕ → Bool
@@ -52,7 +54,7 @@ holds-in p b = elim (is-head (tag p b)) [ true ↦ rest p b | false ↦ next-hea
 -- "Tag 11 names hold everywhere", others from the head to the end of that expression
 unfoldable pub in-scope : Program → ℕ → ℕ → Bool
 in-scope p b r =
-    eqb (tag p b) 11 || (leb (holds-in p b) r && ltb r (past-items p (expression ∷ []) (holds-in p b)))
+    eqb (tag p b) tag-global || (leb (holds-in p b) r && ltb r (past-items p (expression ∷ []) (holds-in p b)))
 
 -- row r reads a name outside its scope
 unfoldable pub out-of-scope : Program → ℕ → Bool

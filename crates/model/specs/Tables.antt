@@ -5,6 +5,7 @@ use mathlib.Core.List.{List}
 use lib.Dec.{ltb, eqb}
 use Rattle.model.specs.declared.Sizes.{Sizes}
 use Rattle.model.specs.declared.Verdict.the-variants.{Entry}
+use Rattle.model.specs.Tags.{tag-build}
 use Rattle.model.specs.Index.{implies, any, all, first}
 use Rattle.model.specs.Words.{Columns, left, right, columns}
 use Rattle.model.specs.Verdict.{Check, _>>_, unless}
@@ -33,7 +34,7 @@ tables ws s =
 
 -- "A value is a row with tag 2, 3 or 11, or a class (a process address)"
 unfoldable pub is-value : Program → ℕ → Bool
-is-value p v = eqb (tag p v) 2 || (is-function p v || is-class p v)
+is-value p v = eqb (tag p v) tag-build || (is-function p v || is-class p v)
 
 -- entry i is above the one before in its list
 unfoldable pub ascends : Columns → ℕ → Bool

@@ -4,6 +4,7 @@ use mathlib.Core.Bool.{true, false, _&&_}
 use mathlib.Core.List.{List, [], _∷_}
 use mathlib.Core.Option.{Option, some, none}
 use lib.Dec.{ltb, eqb}
+use Rattle.model.specs.Tags.{tag-global}
 use Rattle.model.specs.Index.{first}
 use Rattle.model.specs.Rows.{Program, size, tag, num}
 
@@ -26,7 +27,7 @@ lookup (bind m v held) n = elim (eqb m n) [ true ↦ some v | false ↦ lookup h
 
 -- the row with tag 11 that binds the name; R where none does
 unfoldable pub global-row : Program → ℕ → ℕ
-global-row p n = first 0 (size p) (λ r. eqb (tag p r) 11 && eqb (num p r) n)
+global-row p n = first 0 (size p) (λ r. eqb (tag p r) tag-global && eqb (num p r) n)
 
 -- What a name holds. "A tag 11 name yields its own row's function in every process, from the start on, with no
 -- bindings but such names."

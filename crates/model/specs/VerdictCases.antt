@@ -10,7 +10,7 @@ use mathlib.Core.List.{List, [], _∷_, _++_}
 use lib.ListN.{set}
 use Rattle.model.specs.Verdict.{number, place}
 use Rattle.model.specs.Verify.{verdict}
-use Rattle.model.specs.Cases.{Case, Pairs, program-words, bad-words, table-words, bound-words, to-bytes, safe}
+use Rattle.model.specs.Cases.{Case, Pairs, program-words, bad-words, table-words, ceiling-words, to-bytes, safe}
 
 -- the words with others in their places
 unfoldable pub changed : List ℕ → Pairs → List ℕ
@@ -68,8 +68,8 @@ ceilings-sizes-words =
     []
 
 -- Station A of document 01. Its words: sizes 0 to 3, tags 4 to 13, numbers 14 to 23; bads 24 and 25, tags 26 to 29,
--- numbers 30 to 33; tables 34 to 36, first columns 37 to 45, second columns 46 to 54; ceilings 55 and 56, counter numbers
--- 57 to 67, limits 68 to 78.
+-- numbers 30 to 33; tables 34 to 36, first columns 37 to 45, second columns 46 to 54; ceilings 55 and 56, counter
+-- numbers 57 to 67, limits 68 to 78.
 unfoldable pub station-a-program : List ℕ
 station-a-program =
     program-words 3 1 0
@@ -84,7 +84,7 @@ station-a-words =
     ((0, 10) ∷ (1, 2) ∷ (2, 2) ∷ [])
     ((10, 2) ∷ [])
     ((10, 1) ∷ (10, 2) ∷ (10, 4) ∷ (10, 7) ∷ (10, 9) ∷ []) ++
-    bound-words 5
+    ceiling-words 5
     ((0, 1) ∷ (6, 0) ∷ (1, 1) ∷ (6, 0) ∷ (2, 1) ∷ (6, 0) ∷ (3, 1) ∷ (5, 1) ∷ (6, 0) ∷ (4, 1) ∷ (6, 0) ∷ [])
 
 -- Station A with two bads, the second of two items: a message that waits, and a process at the receive.
@@ -103,7 +103,7 @@ two-bads-words =
     ((0, 10) ∷ (1, 2) ∷ (2, 2) ∷ [])
     ((10, 2) ∷ [])
     ((10, 1) ∷ (10, 2) ∷ (10, 4) ∷ (10, 7) ∷ (10, 9) ∷ []) ++
-    bound-words 5
+    ceiling-words 5
     ((0, 1) ∷ (6, 0) ∷ (1, 1) ∷ (6, 0) ∷ (2, 1) ∷ (6, 0) ∷ (3, 1) ∷ (5, 1) ∷ (6, 0) ∷ (4, 1) ∷ (6, 0) ∷ [])
 
 unfoldable pub two-bads-listing : List ℕ
@@ -112,7 +112,8 @@ two-bads-listing =
     (50 ∷ 51 ∷ 50 ∷ 51 ∷ 50 ∷ 51 ∷ 53 ∷ 50 ∷ 51 ∷ 52 ∷ []) ++
     (0 ∷ 1 ∷ 1 ∷ 2 ∷ 2 ∷ 3 ∷ 5 ∷ 3 ∷ 4 ∷ 5 ∷ [])
 
--- Station A with one ceiling that leaves every counter unbounded, and a bad that no function waits: limits are words 64 to 70.
+-- Station A with one ceiling that leaves every counter unbounded, and a bad that no function waits: limits are words
+-- 64 to 70.
 unfoldable pub unbounded-program : List ℕ
 unbounded-program =
     program-words 3 1 0
@@ -127,7 +128,7 @@ unbounded-words =
     ((0, 10) ∷ (1, 2) ∷ (2, 2) ∷ [])
     ((10, 2) ∷ [])
     ((10, 1) ∷ (10, 2) ∷ (10, 4) ∷ (10, 7) ∷ (10, 9) ∷ []) ++
-    bound-words 1
+    ceiling-words 1
     ((0, 65535) ∷ (1, 65535) ∷ (2, 65535) ∷ (3, 65535) ∷ (4, 65535) ∷ (5, 65535) ∷ (6, 0) ∷ [])
 
 -- Station A with a ceiling of any number of processes at the start, and one of 65,534 there and anything elsewhere.
@@ -145,7 +146,7 @@ one-taken-words =
     ((0, 10) ∷ (1, 2) ∷ (2, 2) ∷ [])
     ((10, 2) ∷ [])
     ((10, 1) ∷ (10, 2) ∷ (10, 4) ∷ (10, 7) ∷ (10, 9) ∷ []) ++
-    bound-words 2
+    ceiling-words 2
     ((0, 65535) ∷ (6, 0) ∷ (0, 65534) ∷ (1, 65535) ∷ (2, 65535) ∷ (3, 65535) ∷ (4, 65535) ∷ (5, 65535) ∷ (6, 0) ∷ [])
 
 -- A constructor of arity 8, built once.
@@ -164,7 +165,7 @@ arity-of-eight-words =
     []
     []
     [] ++
-    bound-words 0
+    ceiling-words 0
     []
 
 -- A function of 8 parameters.
@@ -183,7 +184,7 @@ eight-parameters-words =
     []
     []
     ((12, 11) ∷ []) ++
-    bound-words 0
+    ceiling-words 0
     []
 
 -- A call with 8 arguments of a function without parameters.
@@ -202,7 +203,7 @@ eight-arguments-words =
     ((0, 0) ∷ (1, 16) ∷ [])
     []
     ((16, 3) ∷ (16, 4) ∷ []) ++
-    bound-words 2
+    ceiling-words 2
     ((0, 1) ∷ (2, 0) ∷ (1, 1) ∷ (2, 0) ∷ [])
 
 unfoldable pub eight-arguments-listing : List ℕ
@@ -231,7 +232,7 @@ sixteen-branches-words =
     []
     []
     [] ++
-    bound-words 0
+    ceiling-words 0
     []
 
 -- A pattern of depth 4, whose innermost part is a name.
@@ -249,7 +250,7 @@ depth-four-words =
     []
     []
     [] ++
-    bound-words 0
+    ceiling-words 0
     []
 
 -- A pattern of depth 5.
@@ -267,7 +268,7 @@ depth-five-words =
     []
     []
     [] ++
-    bound-words 0
+    ceiling-words 0
     []
 
 -- Where names hold. f(a) = (g = fun(b) -> b; a); x = self; case x of { y -> y; _ -> x }.
@@ -286,7 +287,7 @@ scopes-words =
     ((0, 0) ∷ (4, 15) ∷ (5, 15) ∷ [])
     []
     ((15, 8) ∷ (15, 9) ∷ (15, 12) ∷ (15, 14) ∷ []) ++
-    bound-words 4
+    ceiling-words 4
     ((0, 1) ∷ (4, 0) ∷ (1, 1) ∷ (4, 0) ∷ (2, 1) ∷ (4, 0) ∷ (3, 1) ∷ (4, 0) ∷ [])
 
 unfoldable pub scopes-listing : List ℕ
@@ -321,7 +322,7 @@ values-words =
     ((0, 1) ∷ (1, 22) ∷ (2, 5) ∷ (3, 7) ∷ (5, 1) ∷ (6, 5) ∷ (7, 7) ∷ [])
     ((22, 1) ∷ (22, 5) ∷ (22, 7) ∷ [])
     ((5, 3) ∷ (22, 4) ∷ (22, 5) ∷ (22, 7) ∷ (22, 12) ∷ (22, 15) ∷ (22, 18) ∷ (22, 21) ∷ []) ++
-    bound-words 1
+    ceiling-words 1
     ((0, 65535) ∷ (1, 65535) ∷ (2, 65535) ∷ (3, 65535) ∷ (4, 65535) ∷ (5, 65535) ∷ (6, 65535) ∷ (7, 65535) ∷
     (8, 65535) ∷ (9, 65535) ∷ (10, 0) ∷ [])
 
@@ -353,7 +354,7 @@ letters-words =
     ((0, 15) ∷ (1, 3) ∷ (2, 3) ∷ (3, 3) ∷ (3, 15) ∷ (4, 15) ∷ [])
     ((15, 3) ∷ (15, 15) ∷ [])
     ((15, 2) ∷ (15, 3) ∷ (15, 6) ∷ (15, 9) ∷ (15, 11) ∷ (15, 14) ∷ []) ++
-    bound-words 1
+    ceiling-words 1
     ((0, 65535) ∷ (1, 65535) ∷ (2, 65535) ∷ (3, 65535) ∷ (4, 65535) ∷ (5, 65535) ∷ (6, 65535) ∷ (7, 65535) ∷ (8, 0) ∷
     [])
 
@@ -384,7 +385,7 @@ function-letter-words =
     ((0, 9) ∷ (1, 2) ∷ (2, 2) ∷ [])
     ((9, 2) ∷ [])
     ((9, 1) ∷ (9, 2) ∷ (9, 5) ∷ (9, 8) ∷ []) ++
-    bound-words 1
+    ceiling-words 1
     ((0, 65535) ∷ (1, 65535) ∷ (2, 65535) ∷ (3, 65535) ∷ (4, 65535) ∷ (5, 0) ∷ [])
 
 unfoldable pub function-letter-listing : List ℕ
@@ -414,7 +415,7 @@ address-letter-words =
     ((0, 6) ∷ (1, 6) ∷ [])
     ((6, 6) ∷ [])
     ((6, 1) ∷ (6, 2) ∷ (6, 5) ∷ []) ++
-    bound-words 1
+    ceiling-words 1
     ((0, 65535) ∷ (1, 65535) ∷ (2, 65535) ∷ (3, 65535) ∷ (4, 0) ∷ [])
 
 unfoldable pub address-letter-listing : List ℕ
@@ -448,7 +449,7 @@ wrong-counts-words =
     ((0, 1) ∷ (2, 5) ∷ (3, 8) ∷ (4, 1) ∷ (4, 5) ∷ (5, 1) ∷ (6, 1) ∷ (7, 1) ∷ [])
     []
     ((24, 7) ∷ (24, 11) ∷ (24, 14) ∷ (24, 15) ∷ (24, 19) ∷ (24, 23) ∷ []) ++
-    bound-words 1
+    ceiling-words 1
     ((0, 65535) ∷ (1, 65535) ∷ (2, 65535) ∷ (3, 65535) ∷ (4, 65535) ∷ (5, 65535) ∷ (6, 0) ∷ [])
 
 unfoldable pub wrong-counts-listing : List ℕ
@@ -483,7 +484,7 @@ two-callees-words =
     (8, 9) ∷ [])
     []
     ((28, 4) ∷ (28, 6) ∷ (28, 9) ∷ (28, 11) ∷ (28, 15) ∷ (28, 18) ∷ (28, 19) ∷ (28, 23) ∷ (28, 27) ∷ []) ++
-    bound-words 1
+    ceiling-words 1
     ((0, 65535) ∷ (1, 65535) ∷ (2, 65535) ∷ (3, 65535) ∷ (4, 65535) ∷ (5, 65535) ∷ (6, 65535) ∷ (7, 65535) ∷
     (8, 65535) ∷ (9, 0) ∷ [])
 
@@ -518,7 +519,7 @@ two-spawned-words =
     ((0, 1) ∷ (1, 3) ∷ (2, 6) ∷ (3, 9) ∷ (4, 1) ∷ (4, 6) ∷ (5, 12) ∷ (6, 12) ∷ (7, 12) ∷ [])
     []
     ((12, 3) ∷ (12, 5) ∷ (12, 8) ∷ (24, 12) ∷ (24, 14) ∷ (24, 15) ∷ (24, 19) ∷ (24, 23) ∷ []) ++
-    bound-words 1
+    ceiling-words 1
     ((0, 65535) ∷ (1, 65535) ∷ (2, 65535) ∷ (3, 65535) ∷ (4, 65535) ∷ (5, 65535) ∷ (6, 65535) ∷ (7, 65535) ∷ (8, 0) ∷
     [])
 
@@ -543,7 +544,7 @@ spawned-name-words =
     ((0, 0) ∷ (1, 3) ∷ [])
     []
     ((3, 2) ∷ (6, 3) ∷ (6, 5) ∷ []) ++
-    bound-words 2
+    ceiling-words 2
     ((1, 1) ∷ (3, 0) ∷ (0, 1) ∷ (2, 1) ∷ (3, 0) ∷ [])
 
 unfoldable pub spawned-name-listing : List ℕ
@@ -577,7 +578,7 @@ two-branches-words =
     ((0, 2) ∷ (1, 2) ∷ [])
     []
     ((12, 2) ∷ (12, 4) ∷ (12, 7) ∷ (12, 11) ∷ []) ++
-    bound-words 1
+    ceiling-words 1
     ((0, 65535) ∷ (1, 65535) ∷ (2, 65535) ∷ (3, 65535) ∷ (4, 0) ∷ [])
 
 unfoldable pub two-branches-listing : List ℕ
@@ -615,7 +616,7 @@ two-letters-words =
     ((30, 11) ∷ (30, 13) ∷ [])
     ((30, 6) ∷ (30, 9) ∷ (30, 10) ∷ (30, 11) ∷ (30, 13) ∷ (30, 15) ∷ (30, 20) ∷ (30, 25) ∷ (30, 27) ∷ (30, 29) ∷ [])
     ++
-    bound-words 1
+    ceiling-words 1
     ((0, 65535) ∷ (1, 65535) ∷ (2, 65535) ∷ (3, 65535) ∷ (4, 65535) ∷ (5, 65535) ∷ (6, 65535) ∷ (7, 65535) ∷
     (8, 65535) ∷ (9, 65535) ∷ (10, 65535) ∷ (11, 65535) ∷ (12, 0) ∷ [])
 
@@ -657,7 +658,7 @@ classes-then-letters-words =
     ((16, 18) ∷ (16, 20) ∷ (33, 18) ∷ (33, 20) ∷ [])
     ((16, 4) ∷ (16, 6) ∷ (33, 11) ∷ (33, 14) ∷ (33, 15) ∷ (33, 16) ∷ (33, 18) ∷ (33, 20) ∷ (33, 22) ∷ (33, 27) ∷
     (33, 32) ∷ []) ++
-    bound-words 1
+    ceiling-words 1
     ((0, 65535) ∷ (1, 65535) ∷ (2, 65535) ∷ (3, 65535) ∷ (4, 65535) ∷ (5, 65535) ∷ (6, 65535) ∷ (7, 65535) ∷
     (8, 65535) ∷ (9, 65535) ∷ (10, 65535) ∷ (11, 65535) ∷ (12, 65535) ∷ (13, 65535) ∷ (14, 65535) ∷ (15, 0) ∷ [])
 
@@ -697,7 +698,7 @@ one-letter-words =
     (8, 11) ∷ (8, 13) ∷ (9, 11) ∷ (9, 13) ∷ [])
     ((28, 11) ∷ (28, 13) ∷ [])
     ((28, 6) ∷ (28, 9) ∷ (28, 10) ∷ (28, 11) ∷ (28, 13) ∷ (28, 15) ∷ (28, 20) ∷ (28, 25) ∷ (28, 27) ∷ []) ++
-    bound-words 1
+    ceiling-words 1
     ((0, 65535) ∷ (1, 65535) ∷ (2, 65535) ∷ (3, 65535) ∷ (4, 65535) ∷ (5, 65535) ∷ (6, 65535) ∷ (7, 65535) ∷
     (8, 65535) ∷ (9, 65535) ∷ (10, 0) ∷ [])
 
@@ -731,7 +732,7 @@ class-before-letter-words =
     ((0, 2) ∷ (1, 10) ∷ (2, 21) ∷ (3, 8) ∷ (4, 10) ∷ (5, 10) ∷ (6, 15) ∷ (7, 15) ∷ [])
     ((8, 10) ∷ (21, 15) ∷ [])
     ((8, 4) ∷ (8, 6) ∷ (21, 7) ∷ (21, 8) ∷ (21, 10) ∷ (21, 12) ∷ (21, 15) ∷ (21, 17) ∷ (21, 20) ∷ []) ++
-    bound-words 1
+    ceiling-words 1
     ((0, 65535) ∷ (1, 65535) ∷ (2, 65535) ∷ (3, 65535) ∷ (4, 65535) ∷ (5, 65535) ∷ (6, 65535) ∷ (7, 65535) ∷
     (8, 65535) ∷ (9, 65535) ∷ (10, 65535) ∷ (11, 0) ∷ [])
 
@@ -765,7 +766,7 @@ read-before-words =
     ((0, 1) ∷ (1, 10) ∷ (2, 7) ∷ (3, 10) ∷ (4, 12) ∷ (5, 10) ∷ (6, 12) ∷ [])
     []
     ((22, 3) ∷ (22, 6) ∷ (22, 9) ∷ (22, 12) ∷ (22, 14) ∷ (22, 15) ∷ (22, 18) ∷ (22, 21) ∷ []) ++
-    bound-words 1
+    ceiling-words 1
     ((0, 65535) ∷ (1, 65535) ∷ (2, 65535) ∷ (3, 65535) ∷ (4, 65535) ∷ (5, 65535) ∷ (6, 65535) ∷ (7, 65535) ∷ (8, 0) ∷
     [])
 
@@ -1171,5 +1172,19 @@ listing-cases =
 
 -- the definitions above opened at once, for the theorems that compute the table
 unfoldable pub verdict-cases-opens : Unit {0}
-unfolding bads-sizes-program bads-sizes-words tables-sizes-program tables-sizes-words ceilings-sizes-program ceilings-sizes-words station-a-program station-a-words two-bads-program two-bads-words two-bads-listing unbounded-program unbounded-words one-taken-program one-taken-words arity-of-eight-program arity-of-eight-words eight-parameters-program eight-parameters-words eight-arguments-program eight-arguments-words eight-arguments-listing sixteen-branches-program sixteen-branches-words depth-four-program depth-four-words depth-five-program depth-five-words scopes-program scopes-words scopes-listing values-program values-words values-listing letters-program letters-words letters-listing function-letter-program function-letter-words function-letter-listing address-letter-program address-letter-words address-letter-listing wrong-counts-program wrong-counts-words wrong-counts-listing two-callees-program two-callees-words two-callees-listing two-spawned-program two-spawned-words two-spawned-listing spawned-name-program spawned-name-words spawned-name-listing two-branches-program two-branches-words two-branches-listing two-letters-program two-letters-words two-letters-listing classes-then-letters-program classes-then-letters-words classes-then-letters-listing one-letter-program one-letter-words one-letter-listing class-before-letter-program class-before-letter-words class-before-letter-listing read-before-program read-before-words read-before-listing verdict-cases listing-cases
+unfolding bads-sizes-program bads-sizes-words tables-sizes-program tables-sizes-words ceilings-sizes-program
+    ceilings-sizes-words station-a-program station-a-words two-bads-program two-bads-words two-bads-listing
+    unbounded-program unbounded-words one-taken-program one-taken-words arity-of-eight-program arity-of-eight-words
+    eight-parameters-program eight-parameters-words eight-arguments-program eight-arguments-words
+    eight-arguments-listing sixteen-branches-program sixteen-branches-words depth-four-program depth-four-words
+    depth-five-program depth-five-words scopes-program scopes-words scopes-listing values-program values-words
+    values-listing letters-program letters-words letters-listing function-letter-program function-letter-words
+    function-letter-listing address-letter-program address-letter-words address-letter-listing wrong-counts-program
+    wrong-counts-words wrong-counts-listing two-callees-program two-callees-words two-callees-listing
+    two-spawned-program two-spawned-words two-spawned-listing spawned-name-program spawned-name-words
+    spawned-name-listing two-branches-program two-branches-words two-branches-listing two-letters-program
+    two-letters-words two-letters-listing classes-then-letters-program classes-then-letters-words
+    classes-then-letters-listing one-letter-program one-letter-words one-letter-listing class-before-letter-program
+    class-before-letter-words class-before-letter-listing read-before-program read-before-words read-before-listing
+    verdict-cases listing-cases
 verdict-cases-opens = tt

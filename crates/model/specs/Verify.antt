@@ -5,7 +5,8 @@ use mathlib.Core.Option.{some, none}
 use lib.ListN.{length, take}
 use Rattle.model.specs.declared.Sizes.{Sizes}
 use Rattle.model.specs.declared.Verdict.{Verdict}
-use Rattle.model.specs.declared.Verdict.the-variants.{Safe, Length, Size, Row, Name, Scope, Bad, Entry, Open, Counters, Ceiling, Start, Met, Leak, Space}
+use Rattle.model.specs.declared.Verdict.the-variants.{Safe, Length, Size, Row, Name, Scope, Bad, Entry, Open}
+use Rattle.model.specs.declared.Verdict.the-variants.{Counters, Ceiling, Start, Met, Leak, Space}
 use Rattle.model.specs.Words.{Columns, words}
 use Rattle.model.specs.Verdict.{Check, _>>_}
 use Rattle.model.specs.Message.{sizes, bads-at, parts-check}
@@ -17,7 +18,7 @@ use Rattle.model.specs.Closed.{open-check}
 use Rattle.model.specs.Counters.{counter-count, counter-check}
 use Rattle.model.specs.Rules.{rules}
 use Rattle.model.specs.Listing.{system-words, written, space-check}
-use Rattle.model.specs.Bounds.{Bounds, bounds, bound-check, start-check, met-check, leak-check}
+use Rattle.model.specs.Ceilings.{Ceilings, ceilings-of, ceiling-check, start-check, met-check, leak-check}
 
 -- a message taken apart
 pub record Message : Type 0 where
@@ -26,7 +27,7 @@ pub record Message : Type 0 where
   pub program : Program
   pub bads : Columns
   pub tables : Tables
-  pub bounds : Bounds
+  pub ceilings : Ceilings
 
 unfoldable pub message : List ℕ → Message
 message bytes =
@@ -40,7 +41,7 @@ message bytes =
       program = p;
       bads = bad-rows ws s;
       tables = t;
-      bounds = bounds ws s
+      ceilings = ceilings-of ws s
           (counter-count p t);
     }
 
@@ -55,18 +56,18 @@ evidence-check m =
     (entry-check (m .sizes) (m .program) (m .tables) >>
     (open-check (m .sizes) (m .program) (m .tables) >> counter-check (m .sizes) (m .program) (m .tables)))
 
--- refusals 10 to 13: the bounds
-unfoldable pub bounds-check : Message → Check
-bounds-check m =
-    bound-check (m .words) (m .sizes) (counter-count (m .program) (m .tables)) >>
-    (start-check (m .sizes) (m .program) (m .tables) (m .bounds) >>
-    (met-check (m .sizes) (m .program) (m .tables) (m .bounds) (m .bads) >>
-    leak-check (m .words) (m .sizes) (m .bounds) (rules (m .program) (m .tables))))
+-- refusals 10 to 13: the ceilings
+unfoldable pub ceilings-check : Message → Check
+ceilings-check m =
+    ceiling-check (m .words) (m .sizes) (counter-count (m .program) (m .tables)) >>
+    (start-check (m .sizes) (m .program) (m .tables) (m .ceilings) >>
+    (met-check (m .sizes) (m .program) (m .tables) (m .ceilings) (m .bads) >>
+    leak-check (m .words) (m .sizes) (m .ceilings) (rules (m .program) (m .tables))))
 
 -- refusals 3 to 14: a message whose parts are whole, and the number of lent words
 unfoldable pub message-check : Message → ℕ → Check
 message-check m lent =
-    program-check (m .program) >> (evidence-check m >> (bounds-check m >> space-check (m .program) (m .tables) lent))
+    program-check (m .program) >> (evidence-check m >> (ceilings-check m >> space-check (m .program) (m .tables) lent))
 
 -- "Checked in that order, each over the whole message"
 unfoldable pub check : List ℕ → ℕ → Check

@@ -8,9 +8,11 @@ use mathlib.Core.Option.{some}
 use lib.ListN.{getD}
 use lib.Dec.{eqb}
 use Rattle.model.specs.Limits.{maxDepth}
+use Rattle.model.specs.Tags.{tag-pattern-constructor}
 use Rattle.model.specs.Words.{Columns, left, right}
 use Rattle.model.specs.Rows.{Program, size, tag, num, arity}
-use Rattle.model.specs.Heads.{Call, call-at, head-at, gives, builds, makes, calls, sends, spawns, selfs, cases, receives, branch-body, is-class, parameters, body, takes, innermost, start}
+use Rattle.model.specs.Heads.{Call, call-at, head-at, gives, builds, makes, calls, sends, spawns, selfs, cases}
+use Rattle.model.specs.Heads.{receives, branch-body, is-class, parameters, body, takes, innermost, start}
 use Rattle.model.specs.Tables.{Tables}
 use Rattle.model.specs.Closed.{subpattern, argument, same-constructor}
 
@@ -37,7 +39,7 @@ Present t (state c r) = Member (t .states) c r
 abbrev pub MayMatch : Program → Tables → ℕ → ℕ → ℕ → Type 0
 MayMatch p t zero q v = Unit {0}
 MayMatch p t (suc d) q v =
-    elim (eqb (tag p q) 31) [
+    elim (eqb (tag p q) tag-pattern-constructor) [
       | true ↦
           (same-constructor p q v ≡ true) ×
           ((i : ℕ) → i < arity p (num p q) →
@@ -50,7 +52,7 @@ MayMatch p t (suc d) q v =
 abbrev pub AtSpot : Program → Tables → ℕ → ℕ → ℕ → ℕ → ℕ → Type 0
 AtSpot p t zero q v n w = ⊥
 AtSpot p t (suc d) q v n w =
-    elim (eqb (tag p q) 31) [
+    elim (eqb (tag p q) tag-pattern-constructor) [
       | true ↦
           (i : ℕ) × (i < arity p (num p q)) ×
           ((u : ℕ) × Member (t .flow) (argument p v i) u × MayMatch p t d (subpattern p (suc d) q i) u ×

@@ -8,13 +8,13 @@ pub struct Sizes {
     pub functions: usize,
     pub bads: usize,
     // the rows of the bads part
-    pub conditions: usize,
+    pub badrows: usize,
     pub flows: usize,
     pub mails: usize,
     pub states: usize,
-    pub bounds: usize,
+    pub ceilings: usize,
     // the entries of the ceilings part
-    pub limits: usize,
+    pub entries: usize,
 }
 
 // The answer for a message: safe, or the refusal's word in document 01 with its position. specs/Verdict.antt gives
@@ -59,9 +59,9 @@ pub const MAX_MAILS: usize = 512;
 
 pub const MAX_STATES: usize = 512;
 
-pub const MAX_BOUNDS: usize = 256;
+pub const MAX_CEILINGS: usize = 256;
 
-pub const MAX_BOUND_ENTRIES: usize = 8192;
+pub const MAX_CEILING_ENTRIES: usize = 8192;
 
 pub const MAX_COUNTERS: usize = 512;
 
@@ -72,3 +72,68 @@ pub const MAX_BRANCHES: usize = 16;
 pub const MAX_DEPTH: usize = 4;
 
 pub const OMEGA: usize = 65535;
+
+// The tags of document 01, for the code: of program rows from 1, of bads from 40, of the listing from 50.
+// specs/Tags.antt has them for the definitions.
+pub const TAG_GIVE: usize = 1;
+
+pub const TAG_BUILD: usize = 2;
+
+pub const TAG_FUNCTION: usize = 3;
+
+pub const TAG_CALL: usize = 4;
+
+pub const TAG_SEND: usize = 5;
+
+pub const TAG_SPAWN: usize = 6;
+
+pub const TAG_SELF: usize = 7;
+
+pub const TAG_CASE: usize = 8;
+
+pub const TAG_RECEIVE: usize = 9;
+
+pub const TAG_CONSTRUCTOR: usize = 10;
+
+pub const TAG_GLOBAL: usize = 11;
+
+pub const TAG_MADE: usize = 20;
+
+pub const TAG_OPERAND: usize = 21;
+
+pub const TAG_COUNT: usize = 22;
+
+pub const TAG_PARAMETER: usize = 23;
+
+pub const TAG_BRANCHES: usize = 25;
+
+pub const TAG_PATTERN_NAME: usize = 30;
+
+pub const TAG_PATTERN_CONSTRUCTOR: usize = 31;
+
+pub const TAG_PATTERN_ANY: usize = 32;
+
+pub const TAG_CLASS: usize = 40;
+
+pub const TAG_HEAD: usize = 41;
+
+pub const TAG_LETTER: usize = 42;
+
+pub const TAG_MINIMUM: usize = 43;
+
+pub const TAG_BAD_END: usize = 44;
+
+pub const TAG_FROM: u32 = 50;
+
+pub const TAG_TO: u32 = 51;
+
+pub const TAG_READS: u32 = 52;
+
+pub const TAG_PUTS: u32 = 53;
+
+pub const TAG_STARTS: u32 = 54;
+
+// Letters: a constructor's own number; then C for a function and C + 1 for an address: so many more than C in all.
+pub const ADDRESS_LETTER: usize = 1;
+
+pub const OTHER_LETTERS: usize = 2;

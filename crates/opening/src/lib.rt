@@ -4,6 +4,7 @@ use lists::has_flow;
 use lists::state_index;
 use lists::word;
 use model::Sizes;
+use model::TAG_GLOBAL;
 use positions::body;
 use program::rows::num;
 use program::rows::tag;
@@ -37,7 +38,7 @@ fn opening_row(ws: &[u16], s: Sizes, r: usize) -> bool
     requires { ⌜ Ready (now ws) s ⌝ }
     ensures { λ b. ⌜ b ≡ opening-row (program (now (ws .entry)) s) (tables (now (ws .entry)) s) r ⌝ }
 {
-    if tag(ws, s, r) != 11 {
+    if tag(ws, s, r) != TAG_GLOBAL {
         return true;
     }
     let n = num(ws, s, r);

@@ -1,6 +1,12 @@
 // Where the parts of a head stand.
 use lists::word;
 use model::Sizes;
+use model::TAG_BUILD;
+use model::TAG_CALL;
+use model::TAG_FUNCTION;
+use model::TAG_GLOBAL;
+use model::TAG_SEND;
+use model::TAG_SPAWN;
 use program::rows::num;
 use program::rows::tag;
 ghost use mathlib.Core.Path.{_≡_};
@@ -21,7 +27,7 @@ pub fn takes(ws: &[u16], s: Sizes, f: usize, n: usize) -> bool
     ensures { λ b. ⌜ b ≡ takes (program (now (ws .entry)) s) f n ⌝ }
 {
     match tag(ws, s, f) {
-        3 | 11 => num(ws, s, f + 1) == n,
+        TAG_FUNCTION | TAG_GLOBAL => num(ws, s, f + 1) == n,
         _ => false,
     }
 }
@@ -31,7 +37,7 @@ pub fn is_class(ws: &[u16], s: Sizes, c: usize) -> bool
     requires { ⌜ Whole (now ws) s ⌝ }
     ensures { λ b. ⌜ b ≡ is-class (program (now (ws .entry)) s) c ⌝ }
 {
-    if tag(ws, s, c) == 6 {
+    if tag(ws, s, c) == TAG_SPAWN {
         true
     } else {
         c == s.rows
@@ -55,11 +61,11 @@ pub fn rest(ws: &[u16], s: Sizes, afters: &[u16], r: usize) -> usize
     ensures { λ e. ⌜ e ≡ rest (program (now (ws .entry)) s) r ⌝ }
 {
     match tag(ws, s, r) {
-        2 => r + 2 + num(ws, s, num(ws, s, r + 1)),
-        3 => word(afters, body(ws, s, r)),
-        4 => r + 3 + num(ws, s, r + 2),
-        5 => r + 3,
-        6 => r + 2,
+        TAG_BUILD => r + 2 + num(ws, s, num(ws, s, r + 1)),
+        TAG_FUNCTION => word(afters, body(ws, s, r)),
+        TAG_CALL => r + 3 + num(ws, s, r + 2),
+        TAG_SEND => r + 3,
+        TAG_SPAWN => r + 2,
         _ => r + 1,
     }
 }

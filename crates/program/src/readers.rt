@@ -4,6 +4,13 @@ use crate::rows::is_small_row;
 use crate::rows::num;
 use crate::rows::tag;
 use model::Sizes;
+use model::TAG_CONSTRUCTOR;
+use model::TAG_COUNT;
+use model::TAG_MADE;
+use model::TAG_OPERAND;
+use model::TAG_PATTERN_ANY;
+use model::TAG_PATTERN_CONSTRUCTOR;
+use model::TAG_PATTERN_NAME;
 ghost use mathlib.Core.Path.{_≡_};
 ghost use mathlib.Core.Bool.{true};
 ghost use mathlib.Core.List.{[], _∷_};
@@ -26,7 +33,7 @@ pub fn constructors(ws: &[u16], s: Sizes) -> Next
     let mut left = s.constructors;
     let mut r = 0;
     while left > 0 {
-        if !is_small_row(ws, s, r, 10) {
+        if !is_small_row(ws, s, r, TAG_CONSTRUCTOR) {
             return Next::Wrong(r);
         }
         r += 1;
@@ -59,7 +66,7 @@ pub fn counted(ws: &[u16], s: Sizes, r: usize, t: usize) -> Next
     requires { ⌜ (r ≤ s .rows) × (listed t ≡ true) ⌝ }
     ensures { λ x. ⌜ reading x ≡ from (program (now (ws .entry)) s) (counted-items t ∷ []) r ⌝ }
 {
-    if !is_small_row(ws, s, r, 22) {
+    if !is_small_row(ws, s, r, TAG_COUNT) {
         return Next::Wrong(r);
     }
     let n = num(ws, s, r);
@@ -72,12 +79,12 @@ pub fn made(ws: &[u16], s: Sizes, r: usize) -> Next
     requires { ⌜ r ≤ s .rows ⌝ }
     ensures { λ x. ⌜ reading x ≡ from (program (now (ws .entry)) s) (made ∷ []) r ⌝ }
 {
-    if !is_row(ws, s, r, 20, s.constructors) {
+    if !is_row(ws, s, r, TAG_MADE, s.constructors) {
         return Next::Wrong(r);
     }
     let k = num(ws, s, r);
     let n = num(ws, s, k);
-    names(ws, s, r + 1, n, 21)
+    names(ws, s, r + 1, n, TAG_OPERAND)
 }
 
 // (21, function name), (22, count) and that many (21, name read): what follows the head of a call.
@@ -86,8 +93,8 @@ pub fn call_parts(ws: &[u16], s: Sizes, r: usize) -> Next
     requires { ⌜ r ≤ s .rows ⌝ }
     ensures { λ x. ⌜ reading x ≡ from (program (now (ws .entry)) s) (operand ∷ arguments ∷ []) r ⌝ }
 {
-    match names(ws, s, r, 1, 21) {
-        Next::Past(q) => counted(ws, s, q, 21),
+    match names(ws, s, r, 1, TAG_OPERAND) {
+        Next::Past(q) => counted(ws, s, q, TAG_OPERAND),
         Next::Wrong(q) => Next::Wrong(q),
     }
 }
@@ -104,17 +111,17 @@ pub fn pattern(ws: &[u16], s: Sizes, r: usize, d: usize) -> Next
     let n = num(ws, s, r);
     let next = r + 1;
     match tag(ws, s, r) {
-        30 => if n < s.names {
+        TAG_PATTERN_NAME => if n < s.names {
             Next::Past(next)
         } else {
             Next::Wrong(r)
         },
-        31 => if n < s.constructors {
+        TAG_PATTERN_CONSTRUCTOR => if n < s.constructors {
             patterns(ws, s, next, num(ws, s, n), d - 1)
         } else {
             Next::Wrong(r)
         },
-        32 => if n == 0 {
+        TAG_PATTERN_ANY => if n == 0 {
             Next::Past(next)
         } else {
             Next::Wrong(r)

@@ -5,25 +5,20 @@ use mathlib.Core.Path.{_≡_}
 use mathlib.Core.List.{List}
 use mathlib.Core.Option.{none}
 use lib.ListN.{length, getD}
-use Rattle.bits.specs.Bits.{member}
 use Rattle.model.specs.declared.Sizes.{Sizes}
 use Rattle.model.specs.Limits.{maxBranches, maxCounters}
 use Rattle.model.specs.Words.{left}
 use Rattle.model.specs.Rows.{Program, program, size}
-use Rattle.model.specs.Tables.{Tables, tables, has, state, state-index}
+use Rattle.model.specs.Tables.{Tables, tables, state, state-index}
 use Rattle.model.specs.Closed.{open-check}
 use Rattle.model.specs.Counters.{counter-count}
+use Rattle.lists.specs.Lists.{Starts}
 use Rattle.lists.specs.Ready.{Ready}
 use Rattle.positions.specs.Positions.{Ends, Owners}
 use Rattle.positions.specs.Branches.{Branch-bits}
-use Rattle.system_letters.specs.Letters.{Starts, Name-letters, Class-letters}
+use Rattle.values.specs.Values.{width, Flow-sets}
+use Rattle.system_letters.specs.Letters.{Name-letters, Class-letters}
 use Rattle.rules.specs.declared.Class.{Class}
-
--- set n, of w words, has the values of the name n
-pub record Flow-sets (p : Program) (t : Tables) (w : ℕ) (flows : List ℕ) : Type 0 where
-  pub wide : size p < 64 * w
-  pub room : p .names * w ≤ length flows
-  pub has : (n v : ℕ) → n < p .names → v ≤ size p → member flows w n v ≡ has (t .flow) n v
 
 -- the states of a class stand from `from` up to `to`
 pub record Class-range (t : Tables) (k : Class) : Type 0 where
@@ -61,7 +56,8 @@ pub record Rule-tables (ws : List ℕ) (s : Sizes) (afters inners flow-at : List
   pub ends : Ends (program ws s) afters
   pub owners : Owners (program ws s) inners
   pub flow-starts : Starts (tables ws s .flow) (s .names) flow-at
-  pub flow-sets : Flow-sets (program ws s) (tables ws s) w flows
+  pub flow-width : w ≡ width (s .rows)
+  pub flow-sets : Flow-sets (program ws s) (tables ws s) flows
   pub name-letters : Name-letters (program ws s) (tables ws s) names
   pub class-letters : Class-letters (program ws s) (tables ws s) letter-at letters
   pub branch-bits : Branch-bits (program ws s) (tables ws s) branches

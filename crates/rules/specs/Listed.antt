@@ -6,7 +6,8 @@ use mathlib.Core.List.{List, [], _∷_}
 use lib.ListN.{length, getD}
 use Rattle.model.specs.Index.{gather}
 use Rattle.model.specs.Words.{right}
-use Rattle.model.specs.Rows.{Program, tag, kind, Kind, give, build, function, call, send, spawn, self, case, receive, other}
+use Rattle.model.specs.Rows.{Program, tag, kind, Kind, give, build, function, call, send, spawn, self, case, receive}
+use Rattle.model.specs.Rows.{other}
 use Rattle.model.specs.Tables.{Tables, state-at}
 use Rattle.model.specs.Rules.{Effect, quiet, reads, puts, starts, Rule, rule, state-rules}
 

@@ -1,6 +1,11 @@
 // Where names are bound; refusal 4.
 use layout::tables::entry;
 use model::Sizes;
+use model::TAG_BUILD;
+use model::TAG_GLOBAL;
+use model::TAG_PARAMETER;
+use model::TAG_PATTERN_NAME;
+use model::TAG_SELF;
 use model::Verdict;
 use program::rows::num;
 use program::rows::tag;
@@ -19,8 +24,8 @@ fn binds(t: usize) -> bool
     ensures { λ b. ⌜ b ≡ binds t ⌝ }
 {
     match t {
-        2..=7 => true,
-        11 | 23 | 30 => true,
+        TAG_BUILD..=TAG_SELF => true,
+        TAG_GLOBAL | TAG_PARAMETER | TAG_PATTERN_NAME => true,
         _ => false,
     }
 }

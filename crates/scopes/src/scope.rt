@@ -3,6 +3,10 @@ use crate::names::binders;
 use layout::ends::rest_row;
 use layout::tables::entry;
 use model::Sizes;
+use model::TAG_CASE;
+use model::TAG_GIVE;
+use model::TAG_GLOBAL;
+use model::TAG_OPERAND;
 use model::Verdict;
 use program::rows::num;
 use program::rows::tag;
@@ -30,7 +34,7 @@ fn uses(t: usize) -> bool
     ensures { λ b. ⌜ b ≡ uses t ⌝ }
 {
     match t {
-        1 | 8 | 21 => true,
+        TAG_GIVE | TAG_CASE | TAG_OPERAND => true,
         _ => false,
     }
 }
@@ -89,7 +93,7 @@ fn is_in_scope(ws: &[u16], s: Sizes, ends: &[u16], heads: &[u16], b: usize, r: u
     requires { ⌜ (r < s .rows) × (b < s .rows) × (binds (tag (program (now ws) s) b) ≡ true) ⌝ }
     ensures { λ x. ⌜ x ≡ in-scope (program (now (ws .entry)) s) b r ⌝ }
 {
-    if tag(ws, s, b) == 11 {
+    if tag(ws, s, b) == TAG_GLOBAL {
         return true;
     }
     let from = holds_in(ws, s, ends, heads, b);

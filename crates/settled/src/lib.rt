@@ -2,6 +2,12 @@
 use asks::asked;
 use branches::taken_bits;
 use model::Sizes;
+use model::TAG_BUILD;
+use model::TAG_CALL;
+use model::TAG_CASE;
+use model::TAG_FUNCTION;
+use model::TAG_SEND;
+use model::TAG_SPAWN;
 use program::rows::num;
 use program::rows::tag;
 use sets::holds;
@@ -10,9 +16,10 @@ ghost use mathlib.Core.Path.{_≡_};
 ghost use mathlib.Core.Logic.{_⊎_};
 ghost use Rattle.model.specs.Rows.{program, tag, num};
 ghost use Rattle.model.specs.Tables.{tables, has};
+ghost use Rattle.lists.specs.Lists.{Starts};
 ghost use Rattle.lists.specs.Ready.{Ready};
 ghost use Rattle.positions.specs.Positions.{Ends};
-ghost use Rattle.values.specs.Values.{Flow-sets, Mail-sets, Flow-starts};
+ghost use Rattle.values.specs.Values.{Flow-sets, Mail-sets};
 ghost use Rattle.matching.specs.Patterns.{Matches};
 ghost use Rattle.asks.specs.Asks.{there-code};
 ghost use Rattle.settled.specs.Settled.{Settled};
@@ -42,16 +49,16 @@ pub fn settle(
 ) -> usize
     requires { ⌜ Ready (now ws) s ⌝ }
     requires { ⌜ Ends (program (now ws) s) (now afters) ⌝ }
-    requires { ⌜ Flow-starts (program (now ws) s) (tables (now ws) s) (now starts) ⌝ }
+    requires { ⌜ Starts (tables (now ws) s .flow) (s .names) (now starts) ⌝ }
     requires { ⌜ Flow-sets (program (now ws) s) (tables (now ws) s) (now flow) ⌝ }
     requires { ⌜ Mail-sets (program (now ws) s) (tables (now ws) s) (now mail) ⌝ }
     requires { ⌜ Matches (program (now ws) s) (tables (now ws) s) (now may) (now held) 0 ⌝ }
     ensures { λ k. ⌜ Settled (program (now (ws .entry)) s) (tables (now (ws .entry)) s) r k ⌝ }
 {
     match tag(ws, s, r) {
-        2 | 3 => named_code(ws, s, flow, r),
-        4 | 5 | 6 => asked(ws, s, starts, flow, mail, r),
-        8 => {
+        TAG_BUILD | TAG_FUNCTION => named_code(ws, s, flow, r),
+        TAG_CALL | TAG_SEND | TAG_SPAWN => asked(ws, s, starts, flow, mail, r),
+        TAG_CASE => {
             let name = num(ws, s, r);
             let count = num(ws, s, r + 1);
             taken_bits(ws, s, afters, flow, may, held, flow, name, r + 2, count)

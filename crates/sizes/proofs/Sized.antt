@@ -6,18 +6,18 @@ use lib.ListN.{getD}
 use Rattle.model.specs.declared.Sizes.{Sizes}
 use Rattle.model.specs.Message.{sizes}
 
-pub sized : (ws : List ℕ) (rows names constructors functions bads conditions flows mails states bounds limits : ℕ)
+pub sized : (ws : List ℕ) (rows names constructors functions bads badrows flows mails states ceilings entries : ℕ)
     → rows ≡ getD ws 0 0
     → names ≡ getD ws 1 0
     → constructors ≡ getD ws 2 0
     → functions ≡ getD ws 3 0
     → bads ≡ getD ws (4 + 2 * rows) 0
-    → conditions ≡ getD ws (4 + 2 * rows + 1) 0
-    → flows ≡ getD ws (4 + 2 * rows + 2 + 2 * conditions) 0
-    → mails ≡ getD ws (4 + 2 * rows + 2 + 2 * conditions + 1) 0
-    → states ≡ getD ws (4 + 2 * rows + 2 + 2 * conditions + 2) 0
-    → bounds ≡ getD ws (4 + 2 * rows + 2 + 2 * conditions + 3 + 2 * (flows + mails + states)) 0
-    → limits ≡ getD ws (4 + 2 * rows + 2 + 2 * conditions + 3 + 2 * (flows + mails + states) + 1) 0
-    → _≡_ {A = Sizes} (record { rows = rows; names = names; constructors = constructors; functions = functions; bads = bads; conditions = conditions; flows = flows; mails = mails; states = states; bounds = bounds; limits = limits }) (sizes ws)
+    → badrows ≡ getD ws (4 + 2 * rows + 1) 0
+    → flows ≡ getD ws (4 + 2 * rows + 2 + 2 * badrows) 0
+    → mails ≡ getD ws (4 + 2 * rows + 2 + 2 * badrows + 1) 0
+    → states ≡ getD ws (4 + 2 * rows + 2 + 2 * badrows + 2) 0
+    → ceilings ≡ getD ws (4 + 2 * rows + 2 + 2 * badrows + 3 + 2 * (flows + mails + states)) 0
+    → entries ≡ getD ws (4 + 2 * rows + 2 + 2 * badrows + 3 + 2 * (flows + mails + states) + 1) 0
+    → _≡_ {A = Sizes} (record { rows = rows; names = names; constructors = constructors; functions = functions; bads = bads; badrows = badrows; flows = flows; mails = mails; states = states; ceilings = ceilings; entries = entries }) (sizes ws)
 unfolding sizes
-sized ws rows names constructors functions bads conditions flows mails states bounds limits a b c d e f g h i j k = cc
+sized ws rows names constructors functions bads badrows flows mails states ceilings entries a b c d e f g h i j k = cc

@@ -4,12 +4,13 @@ ghost use mathlib.Core.Path.{_≡_};
 ghost use Prim.Native.Nat.{_<_};
 ghost use lib.ListN.{getD};
 ghost use Rattle.model.specs.Words.{words};
-ghost use Rattle.model.specs.Message.{limited, program-sizes, bads-sizes, tables-sizes, bounds-sizes, sizes, bads-at, tables-at, bounds-at, end-at};
+ghost use Rattle.model.specs.Message.{limited, program-sizes, bads-sizes, tables-sizes, ceilings-sizes, sizes, bads-at};
+ghost use Rattle.model.specs.Message.{tables-at, ceilings-at, end-at};
 ghost use Rattle.sizes.specs.Sizes.{Placed, inside, first-outside};
 use model::MAX_BAD_ROWS;
 use model::MAX_BADS;
-use model::MAX_BOUND_ENTRIES;
-use model::MAX_BOUNDS;
+use model::MAX_CEILING_ENTRIES;
+use model::MAX_CEILINGS;
 use model::MAX_CONSTRUCTORS;
 use model::MAX_FLOWS;
 use model::MAX_FUNCTIONS;
@@ -40,24 +41,24 @@ pub fn sizes_of(bytes: &[u8]) -> Sizes
 {
     let rows = size_at(bytes, 0);
     let bads = 4 + 2 * rows;
-    let conditions = size_at(bytes, bads + 1);
-    let tables = bads + 2 + 2 * conditions;
+    let badrows = size_at(bytes, bads + 1);
+    let tables = bads + 2 + 2 * badrows;
     let flows = size_at(bytes, tables);
     let mails = size_at(bytes, tables + 1);
     let states = size_at(bytes, tables + 2);
-    let bounds = tables + 3 + 2 * (flows + mails + states);
+    let ceilings = tables + 3 + 2 * (flows + mails + states);
     Sizes {
         rows,
         names: size_at(bytes, 1),
         constructors: size_at(bytes, 2),
         functions: size_at(bytes, 3),
         bads: size_at(bytes, bads),
-        conditions,
+        badrows,
         flows,
         mails,
         states,
-        bounds: size_at(bytes, bounds),
-        limits: size_at(bytes, bounds + 1),
+        ceilings: size_at(bytes, ceilings),
+        entries: size_at(bytes, ceilings + 1),
     }
 }
 
@@ -74,13 +75,13 @@ pub fn tables_at(s: Sizes) -> usize
     requires { ⌜ Placed s ⌝ }
     ensures { λ r. ⌜ r ≡ tables-at s ⌝ }
 {
-    bads_at(s) + 2 + 2 * s.conditions
+    bads_at(s) + 2 + 2 * s.badrows
 }
 
 // The word at which the ceilings part begins.
-pub fn bounds_at(s: Sizes) -> usize
+pub fn ceilings_at(s: Sizes) -> usize
     requires { ⌜ Placed s ⌝ }
-    ensures { λ r. ⌜ r ≡ bounds-at s ⌝ }
+    ensures { λ r. ⌜ r ≡ ceilings-at s ⌝ }
 {
     tables_at(s) + 3 + 2 * (s.flows + s.mails + s.states)
 }
@@ -90,7 +91,7 @@ pub fn end_at(s: Sizes) -> usize
     requires { ⌜ Placed s ⌝ }
     ensures { λ r. ⌜ r ≡ end-at s ⌝ }
 {
-    bounds_at(s) + 2 + 2 * s.limits
+    ceilings_at(s) + 2 + 2 * s.entries
 }
 
 // A size is within its limits, both allowed.
@@ -126,7 +127,7 @@ pub fn bads_outside(s: Sizes) -> usize
     if !within(s.bads, 1, MAX_BADS) {
         return 0;
     }
-    if !within(s.conditions, MIN_BAD_ROWS, MAX_BAD_ROWS) {
+    if !within(s.badrows, MIN_BAD_ROWS, MAX_BAD_ROWS) {
         return 1;
     }
     2
@@ -149,13 +150,13 @@ pub fn tables_outside(s: Sizes) -> usize
 }
 
 // The same for the ceilings part, of two sizes.
-pub fn bounds_outside(s: Sizes) -> usize
-    ensures { λ r. ⌜ r ≡ first-outside (bounds-sizes s) ⌝ }
+pub fn ceilings_outside(s: Sizes) -> usize
+    ensures { λ r. ⌜ r ≡ first-outside (ceilings-sizes s) ⌝ }
 {
-    if !within(s.bounds, 0, MAX_BOUNDS) {
+    if !within(s.ceilings, 0, MAX_CEILINGS) {
         return 0;
     }
-    if !within(s.limits, 0, MAX_BOUND_ENTRIES) {
+    if !within(s.entries, 0, MAX_CEILING_ENTRIES) {
         return 1;
     }
     2

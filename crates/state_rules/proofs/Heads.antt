@@ -28,16 +28,17 @@ use Rattle.model.proofs.Numbering.Counters.{class-at-most, tag-inside}
 use Rattle.model.proofs.Parse.Locations.{Location, head-range, location-known}
 use Rattle.model.proofs.Parse.Lengths.{row-location, row-within}
 use Rattle.program.specs.Layout.{owner}
-use Rattle.lists.specs.Lists.{Ascending, place, range-from, range-to}
+use Rattle.lists.specs.Lists.{Ascending, place, range-from, range-to, Starts}
 use Rattle.lists.specs.Ready.{Ready}
 use Rattle.lists.proofs.Facts.{rows-fit, columns-whole, flow-form, states-form}
 use Rattle.lists.proofs.Rising.{begins-within, begins-order, place-upto}
 use Rattle.positions.proofs.Placed.{row-low, rows-most}
 use Rattle.positions.proofs.Standing.{lead-stands, rest-build, rest-call, rest-send, rest-spawn, rest-function, body-row, call-name, spawn-name, send-names}
 use Rattle.positions.specs.Positions.{Ends, Owners}
-use Rattle.system_letters.specs.Letters.{Starts}
 use Rattle.rules.specs.declared.Class.{Class}
-use Rattle.rules.specs.Derived.{Flow-sets, Entered}
+use Rattle.values.specs.Values.{width, Flow-sets}
+use Rattle.values.proofs.Gathered.{width-above}
+use Rattle.rules.specs.Derived.{Entered}
 use Rattle.rules.proofs.Gather.{gather-same, gather-part, each-range}
 use Rattle.state_rules.specs.Heads.{Led, Plain, give-turn, call-turn, spawn-turn}
 
@@ -197,20 +198,19 @@ module _ {ws : List ℕ} {s : Sizes} (h : Ready ws s) where
       returns-not g = rw (returns-call e, ← v, ← u, ← w, g) (sym (and-false (has (t .flow) a f)))
 
   -- the sets of the names
-  pub set-held : (w : ℕ) (flows : List ℕ) (r x a f : ℕ) → Flow-sets p t w flows → x ≡ tag p r → x ≡ 4 → a ≡ num p (r + 1) → f < s .rows → (f < 64 * w) × Row flows w a
+  pub set-held : (w : ℕ) (flows : List ℕ) (r x a f : ℕ) → (w ≡ width (s .rows)) × Flow-sets p t flows → x ≡ tag p r → x ≡ 4 → a ≡ num p (r + 1) → f < s .rows → (f < 64 * w) × Row flows w a
   unfolding kind program columns
-  set-held w flows r x a f g read e u l =
+  set-held w flows r x a f (same, g) read e u l =
       let z : tag p r ≡ 4 = sym read ∙ e in
       let low = call-name (here r (tag-head (tag p r) 4 z (omega arith) (omega arith))) (rw z) in
-      let wide = g .wide in
-      (omega arith, set-room w a (s .names) flows (omega arith) (g .room))
+      rw same (width-above (s .rows) f (omega arith), g .of-name a (omega arith) .row)
 
-  pub set-told : (w : ℕ) (flows : List ℕ) (r x a f : ℕ) (b : Bool) → Flow-sets p t w flows → x ≡ tag p r → x ≡ 4 → a ≡ num p (r + 1) → f < s .rows → b ≡ member flows w a f → b ≡ has (t .flow) a f
+  pub set-told : (w : ℕ) (flows : List ℕ) (r x a f : ℕ) (b : Bool) → (w ≡ width (s .rows)) × Flow-sets p t flows → x ≡ tag p r → x ≡ 4 → a ≡ num p (r + 1) → f < s .rows → b ≡ member flows w a f → b ≡ has (t .flow) a f
   unfolding kind program columns
-  set-told w flows r x a f b g read e u l same =
+  set-told w flows r x a f b (same, g) read e u l told =
       let z : tag p r ≡ 4 = sym read ∙ e in
       let low = call-name (here r (tag-head (tag p r) 4 z (omega arith) (omega arith))) (rw z) in
-      same ∙ g .has a f (omega arith) (omega arith)
+      told ∙ rw same (g .of-name a (omega arith) .holds f (width-above (s .rows) f (omega arith)))
 
   -- giving back leads behind a call
   returns-tag : (c g j : ℕ) → returns-to p t c g j ≡ true → tag p (right (t .states) j) ≡ 4

@@ -4,6 +4,13 @@ use lists::state_index;
 use lists::state_location;
 use lists::word;
 use model::Sizes;
+use model::TAG_CALL;
+use model::TAG_CASE;
+use model::TAG_GIVE;
+use model::TAG_PATTERN_CONSTRUCTOR;
+use model::TAG_RECEIVE;
+use model::TAG_SEND;
+use model::TAG_SPAWN;
 use positions::body;
 use positions::branch_body;
 use positions::is_class;
@@ -33,29 +40,24 @@ ghost use Rattle.model.specs.Rules.{puts, reads, state-rules};
 ghost use Rattle.positions.specs.Positions.{Ends, Owners};
 ghost use Rattle.rules.specs.Listed.{State-rules};
 ghost use Rattle.rules.specs.Added.{Added};
-ghost use Rattle.rules.specs.Derived.{Entered, Flow-sets, Rule-room, Rule-tables};
-ghost use Rattle.system_letters.specs.Letters.{Starts, Name-letters, Class-letters};
-ghost use Rattle.system_letters.specs.Letters.{Starts, Name-letters, Class-letters};
-ghost use Rattle.system_letters.specs.Letters.{Starts, Name-letters, Class-letters};
-ghost use Rattle.system_letters.specs.Letters.{Starts, Name-letters, Class-letters};
-ghost use Rattle.system_letters.specs.Letters.{Starts, Name-letters, Class-letters};
-ghost use Rattle.system_letters.specs.Letters.{Starts, Name-letters, Class-letters};
-ghost use Rattle.system_letters.specs.Letters.{Starts, Name-letters, Class-letters};
-ghost use Rattle.system_letters.specs.Letters.{Starts, Name-letters, Class-letters};
+ghost use Rattle.values.specs.Values.{width, Flow-sets};
+ghost use Rattle.rules.specs.Derived.{Entered, Rule-room, Rule-tables};
+ghost use Rattle.lists.specs.Lists.{Starts};
+ghost use Rattle.system_letters.specs.Letters.{Name-letters, Class-letters};
 ghost use Rattle.lists.specs.Ready.{Ready};
 ghost use Rattle.state_rules.specs.Heads.{Led, Plain, Pair-room, class-turn, takes-letter};
 
 // Does giving back from the function f lead to state j, of its class?
 fn returns_to(ws: &[u16], s: Sizes, w: usize, flows: &[u64], f: usize, j: usize) -> bool
     requires { ⌜ Ready (now ws) s ⌝ }
-    requires { ⌜ Flow-sets (program (now ws) s) (tables (now ws) s) w (now flows) ⌝ }
+    requires { ⌜ (w ≡ width (s .rows)) × Flow-sets (program (now ws) s) (tables (now ws) s) (now flows) ⌝ }
     requires { ⌜ (f < s .rows) × (j < s .states) ⌝ }
     ensures { λ b. ⌜ b ≡
         returns-to (program (now (ws .entry)) s) (tables (now (ws .entry)) s)
         (left (tables (now (ws .entry)) s .states) j) f j ⌝ }
 {
     let r = state_location(ws, s, j);
-    if tag(ws, s, r) != 4 {
+    if tag(ws, s, r) != TAG_CALL {
         return false;
     }
     let callee = num(ws, s, r + 1);
@@ -95,7 +97,7 @@ fn give_rules(
     requires { ⌜ Ready (now ws) s ⌝ }
     requires { ⌜ Ends (program (now ws) s) (now afters) ⌝ }
     requires { ⌜ Owners (program (now ws) s) (now inners) ⌝ }
-    requires { ⌜ Flow-sets (program (now ws) s) (tables (now ws) s) w (now flows) ⌝ }
+    requires { ⌜ (w ≡ width (s .rows)) × Flow-sets (program (now ws) s) (tables (now ws) s) (now flows) ⌝ }
     requires { ⌜ Entered (program (now ws) s) (tables (now ws) s) k (now at) ⌝ }
     requires { ⌜ tag (program (now ws) s) r ≡ 1 ⌝ }
     requires { ⌜ s .states ≤ length (now tos) ⌝ }
@@ -362,7 +364,7 @@ fn takes_letter(ws: &[u16], s: Sizes, q: usize, l: usize) -> bool
     requires { ⌜ Whole (now ws) s ⌝ }
     ensures { λ b. ⌜ b ≡ takes-letter (program (now (ws .entry)) s) q l ⌝ }
 {
-    if tag(ws, s, q) == 31 {
+    if tag(ws, s, q) == TAG_PATTERN_CONSTRUCTOR {
         l == num(ws, s, q)
     } else {
         true
@@ -490,9 +492,9 @@ pub fn state_rules(
 {
     let r = state_location(ws, s, i);
     match tag(ws, s, r) {
-        1 => give_rules(ws, s, afters, inners, w, flows, k, at, r, tos),
-        4 => call_rules(ws, s, flow_at, k, at, r, tos),
-        5 => send_rules(
+        TAG_GIVE => give_rules(ws, s, afters, inners, w, flows, k, at, r, tos),
+        TAG_CALL => call_rules(ws, s, flow_at, k, at, r, tos),
+        TAG_SEND => send_rules(
             ws,
             s,
             afters,
@@ -506,9 +508,9 @@ pub fn state_rules(
             tos,
             others,
         ),
-        6 => spawn_rules(ws, s, afters, flow_at, k, at, r, tos, others),
-        8 => case_rules(ws, s, afters, branches, i, k, at, r, tos),
-        9 => receive_rules(
+        TAG_SPAWN => spawn_rules(ws, s, afters, flow_at, k, at, r, tos, others),
+        TAG_CASE => case_rules(ws, s, afters, branches, i, k, at, r, tos),
+        TAG_RECEIVE => receive_rules(
             ws,
             s,
             afters,

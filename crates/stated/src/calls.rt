@@ -14,8 +14,9 @@ ghost use Rattle.model.specs.Index.{implies};
 ghost use Rattle.model.specs.Rows.{program, tag};
 ghost use Rattle.model.specs.Heads.{body, takes};
 ghost use Rattle.model.specs.Tables.{tables, state, has-state};
+ghost use Rattle.lists.specs.Lists.{Starts};
 ghost use Rattle.lists.specs.Ready.{Ready};
-ghost use Rattle.values.specs.Values.{width, Values, Flow-starts};
+ghost use Rattle.values.specs.Values.{width, Values};
 ghost use Rattle.stated.specs.Stated.{callees-here};
 
 // Where f takes so many arguments, whether its body is a state of the class c.
@@ -37,7 +38,7 @@ fn callee_here(ws: &[u16], s: Sizes, here: &[u64], c: usize, f: usize, count: us
 // Whether all these bodies are states of the class c.
 pub fn callees_here(ws: &[u16], s: Sizes, starts: &[u16], here: &[u64], c: usize, r: usize) -> bool
     requires { ⌜ Ready (now ws) s ⌝ }
-    requires { ⌜ Flow-starts (program (now ws) s) (tables (now ws) s) (now starts) ⌝ }
+    requires { ⌜ Starts (tables (now ws) s .flow) (s .names) (now starts) ⌝ }
     requires { ⌜ Values (tables (now ws) s .states) c (width (s .rows)) 0 (now here) ⌝ }
     requires { ⌜ tag (program (now ws) s) r ≡ 4 ⌝ }
     ensures { λ b. ⌜ b ≡ callees-here (program (now (ws .entry)) s) (tables (now (ws .entry)) s) c r ⌝ }

@@ -5,6 +5,7 @@ use lists::state_class;
 use lists::state_location;
 use lists::word;
 use model::Sizes;
+use model::TAG_CALL;
 use positions::takes;
 use program::rows::num;
 use program::rows::tag;
@@ -31,7 +32,7 @@ fn returns_to(ws: &[u16], s: Sizes, flow: &[u64], c: usize, f: usize, i: usize) 
     ensures { λ b. ⌜ b ≡ returns-to (program (now (ws .entry)) s) (tables (now (ws .entry)) s) c f i ⌝ }
 {
     let r = state_location(ws, s, i);
-    if tag(ws, s, r) != 4 {
+    if tag(ws, s, r) != TAG_CALL {
         return false;
     }
     let callee = num(ws, s, r + 1);

@@ -5,6 +5,11 @@ use branches::LACKS;
 use branches::bodies_closed;
 use branches::taken_bits;
 use model::Sizes;
+use model::TAG_CALL;
+use model::TAG_CASE;
+use model::TAG_GIVE;
+use model::TAG_RECEIVE;
+use model::TAG_SELF;
 use positions::rest;
 use program::rows::num;
 use program::rows::tag;
@@ -19,9 +24,10 @@ ghost use Rattle.model.specs.Scopes.{rest};
 ghost use Rattle.model.specs.Heads.{call-at, branch-rows, is-class};
 ghost use Rattle.model.specs.Tables.{tables, has, state, has-state};
 ghost use Rattle.model.specs.Closed.{call-closed};
+ghost use Rattle.lists.specs.Lists.{Starts};
 ghost use Rattle.lists.specs.Ready.{Ready};
 ghost use Rattle.positions.specs.Positions.{Run, Ends, Owners};
-ghost use Rattle.values.specs.Values.{width, Values, Flow-sets, Mail-sets, Flow-starts};
+ghost use Rattle.values.specs.Values.{width, Values, Flow-sets, Mail-sets};
 ghost use Rattle.matching.specs.Patterns.{Matches};
 ghost use Rattle.branches.specs.Taken.{code-closed};
 ghost use Rattle.asks.specs.Asks.{Asked};
@@ -66,7 +72,7 @@ fn call_closed(
     k: usize,
 ) -> bool
     requires { ⌜ Ready (now ws) s ⌝ }
-    requires { ⌜ Flow-starts (program (now ws) s) (tables (now ws) s) (now starts) ⌝ }
+    requires { ⌜ Starts (tables (now ws) s .flow) (s .names) (now starts) ⌝ }
     requires { ⌜ Values (tables (now ws) s .states) c (width (s .rows)) 0 (now here) ⌝ }
     requires { ⌜ tag (program (now ws) s) r ≡ 4 ⌝ }
     requires { ⌜ Asked (program (now ws) s) (tables (now ws) s) r k ⌝ }
@@ -163,7 +169,7 @@ pub fn state_bits(
     requires { ⌜ Ready (now ws) s ⌝ }
     requires { ⌜ Ends (program (now ws) s) (now afters) ⌝ }
     requires { ⌜ Owners (program (now ws) s) (now inners) ⌝ }
-    requires { ⌜ Flow-starts (program (now ws) s) (tables (now ws) s) (now starts) ⌝ }
+    requires { ⌜ Starts (tables (now ws) s .flow) (s .names) (now starts) ⌝ }
     requires { ⌜ Flow-sets (program (now ws) s) (tables (now ws) s) (now flow) ⌝ }
     requires { ⌜ Mail-sets (program (now ws) s) (tables (now ws) s) (now mail) ⌝ }
     requires { ⌜ Matches (program (now ws) s) (tables (now ws) s) (now may) (now held) 0 ⌝ }
@@ -175,14 +181,14 @@ pub fn state_bits(
     ensures { λ x. ⌜ Stated (program (now (ws .entry)) s) (tables (now (ws .entry)) s) c r x ⌝ }
 {
     match tag(ws, s, r) {
-        1 => unless(give_closed(ws, s, inners, flow, here, c, from, r)),
-        4 => unless(call_closed(ws, s, starts, here, c, r, k)),
-        7 => unless(self_closed(ws, s, afters, flow, here, c, r)),
-        8 => {
+        TAG_GIVE => unless(give_closed(ws, s, inners, flow, here, c, from, r)),
+        TAG_CALL => unless(call_closed(ws, s, starts, here, c, r, k)),
+        TAG_SELF => unless(self_closed(ws, s, afters, flow, here, c, r)),
+        TAG_CASE => {
             let count = num(ws, s, r + 1);
             branches_here(ws, s, afters, here, c, r + 2, count, k)
         }
-        9 => {
+        TAG_RECEIVE => {
             let number = num(ws, s, r);
             let set = mail_set(ws, s, c);
             let bits = taken_bits(ws, s, afters, flow, may, held, mail, set, r + 1, number);

@@ -9,7 +9,7 @@ use mir.Syntax.{Width}
 use borrow.Author.Tests.{eqb-false, lt-ltb, le-ltb, ltb-true, ltb-false, lt-leb}
 use Rattle.model.specs.Limits.{omega-limit}
 use Rattle.model.specs.Markings.{fire}
-use Rattle.model.specs.Bounds.{allowed}
+use Rattle.model.specs.Ceilings.{allowed}
 use Rattle.model.proofs.Logic.{test}
 use Rattle.steps.specs.declared.Step.{Step}
 use Rattle.steps.specs.Steps.{rule-of-step, more-if, raised, raise-if, as-limit, limit-after}

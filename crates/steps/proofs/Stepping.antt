@@ -9,7 +9,7 @@ use borrow.Author.Tests.{eq-eqb, ne-eqb, eqb-true, le-leb, lt-leb}
 use Rattle.model.specs.Limits.{omega-limit}
 use Rattle.model.specs.Rules.{rule}
 use Rattle.model.specs.Markings.{Marking, readable, usable, taking, adding, effect-taken, effect-added, fire}
-use Rattle.model.specs.Bounds.{Bound, highest}
+use Rattle.model.specs.Ceilings.{Ceiling-limits, highest}
 use Rattle.model.proofs.Logic.{true-false, test, or-cases}
 use Rattle.steps.specs.declared.Step.{Step}
 use Rattle.steps.specs.Steps.{effect-of, rule-of-step, takes-other, adds-other, effect-kind, less-if, more-if}

@@ -1,5 +1,8 @@
 // A limit raised by one; a rule by value, and the limit of a counter after it.
 use model::OMEGA;
+use model::TAG_RECEIVE;
+use model::TAG_SEND;
+use model::TAG_SPAWN;
 ghost use mathlib.Core.Path.{_≡_};
 ghost use Prim.Native.Nat.{_-_, _≤_};
 ghost use Rattle.model.specs.Limits.{omega-limit};
@@ -20,13 +23,13 @@ pub fn effect_kind(tag: usize) -> usize
     ensures { λ r. ⌜ r ≡ effect-kind tag ⌝ }
     ensures { λ r. ⌜ r ≤ 3 ⌝ }
 {
-    if tag == 5 {
+    if tag == TAG_SEND {
         return 2;
     }
-    if tag == 6 {
+    if tag == TAG_SPAWN {
         return 3;
     }
-    if tag == 9 { 1 } else { 0 }
+    if tag == TAG_RECEIVE { 1 } else { 0 }
 }
 
 // The limit that means unbounded.

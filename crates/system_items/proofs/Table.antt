@@ -36,7 +36,7 @@ module _ (ws : List ℕ) (s : Sizes) where
   ]
 
   -- the rows are as many as the message says
-  room-for-rows : (n : ℕ) → s .conditions ≤ n → bad-rows ws s .size ≤ n
+  room-for-rows : (n : ℕ) → s .badrows ≤ n → bad-rows ws s .size ≤ n
   unfolding bad-rows columns
   room-for-rows n h = h
 
@@ -50,7 +50,7 @@ module _ (ws : List ℕ) (s : Sizes) where
         (λ y z. let w : x ≡ y = e ∙ ap number-of z in omega (arith, counter-below-of (program ws s) (tables ws s) (keys-low h) k y z))
 
     -- all rows
-    pub all-filled : (r : ℕ) (items : List ℕ) → r ≡ s .conditions → Filled r items → s .conditions ≤ length items → Items-counted (program ws s) (tables ws s) (bad-rows ws s) (counter-count (program ws s) (tables ws s)) items
+    pub all-filled : (r : ℕ) (items : List ℕ) → r ≡ s .badrows → Filled r items → s .badrows ≤ length items → Items-counted (program ws s) (tables ws s) (bad-rows ws s) (counter-count (program ws s) (tables ws s)) items
     unfolding number-of
     all-filled r items e f room =
         record {

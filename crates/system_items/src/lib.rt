@@ -4,6 +4,7 @@ use ceilings_met::bad_tag;
 use lists::state_index;
 use lists::word;
 use model::Sizes;
+use model::TAG_HEAD;
 ghost use mathlib.Core.Path.{_≡_};
 ghost use Prim.Native.Nat.{_≤_};
 ghost use lib.ListN.{length, getD};
@@ -72,13 +73,13 @@ fn letter_number(
 fn item_number(ws: &[u16], s: Sizes, letter_at: &[u16], letters: &[u16], r: usize) -> usize
     requires { ⌜ Ready (now ws) s ⌝ }
     requires { ⌜ Class-letters (program (now ws) s) (tables (now ws) s) (now «letter_at») (now letters) ⌝ }
-    requires { ⌜ r ≤ s .conditions ⌝ }
+    requires { ⌜ r ≤ s .badrows ⌝ }
     ensures { λ x. ⌜ x ≡ number-of (counter-of (program (now (ws .entry)) s) (tables (now (ws .entry)) s)
         (counted (bad-rows (now (ws .entry)) s) r)) ⌝ }
 {
     let class = bad_number(ws, s, r);
     let subject = bad_number(ws, s, r + 1);
-    if bad_tag(ws, s, r + 1) == 41 {
+    if bad_tag(ws, s, r + 1) == TAG_HEAD {
         state_number(ws, s, class, subject)
     } else {
         letter_number(ws, s, letter_at, letters, class, subject)
@@ -90,12 +91,12 @@ pub fn fill_items(ws: &[u16], s: Sizes, letter_at: &[u16], letters: &[u16], item
     requires { ⌜ Ready (now ws) s ⌝ }
     requires { ⌜ Class-letters (program (now ws) s) (tables (now ws) s) (now «letter_at») (now letters) ⌝ }
     requires { ⌜ counter-count (program (now ws) s) (tables (now ws) s) ≤ maxCounters ⌝ }
-    requires { ⌜ s .conditions ≤ length (now items) ⌝ }
+    requires { ⌜ s .badrows ≤ length (now items) ⌝ }
     ensures { λ _. ⌜ Items-counted (program (now (ws .entry)) s) (tables (now (ws .entry)) s)
         (bad-rows (now (ws .entry)) s)
         (counter-count (program (now (ws .entry)) s) (tables (now (ws .entry)) s)) (now (items .exit)) ⌝ }
 {
-    for r in 0..s.conditions {
+    for r in 0..s.badrows {
         let x = item_number(ws, s, letter_at, letters, r);
         items[r] = x as u16;
     }

@@ -34,7 +34,7 @@ use Rattle.lists.specs.Lists.{Ascending, flow-span, listed, under, place, range
 use Rattle.lists.proofs.Facts.{flow-listed, flow-form}
 use Rattle.lists.specs.Ready.{Ready}
 use Rattle.lists.proofs.Rising.{under-intro, under-elim, over-elim, place-before, place-behind, place-upto, begins-order}
-use Rattle.system_letters.specs.Letters.{letters-before, Starts, Name-letters, Class-letters}
+use Rattle.system_letters.specs.Letters.{letters-before, Name-letters, Class-letters}
 use Rattle.system_letters.proofs.Pairs.{letters-few, letter-low}
 
 -- the letter of a value, by its row's tag
@@ -80,16 +80,6 @@ start-first c = omega arith
 pub start-next : (c : Columns) → Ascending c → (a j : ℕ) → j ≡ range-from c a → j ≤ range-from c (a + 1)
 unfolding range-from
 start-next c rising a j e = omega (arith, begins-order c a rising)
-
-pub start-small : (c : Columns) (a j n : ℕ) → j ≡ range-from c a → c .size < n → j < n
-unfolding range-from
-start-small c a j n e l = omega (arith, place-upto c a 0)
-
-pub starts-next : (c : Columns) (a x : ℕ) (starts : List ℕ) → ((k : ℕ) → k < a → getD starts k 0 ≡ range-from c k) → a < length starts → x ≡ range-from c a → (k : ℕ) → k < a + 1 → getD (set starts a x) k 0 ≡ range-from c k
-starts-next c a x starts f l e k b = elim (ℕ-discrete k a) [
-  | yes z ↦ ap (λ i. getD (set starts a x) i 0) z ∙ (getD-set-same starts a x 0 l ∙ (e ∙ ap (range-from c) (sym z)))
-  | no z ↦ getD-set-other starts a k x 0 z ∙ f k (omega arith)
-]
 
 -- the number of counters
 module _ {ws : List ℕ} {s : Sizes} (h : Ready ws s) (starts ls : List ℕ) (g : Class-letters (program ws s) (tables ws s) starts ls) where

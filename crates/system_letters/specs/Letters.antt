@@ -1,5 +1,4 @@
--- Tables made once from the lists: where the entries of a name or class begin, the letters of a name's values, the
--- letters of a class's mail.
+-- Tables made once from the lists: the letters of a name's values, the letters of a class's mail.
 use Prim.Native.Nat.{ℕ, _+_, _*_, _≤_, _<_}
 use mathlib.Core.Path.{_≡_}
 use mathlib.Core.Bool.{Bool, true}
@@ -8,18 +7,12 @@ use lib.ListN.{length, getD}
 use lib.Dec.{eqb}
 use Rattle.bits.specs.Bits.{member}
 use Rattle.model.specs.Index.{any, count}
-use Rattle.model.specs.Words.{Columns, right}
+use Rattle.model.specs.Words.{right}
 use Rattle.model.specs.Rows.{Program, size}
 use Rattle.model.specs.Letters.{letters, row-letter}
 use Rattle.model.specs.Tables.{Tables}
 use Rattle.model.specs.Counters.{letter-key, has-letter, letter-count}
 use Rattle.model.specs.Rules.{letter-of-some}
-use Rattle.lists.specs.Lists.{range-from}
-
--- word a is where the entries that begin with a stand, for a up to n
-pub record Starts (c : Columns) (n : ℕ) (starts : List ℕ) : Type 0 where
-  pub room : n < length starts
-  pub start : (a : ℕ) → a ≤ n → getD starts a 0 ≡ range-from c a
 
 -- set n, of two words, has the letters of the values of the name n
 pub record Name-letters (p : Program) (t : Tables) (names : List ℕ) : Type 0 where

@@ -11,8 +11,12 @@ use masks::next_in;
 use masks::none;
 use masks::only;
 use masks::or;
+use model::ADDRESS_LETTER;
 use model::MAX_COUNTERS;
 use model::Sizes;
+use model::TAG_BUILD;
+use model::TAG_FUNCTION;
+use model::TAG_GLOBAL;
 use model::Verdict;
 use program::rows::num;
 use program::rows::tag;
@@ -30,7 +34,7 @@ ghost use Rattle.program.specs.Rows.{Whole};
 ghost use Rattle.lists.specs.Lists.{Ascending, listed, Held, range-from};
 ghost use Rattle.lists.specs.Ready.{Ready};
 ghost use Rattle.masks.specs.Masks.{has};
-ghost use Rattle.system_letters.specs.Letters.{Starts, Name-letters, mail-letter, Written, Class-letters};
+ghost use Rattle.system_letters.specs.Letters.{Name-letters, mail-letter, Written, Class-letters};
 
 // The letter of a value of the tables: a constructor's number, C for a function, C + 1 for an address.
 pub fn row_letter(ws: &[u16], s: Sizes, v: usize) -> usize
@@ -38,9 +42,9 @@ pub fn row_letter(ws: &[u16], s: Sizes, v: usize) -> usize
     ensures { λ l. ⌜ l ≡ row-letter (program (now (ws .entry)) s) v ⌝ }
 {
     match tag(ws, s, v) {
-        2 => num(ws, s, v + 1),
-        3 | 11 => s.constructors,
-        _ => s.constructors + 1,
+        TAG_BUILD => num(ws, s, v + 1),
+        TAG_FUNCTION | TAG_GLOBAL => s.constructors,
+        _ => s.constructors + ADDRESS_LETTER,
     }
 }
 
@@ -59,21 +63,6 @@ fn start_from(ws: &[u16], l: Span, a: usize, j: usize) -> usize
         e += 1;
     }
     e
-}
-
-// Where the entries of each number up to n begin.
-pub fn fill_starts(ws: &[u16], l: Span, n: usize, starts: &mut [u16])
-    requires { ⌜ Held (now ws) l ⌝ }
-    requires { ⌜ Ascending (listed (now ws) l) ⌝ }
-    requires { ⌜ l .size < 65536 ⌝ }
-    requires { ⌜ (n < 65536) × (n < length (now starts)) ⌝ }
-    ensures { λ _. ⌜ Starts (listed (now (ws .entry)) l) n (now (starts .exit)) ⌝ }
-{
-    let mut e = 0;
-    for a in 0..n + 1 {
-        e = start_from(ws, l, a, e);
-        starts[a] = e as u16;
-    }
 }
 
 // The first n words are 0.

@@ -1,6 +1,8 @@
 // The listing is written: S, letters, rules, rows, then all tags, then all numbers.
 use lists::word;
 use model::Sizes;
+use model::TAG_FROM;
+use model::TAG_TO;
 use rules::no_class;
 use rules::turn_to;
 use state_rules::state_rules;
@@ -46,9 +48,9 @@ fn put_rule(
     requires { ⌜ (from < 65536) × (to < 65536) × (z < 65536) ⌝ }
     ensures { λ e. ⌜ Put (now (out .entry)) (now (out .exit)) n x e (rows-of from to third z) ⌝ }
 {
-    put(out, n, x, 50, from);
+    put(out, n, x, TAG_FROM, from);
     let second = x + 1;
-    put(out, n, second, 51, to);
+    put(out, n, second, TAG_TO, to);
     let behind = x + 2;
     if third == 0 {
         return behind;
@@ -71,7 +73,8 @@ fn put_rules(
     requires { ⌜ (m ≤ length (now tos)) × (m ≤ length (now others)) ⌝ }
     requires { ⌜ i < 65536 ⌝ }
     requires { ⌜ Room (now out) n x (lines (listed-rules (kind head) i (now tos) (now others) m)) ⌝ }
-    ensures { λ e. ⌜ Put (now (out .entry)) (now (out .exit)) n x e (lines (listed-rules (kind head) i (now (tos .entry)) (now (others .entry)) m)) ⌝ }
+    ensures { λ e. ⌜ Put (now (out .entry)) (now (out .exit)) n x e
+        (lines (listed-rules (kind head) i (now (tos .entry)) (now (others .entry)) m)) ⌝ }
 {
     let third = third_tag(head);
     let mut e = x;
@@ -104,11 +107,13 @@ fn write_rules(
     tos: &mut [u16],
     others: &mut [u16],
 ) -> usize
-    requires { ⌜ Rule-tables (now ws) s (now afters) (now inners) (now «flow_at») w (now flows) (now names) (now «letter_at») (now letters) (now branches) ⌝ }
+    requires { ⌜ Rule-tables (now ws) s (now afters) (now inners) (now «flow_at») w (now flows) (now names)
+        (now «letter_at») (now letters) (now branches) ⌝ }
     requires { ⌜ s .rows ≤ length (now at) ⌝ }
     requires { ⌜ Rule-room s (now tos) (now others) ⌝ }
     requires { ⌜ Room (now out) n 0 (lines (rules (program (now ws) s) (tables (now ws) s))) ⌝ }
-    ensures { λ e. ⌜ Put (now (out .entry)) (now (out .exit)) n 0 e (lines (rules (program (now (ws .entry)) s) (tables (now (ws .entry)) s))) ⌝ }
+    ensures { λ e. ⌜ Put (now (out .entry)) (now (out .exit)) n 0 e
+        (lines (rules (program (now (ws .entry)) s) (tables (now (ws .entry)) s))) ⌝ }
 {
     let mut e = 0;
     let mut k = no_class(ws, s, at);
@@ -172,13 +177,15 @@ pub fn write_listing(
     tos: &mut [u16],
     others: &mut [u16],
 )
-    requires { ⌜ Rule-tables (now ws) s (now afters) (now inners) (now «flow_at») w (now flows) (now names) (now «letter_at») (now letters) (now branches) ⌝ }
+    requires { ⌜ Rule-tables (now ws) s (now afters) (now inners) (now «flow_at») w (now flows) (now names)
+        (now «letter_at») (now letters) (now branches) ⌝ }
     requires { ⌜ s .rows ≤ length (now at) ⌝ }
     requires { ⌜ Rule-room s (now tos) (now others) ⌝ }
     requires { ⌜ n ≡ counted (rules (program (now ws) s) (tables (now ws) s)) ⌝ }
     requires { ⌜ (n .rules < 4294967296) × (n .rows < 4294967296) ⌝ }
     requires { ⌜ length (system-words (program (now ws) s) (tables (now ws) s)) ≤ length (now out) ⌝ }
-    ensures { λ r. ⌜ now (out .exit) ≡ written (system-words (program (now (ws .entry)) s) (tables (now (ws .entry)) s)) (now (out .entry)) ⌝ }
+    ensures { λ r. ⌜ now (out .exit) ≡
+        written (system-words (program (now (ws .entry)) s) (tables (now (ws .entry)) s)) (now (out .entry)) ⌝ }
 {
     let rows = n.rows;
     let count = counter_count(ws, s, letter_at, letters) - s.states;

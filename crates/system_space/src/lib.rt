@@ -33,11 +33,13 @@ pub fn space_verdict(
     others: &mut [u16],
     lent: &mut [u32],
 ) -> Verdict
-    requires { ⌜ Rule-tables (now ws) s (now afters) (now inners) (now «flow_at») w (now flows) (now names) (now «letter_at») (now letters) (now branches) ⌝ }
+    requires { ⌜ Rule-tables (now ws) s (now afters) (now inners) (now «flow_at») w (now flows) (now names)
+        (now «letter_at») (now letters) (now branches) ⌝ }
     requires { ⌜ s .rows ≤ length (now at) ⌝ }
     requires { ⌜ Rule-room s (now tos) (now others) ⌝ }
     requires { ⌜ Totalled (program (now ws) s) (tables (now ws) s) n ⌝ }
-    ensures { λ v. ⌜ v ≡ answer (space-check (program (now (ws .entry)) s) (tables (now (ws .entry)) s) (length (now (lent .entry)))) ⌝ }
+    ensures { λ v. ⌜ v ≡
+        answer (space-check (program (now (ws .entry)) s) (tables (now (ws .entry)) s) (length (now (lent .entry)))) ⌝ }
     ensures { λ v. ⌜ now (lent .exit) ≡ words-after v (now (ws .entry)) s (now (lent .entry)) ⌝ }
 {
     let needed = 4 + 2 * n.rows;

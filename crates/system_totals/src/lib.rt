@@ -1,6 +1,12 @@
 // How many rules and rows the listing has: the rows of the rules of one state.
 use lists::state_location;
 use model::Sizes;
+use model::TAG_PUTS;
+use model::TAG_READS;
+use model::TAG_RECEIVE;
+use model::TAG_SEND;
+use model::TAG_SPAWN;
+use model::TAG_STARTS;
 use program::rows::tag;
 ghost use mathlib.Core.Path.{_≡_};
 ghost use Prim.Native.Nat.{_*_, _≤_};
@@ -28,9 +34,9 @@ pub fn third_tag(head: usize) -> u32
     ensures { λ t. ⌜ t ≡ third-tag (kind head) ⌝ }
 {
     match head {
-        5 => 53,
-        6 => 54,
-        9 => 52,
+        TAG_SEND => TAG_PUTS,
+        TAG_SPAWN => TAG_STARTS,
+        TAG_RECEIVE => TAG_READS,
         _ => 0,
     }
 }

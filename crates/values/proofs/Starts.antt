@@ -18,10 +18,10 @@ use Rattle.model.proofs.Logic.{not-passes, not-fails}
 use Rattle.model.proofs.Index.{first-is, first-unique, first-hit, first-miss, first-end}
 use Rattle.lists.specs.declared.Span.{Span}
 use Rattle.lists.specs.Ready.{Ready}
-use Rattle.lists.specs.Lists.{span-at, flow-span, listed, under, place, range-from}
+use Rattle.lists.specs.Lists.{span-at, flow-span, listed, under, place, range-from, Starts}
 use Rattle.lists.proofs.Facts.{flow-listed}
 use Rattle.lists.proofs.Rising.{under-intro, under-same, under-other}
-use Rattle.values.specs.Values.{Flow-starts, reaches}
+use Rattle.values.specs.Values.{reaches}
 
 -- before the name n: entry i is reached, and the names before have their words
 pub record Begun (c : Columns) (starts : List ℕ) (i n : ℕ) : Type 0 where
@@ -72,11 +72,10 @@ module _ (c : Columns) (n : ℕ) where
         ];
       }
 
-pub begun-over : (ws : List ℕ) (s : Sizes) (l : Span) (t : List ℕ) (i n k : ℕ) → l ≡ flow-span s → s .names < k → length t ≡ k → Begun (listed ws l) t i n → s .names < n → Flow-starts (program ws s) (tables ws s) t
-unfolding program
+pub begun-over : (ws : List ℕ) (s : Sizes) (l : Span) (t : List ℕ) (i n k : ℕ) → l ≡ flow-span s → s .names < k → length t ≡ k → Begun (listed ws l) t i n → s .names < n → Starts (tables ws s .flow) (s .names) t
 begun-over ws s l t i n k e room same b over = record {
   room = omega arith;
-  from = λ m h. (rw (e, flow-listed ws s) at b) .done m (omega arith);
+  start = λ m h. (rw (e, flow-listed ws s) at b) .done m (omega arith);
 }
 
 -- the turns of the search, in a list of e entries

@@ -10,7 +10,6 @@ use Rattle.model.specs.Rows.{Program, size, num}
 use Rattle.model.specs.Heads.{is-class}
 use Rattle.model.specs.Tables.{Tables, has}
 use Rattle.bits.specs.Bits.{member, Row}
-use Rattle.lists.specs.Lists.{range-from}
 
 -- how many words a set has, where there are r rows: a bit for each row, and one for the class of the start
 unfoldable pub width : ℕ → ℕ
@@ -42,11 +41,6 @@ pub record Flow-sets (p : Program) (t : Tables) (flow : List ℕ) : Type 0 where
 -- the set of a class has its mail
 pub record Mail-sets (p : Program) (t : Tables) (mail : List ℕ) : Type 0 where
   pub of-class : (c : ℕ) → is-class p c ≡ true → Values (t .mail) c (width (size p)) (mail-set p c) mail
-
--- word n is where the flow entries of the name n begin, and those of the name before end
-pub record Flow-starts (p : Program) (t : Tables) (starts : List ℕ) : Type 0 where
-  pub room : p .names < length starts
-  pub from : (n : ℕ) → n ≤ p .names → getD starts n 0 ≡ range-from (t .flow) n
 
 -- entry i begins with n or a number behind it
 unfoldable pub reaches : Columns → ℕ → ℕ → Bool

@@ -14,9 +14,9 @@ ghost use Rattle.model.specs.Index.{first};
 ghost use Rattle.model.specs.Rows.{program};
 ghost use Rattle.model.specs.Tables.{tables};
 ghost use Rattle.program.specs.Rows.{Whole};
-ghost use Rattle.lists.specs.Lists.{Held, listed};
+ghost use Rattle.lists.specs.Lists.{Held, listed, Starts};
 ghost use Rattle.lists.specs.Ready.{Ready};
-ghost use Rattle.values.specs.Values.{width, mail-set, Empty, Room, Flow-sets, Mail-sets, Flow-starts, reaches};
+ghost use Rattle.values.specs.Values.{width, mail-set, Empty, Room, Flow-sets, Mail-sets, reaches};
 
 // How many words a set of values has: a bit for each row, and one for the class of the start.
 pub fn width(s: Sizes) -> usize
@@ -86,7 +86,7 @@ fn reach(ws: &[u16], l: Span, n: usize, i: usize) -> usize
 pub fn fill_starts(ws: &[u16], s: Sizes, starts: &mut [u16])
     requires { ⌜ Ready (now ws) s ⌝ }
     requires { ⌜ s .names < length (now starts) ⌝ }
-    ensures { λ _. ⌜ Flow-starts (program (now (ws .entry)) s) (tables (now (ws .entry)) s) (now (starts .exit)) ⌝ }
+    ensures { λ _. ⌜ Starts (tables (now (ws .entry)) s .flow) (s .names) (now (starts .exit)) ⌝ }
 {
     let l = flow(s);
     let mut i = 0;

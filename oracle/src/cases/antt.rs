@@ -68,6 +68,6 @@ pub fn definition(comment: &str, name: &str, kind: &str, lines: &[String]) -> St
 /// One name that opens all these definitions, for theorems closed by computation.
 pub fn opens(name: &str, definitions: &[String]) -> String {
     let comment = comment("the definitions above opened at once, for the theorems that compute the table", "");
-    let list = definitions.join(" ");
-    format!("{comment}\nunfoldable pub {name} : Unit {{0}}\nunfolding {list}\n{name} = tt\n")
+    let opened = folded(&format!("unfolding {}", definitions.join(" ")), INDENT);
+    format!("{comment}\nunfoldable pub {name} : Unit {{0}}\n{}\n{name} = tt\n", opened.trim_start())
 }

@@ -132,7 +132,7 @@ impl Parts {
         };
         words.extend(self.tables.iter().map(tables));
         words.extend(
-            self.bounds.iter().map(|(bounds, entries)| vec![format!("bound-words {bounds}"), antt::pairs(entries)]),
+            self.bounds.iter().map(|(bounds, entries)| vec![format!("ceiling-words {bounds}"), antt::pairs(entries)]),
         );
         let last = words.len() - 1;
         for part in &mut words[..last] {

@@ -7,10 +7,10 @@ use Rattle.bads.proofs.bad_check.Statement.{statement}
 use Rattle.bads.proofs.bad_check.Tie as tie
 
 abbrev Inv-loop : tie.InvT-loop
-Inv-loop ws s rows expected₀ r₀ expected r = (r ≤ s .conditions) × (first-bad ws s ≡ bad-from ws s expected r)
+Inv-loop ws s rows expected₀ r₀ expected r = (r ≤ s .badrows) × (first-bad ws s ≡ bad-from ws s expected r)
 
 abbrev μ-loop : tie.MeasureT-loop
-μ-loop ws s rows expected₀ r₀ expected r = s .conditions - r
+μ-loop ws s rows expected₀ r₀ expected r = s .badrows - r
 
 bad-rows-requires : tie.Need-bad-rows-requires Inv-loop μ-loop
 bad-rows-requires c κs = c .before .pre .limits
@@ -58,7 +58,7 @@ is-done-requires c κs = search needs
 
 returns-2 : tie.Need-returns-2 Inv-loop μ-loop
 returns-2 c =
-    let l = c .before .before .before .before .loop in let over : l .r ≡ c .before .before .before .before .before .before .before .args .s .conditions = omega arith in
+    let l = c .before .before .before .before .loop in let over : l .r ≡ c .before .before .before .before .before .before .before .args .s .badrows = omega arith in
     ended-safe _ _ _ (c .before .before .before .before .before .bad-rows .ensures) _ _ over (l .inv .1) _ (c .before .is-done .ensures) (c .if2 .taken)
 
 add-at-2 : tie.Need-add-at-2 Inv-loop μ-loop
@@ -67,7 +67,7 @@ add-at-2 c =
 
 returns-3 : tie.Need-returns-3 Inv-loop μ-loop
 returns-3 c =
-    let l = c .before .before .before .before .before .loop in let over : l .r ≡ c .before .before .before .before .before .before .before .before .args .s .conditions = omega arith in
+    let l = c .before .before .before .before .before .loop in let over : l .r ≡ c .before .before .before .before .before .before .before .before .args .s .badrows = omega arith in
     ended-early _ _ _ (c .before .before .before .before .before .before .bad-rows .ensures) _ _ over (l .inv .1) _ (c .before .before .is-done .ensures) (c .before .if2 .left)
 
 pub bad-check-spec : {M : Type 1} → statement M

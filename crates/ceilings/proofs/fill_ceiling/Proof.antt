@@ -4,26 +4,26 @@ use native.Mathlib.Omega.{arith}
 use mathlib.Core.Path.{sym, _∙_}
 use lib.ListN.{length}
 use borrow.Author.Needs.{needs}
-use Rattle.model.specs.Bounds.{bound-entries}
+use Rattle.model.specs.Ceilings.{ceiling-entries}
 use Rattle.bits.specs.Bits.{Row}
-use Rattle.bounds.proofs.Ceilings.{entries-size}
+use Rattle.ceilings_form.proofs.Ceilings.{entries-size}
 use Rattle.ceilings.proofs.Cells.{row-in}
 use Rattle.ceilings.proofs.Filling.{Filling, filling-start, filling-inside, filling-counter, filling-next, filling-end}
 use Rattle.ceilings.proofs.fill_ceiling.Statement.{statement}
 use Rattle.ceilings.proofs.fill_ceiling.Tie as tie
 
 abbrev Inv-loop : tie.InvT-loop
-Inv-loop ws s n k e limits₀ i₀ limits i = Filling n (bound-entries ws s) (s .bounds) k e i limits₀ limits
+Inv-loop ws s n k e limits₀ i₀ limits i = Filling n (ceiling-entries ws s) (s .ceilings) k e i limits₀ limits
 
 abbrev μ-loop : tie.MeasureT-loop
-μ-loop ws s n k e limits₀ i₀ limits i = s .limits - i
+μ-loop ws s n k e limits₀ i₀ limits i = s .entries - i
 
 -- an entry is left
-inside : (c : tie.At-loop Inv-loop μ-loop) → c .loop .i < c .before .before .before .args .s .limits
+inside : (c : tie.At-loop Inv-loop μ-loop) → c .loop .i < c .before .before .before .args .s .entries
 inside c = let a = c .before .before .before .args in omega (arith, filling-inside _ _ _ _ _ _ _ _ (c .loop .inv), entries-size (a .ws .now) (a .s))
 
 -- an entry that does not close the ceiling has one of the counters, whose limits stand in the table
-cell-row : (c : tie.Else1 Inv-loop μ-loop) → Row (c .before .before .loop .limits) (c .before .before .before .before .before .args .s .bounds) (c .before .counter-at .result)
+cell-row : (c : tie.Else1 Inv-loop μ-loop) → Row (c .before .before .loop .limits) (c .before .before .before .before .before .args .s .ceilings) (c .before .counter-at .result)
 cell-row c =
     let below = filling-counter _ _ _ _ _ _ _ _ (c .before .before .loop .inv) (λ z. c .if1 .left (c .before .counter-at .ensures ∙ z)) in
     let p = c .before .before .before .before .before .pre in

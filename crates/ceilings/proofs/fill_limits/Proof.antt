@@ -5,26 +5,26 @@ use native.Mathlib.Omega.{arith}
 use mathlib.Core.Path.{_≡_, refl, _∙_}
 use lib.ListN.{length, length-set}
 use borrow.Author.Needs.{needs}
-use Rattle.model.specs.Bounds.{bound-entries}
-use Rattle.bounds.proofs.Ceilings.{entries-size, stands, entry-inside}
+use Rattle.model.specs.Ceilings.{ceiling-entries}
+use Rattle.ceilings_form.proofs.Ceilings.{entries-size, stands, entry-inside}
 use Rattle.ceilings.proofs.Filling.{Filled, filled-start, filled-next, limits-table, starts-table}
 use Rattle.ceilings.proofs.fill_limits.Statement.{statement}
 use Rattle.ceilings.proofs.fill_limits.Tie as tie
 
 abbrev Inv-loop : tie.InvT-loop
-Inv-loop ws s n limits₀ starts₀ e₀ k₀ k-end limits starts e k = Filled n (bound-entries ws s) (s .bounds) k e limits starts × (k ≤ s .bounds) × (length limits ≡ length limits₀) × (length starts ≡ length starts₀)
+Inv-loop ws s n limits₀ starts₀ e₀ k₀ k-end limits starts e k = Filled n (ceiling-entries ws s) (s .ceilings) k e limits starts × (k ≤ s .ceilings) × (length limits ≡ length limits₀) × (length starts ≡ length starts₀)
 
 abbrev μ-loop : tie.MeasureT-loop
-μ-loop ws s n limits₀ starts₀ e₀ k₀ k-end limits starts e k = s .bounds - k
+μ-loop ws s n limits₀ starts₀ e₀ k₀ k-end limits starts e k = s .ceilings - k
 
 loop-holds : tie.Need-loop-holds Inv-loop μ-loop
 loop-holds c = let p = c .before .before .before .pre in (filled-start _ _ _ (p .1 .1 .0) _ _ (p .1 .1 .1 .0), zero-le, refl, refl)
 
 cast-starts : tie.Need-cast-starts Inv-loop μ-loop
-cast-starts c = let a = c .before .before .before .before .before .args in let h = entry-inside _ _ _ _ _ (c .before .loop .inv .0 .walked) in omega (arith, h, entries-size (a .ws .now) (a .s), c .before .before .before .before .before .pre .0 .limits .limits)
+cast-starts c = let a = c .before .before .before .before .before .args in let h = entry-inside _ _ _ _ _ (c .before .loop .inv .0 .walked) in omega (arith, h, entries-size (a .ws .now) (a .s), c .before .before .before .before .before .pre .0 .limits .entries)
 
 mul-starts : tie.Need-mul-starts Inv-loop μ-loop
-mul-starts c = record { fits = omega (arith, c .loop-test .taken, c .before .before .before .before .before .pre .0 .limits .bounds) }
+mul-starts c = record { fits = omega (arith, c .loop-test .taken, c .before .before .before .before .before .pre .0 .limits .ceilings) }
 
 slice-write-starts : tie.Need-slice-write-starts Inv-loop μ-loop
 slice-write-starts c = omega (arith, c .loop-test .taken, c .before .loop .inv .3, c .before .before .before .before .before .pre .1 .1 .1 .1 .1)
@@ -37,7 +37,7 @@ fill-ceiling-requires c κs =
     (p .0, ((p .1 .0, below), (stands _ _ _ _ _ (h .0 .walked) below, (h .0 .blank _ (le-refl _) below, omega (arith, h .2, p .1 .1 .1 .1 .0)))))
 
 add-k : tie.Need-add-k Inv-loop μ-loop
-add-k c = record { fits = omega (arith, c .before .before .before .before .loop-test .taken, c .before .before .before .before .before .before .before .before .before .pre .0 .limits .bounds) }
+add-k c = record { fits = omega (arith, c .before .before .before .before .loop-test .taken, c .before .before .before .before .before .before .before .before .before .pre .0 .limits .ceilings) }
 
 loop-less : tie.Need-loop-less Inv-loop μ-loop
 loop-less c = omega (arith, c .before .before .before .before .loop-test .taken)
@@ -64,7 +64,7 @@ returns : tie.Need-returns Inv-loop μ-loop
 returns c =
     let h = c .before .loop in
     let p = c .before .before .before .before .before .pre .1 .1 .1 .1 in
-    let z : h .k ≡ c .before .before .before .before .before .args .s .bounds = omega (arith, c .loop-test .left, h .inv .1) in
+    let z : h .k ≡ c .before .before .before .before .before .args .s .ceilings = omega (arith, c .loop-test .left, h .inv .1) in
     (limits-table _ _ _ _ _ _ _ z (h .inv .0) (omega (arith, h .inv .2, p .0)), starts-table _ _ _ _ _ _ _ z (h .inv .0) (omega (arith, h .inv .3, p .1)))
 
 pub fill-limits-spec : {M : Type 1} → statement M

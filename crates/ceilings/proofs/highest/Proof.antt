@@ -1,4 +1,4 @@
-use Rattle.bounds.proofs.Limited.{highest-omega, highest-limit}
+use Rattle.ceilings_form.proofs.Limited.{highest-omega, highest-limit}
 use borrow.Author.Needs.{needs}
 use Rattle.ceilings.proofs.highest.Statement.{statement}
 use Rattle.ceilings.proofs.highest.Tie as tie

@@ -17,7 +17,7 @@ use Rattle.ceilings_leaks.proofs.fill_groups.Tie as tie
 
 abbrev Inv-loop : tie.InvT-loop
 Inv-loop ws s afters inners flow-at w flows names letter-at letters branches n limits starts holders unbounded at₀ tos₀ others₀ group₀ class₀ rules₀ rows₀ i₀ i-end at tos others group class rules rows i =
-    Groups-upto (program ws s) (tables ws s) limits (s .bounds) n i group × Summed (program ws s) (tables ws s) i rules rows × Walk (program ws s) (tables ws s) at₀ tos₀ others₀ class at tos others × (i ≤ s .states) × (length group ≡ length group₀)
+    Groups-upto (program ws s) (tables ws s) limits (s .ceilings) n i group × Summed (program ws s) (tables ws s) i rules rows × Walk (program ws s) (tables ws s) at₀ tos₀ others₀ class at tos others × (i ≤ s .states) × (length group ≡ length group₀)
 
 abbrev μ-loop : tie.MeasureT-loop
 μ-loop ws s afters inners flow-at w flows names letter-at letters branches n limits starts holders unbounded at₀ tos₀ others₀ group₀ class₀ rules₀ rows₀ i₀ i-end at tos others group class rules rows i = s .states - i

@@ -1,4 +1,4 @@
-use Rattle.bounds.proofs.Reading.{begins-low}
+use Rattle.ceilings_form.proofs.Reading.{begins-low}
 -- The loops' invariants. Ceilings: the first that leaks is the first from k on. States: ceiling k leaks exactly where a state from the entry e on leads
 -- out. Rules: the same by the rules of state i from j on, and the states behind it. Candidates: some ceiling covers exactly where a candidate from a on
 -- does. Named counters: those before b pass.
@@ -13,10 +13,10 @@ use borrow.Author.Tests.{not-true, not-false}
 use Rattle.model.specs.Index.{any, first}
 use Rattle.model.specs.Rows.{program}
 use Rattle.model.specs.Tables.{tables}
-use Rattle.model.specs.Bounds.{bound-entries}
+use Rattle.model.specs.Ceilings.{ceiling-entries}
 use Rattle.rules.specs.Derived.{Entered}
-use Rattle.bounds.specs.Limits.{bound-end}
-use Rattle.bounds.proofs.Ceilings.{entries-size}
+use Rattle.ceilings_form.specs.Limits.{ceiling-end}
+use Rattle.ceilings_form.proofs.Ceilings.{entries-size}
 use Rattle.ceilings.proofs.Ahead.{ahead-inside}
 use Rattle.ceilings.proofs.Begun.{begun, room-all, row-at}
 use Rattle.ceilings_covers.specs.Covers.{named, passes}
@@ -28,7 +28,7 @@ use Rattle.ceilings_leaks.proofs.leak_check.Tie as tie
 
 abbrev Inv-loop : tie.InvT-loop
 Inv-loop ws s afters inners flow-at w flows names letter-at letters branches n limits starts holders unbounded group at tos others short more class k first over e i left m kind j to other step mask a₀ k2 b₀ k-end a b =
-    (b ≤ 3) × ((x : ℕ) → x < b → named step x < n → passes limits (s .bounds) k k2 step (named step x) ≡ true)
+    (b ≤ 3) × ((x : ℕ) → x < b → named step x < n → passes limits (s .ceilings) k k2 step (named step x) ≡ true)
 
 abbrev μ-loop : tie.MeasureT-loop
 μ-loop ws s afters inners flow-at w flows names letter-at letters branches n limits starts holders unbounded group at tos others short more class k first over e i left m kind j to other step mask a₀ k2 b₀ k-end a b = 3 - b
@@ -49,17 +49,17 @@ abbrev μ-rules : tie.MeasureT-rules
 
 abbrev Inv-states : tie.InvT-states
 Inv-states ws s afters inners flow-at w flows names letter-at letters branches n limits starts holders unbounded group at₀ tos₀ others₀ short more class₀ k₀ first over e₀ k-end at tos others class k e =
-    (k ≡ k₀) × Walk ws s n limits k (bound-end n (bound-entries ws s) first) e × Entered (program ws s) (tables ws s) class at × (length at ≡ length at₀) × (length tos ≡ length tos₀) × (length others ≡ length others₀)
+    (k ≡ k₀) × Walk ws s n limits k (ceiling-end n (ceiling-entries ws s) first) e × Entered (program ws s) (tables ws s) class at × (length at ≡ length at₀) × (length tos ≡ length tos₀) × (length others ≡ length others₀)
 
 abbrev μ-states : tie.MeasureT-states
-μ-states ws s afters inners flow-at w flows names letter-at letters branches n limits starts holders unbounded group at₀ tos₀ others₀ short more class₀ k₀ first over e₀ k-end at tos others class k e = s .limits - e
+μ-states ws s afters inners flow-at w flows names letter-at letters branches n limits starts holders unbounded group at₀ tos₀ others₀ short more class₀ k₀ first over e₀ k-end at tos others class k e = s .entries - e
 
 abbrev Inv-ceilings : tie.InvT-ceilings
 Inv-ceilings ws s afters inners flow-at w flows names letter-at letters branches n limits starts holders unbounded group at₀ tos₀ others₀ short₀ more₀ class₀ k₀ k-end at tos others short more class k =
-    (Rattle.model.specs.Index.first 0 (s .bounds) (leaks ws s n limits) ≡ Rattle.model.specs.Index.first k (s .bounds) (leaks ws s n limits)) × (k ≤ s .bounds) × Entered (program ws s) (tables ws s) class at × (length at ≡ length at₀) × (length tos ≡ length tos₀) × (length others ≡ length others₀) × (length short ≡ length short₀) × (length more ≡ length more₀)
+    (Rattle.model.specs.Index.first 0 (s .ceilings) (leaks ws s n limits) ≡ Rattle.model.specs.Index.first k (s .ceilings) (leaks ws s n limits)) × (k ≤ s .ceilings) × Entered (program ws s) (tables ws s) class at × (length at ≡ length at₀) × (length tos ≡ length tos₀) × (length others ≡ length others₀) × (length short ≡ length short₀) × (length more ≡ length more₀)
 
 abbrev μ-ceilings : tie.MeasureT-ceilings
-μ-ceilings ws s afters inners flow-at w flows names letter-at letters branches n limits starts holders unbounded group at₀ tos₀ others₀ short₀ more₀ class₀ k₀ k-end at tos others short more class k = s .bounds - k
+μ-ceilings ws s afters inners flow-at w flows names letter-at letters branches n limits starts holders unbounded group at₀ tos₀ others₀ short₀ more₀ class₀ k₀ k-end at tos others short more class k = s .ceilings - k
 
 ceilings-holds :
     tie.Need-ceilings-holds
@@ -87,7 +87,7 @@ mul-first :
     μ-states
     Inv-ceilings
     μ-ceilings
-mul-first c = record { fits = omega (arith, c .ceilings-test .taken, c .before .before .before .before .before .before .before .before .before .before .before .before .before .before .before .before .before .before .before .before .before .pre .0 .ready .limits .bounds) }
+mul-first c = record { fits = omega (arith, c .ceilings-test .taken, c .before .before .before .before .before .before .before .before .before .before .before .before .before .before .before .before .before .before .before .before .before .pre .0 .ready .limits .ceilings) }
 
 shared-slice-read-first :
     tie.Need-shared-slice-read-first
@@ -176,7 +176,7 @@ add-k :
     μ-states
     Inv-ceilings
     μ-ceilings
-add-k c = record { fits = omega (arith, c .before .before .before .states .inv .0, c .before .before .before .before .before .before .before .before .before .before .before .before .ceilings-test .taken, c .before .before .before .before .before .before .before .before .before .before .before .before .before .before .before .before .before .before .before .before .before .before .before .before .before .before .before .before .before .before .before .before .before .pre .0 .ready .limits .bounds) }
+add-k c = record { fits = omega (arith, c .before .before .before .states .inv .0, c .before .before .before .before .before .before .before .before .before .before .before .before .ceilings-test .taken, c .before .before .before .before .before .before .before .before .before .before .before .before .before .before .before .before .before .before .before .before .before .before .before .before .before .before .before .before .before .before .before .before .before .pre .0 .ready .limits .ceilings) }
 
 ceilings-less :
     tie.Need-ceilings-less
@@ -223,7 +223,7 @@ add-e :
     μ-states
     Inv-ceilings
     μ-ceilings
-add-e c = record { fits = omega (arith, ahead-inside _ _ _ _ _ _ (c .before .before .before .states .inv .1 .ahead), entries-size (c .before .before .before .before .before .before .before .before .before .before .before .before .before .before .before .before .before .before .before .before .before .before .before .before .before .before .before .before .before .before .before .before .before .args .ws .now) (c .before .before .before .before .before .before .before .before .before .before .before .before .before .before .before .before .before .before .before .before .before .before .before .before .before .before .before .before .before .before .before .before .before .args .s), c .before .before .before .before .before .before .before .before .before .before .before .before .before .before .before .before .before .before .before .before .before .before .before .before .before .before .before .before .before .before .before .before .before .pre .0 .ready .limits .limits) }
+add-e c = record { fits = omega (arith, ahead-inside _ _ _ _ _ _ (c .before .before .before .states .inv .1 .ahead), entries-size (c .before .before .before .before .before .before .before .before .before .before .before .before .before .before .before .before .before .before .before .before .before .before .before .before .before .before .before .before .before .before .before .before .before .args .ws .now) (c .before .before .before .before .before .before .before .before .before .before .before .before .before .before .before .before .before .before .before .before .before .before .before .before .before .before .before .before .before .before .before .before .before .args .s), c .before .before .before .before .before .before .before .before .before .before .before .before .before .before .before .before .before .before .before .before .before .before .before .before .before .before .before .before .before .before .before .before .before .pre .0 .ready .limits .entries) }
 
 left-after-requires :
     tie.Need-left-after-requires
@@ -241,7 +241,7 @@ left-after-requires c κs =
     let p = c .before .before .before .before .before .before .before .before .before .before .before .before .before .before .before .before .before .before .before .before .before .before .before .before .before .before .before .before .before .before .before .before .before .before .before .pre in
     let h = c .before .before .before .before .before .states .inv in
     let few = states-few _ _ _ _ (p .0 .ready) (p .1 .0 .counted) (p .1 .0 .limits-table) in
-    (beside-at _ _ _ _ _ _ _ _ _ _ (h .0) (room-all _ _ _ _ (p .1 .0 .in-form) (p .1 .0 .limits-table)) (p .0 .ready .limits .bounds) (c .before .before .before .before .before .before .before .before .before .before .before .before .before .before .ceilings-test .taken) (p .1 .0 .held-by) (c .before .before .before .before .before .before .before .before .before .before .compare .ensures .0) (c .before .before .before .before .before .before .before .before .before .before .compare .ensures .1) (omega (arith, c .before .before .before .before .before .before .before .before .before .before .compare .kept .1 .1 .1 .1 .1 .1 .1 .1 .0, c .before .before .before .before .before .before .before .before .before .before .before .before .before .before .before .ceilings .inv .6, p .1 .1 .1 .1 .1 .short-room)) (omega (arith, c .before .before .before .before .before .before .before .before .before .before .compare .kept .1 .1 .1 .1 .1 .1 .1 .1 .1 .0, c .before .before .before .before .before .before .before .before .before .before .before .before .before .before .before .ceilings .inv .7, p .1 .1 .1 .1 .1 .more-room)), (omega (arith, few, c .before .before .if1 .left), walk-limit _ _ _ _ _ (p .1 .1 .1 .0) _ _ _ (h .1) few _ (c .before .before .before .before .counter-at .ensures) (c .before .before .if1 .left)))
+    (beside-at _ _ _ _ _ _ _ _ _ _ (h .0) (room-all _ _ _ _ (p .1 .0 .in-form) (p .1 .0 .limits-table)) (p .0 .ready .limits .ceilings) (c .before .before .before .before .before .before .before .before .before .before .before .before .before .before .ceilings-test .taken) (p .1 .0 .held-by) (c .before .before .before .before .before .before .before .before .before .before .compare .ensures .0) (c .before .before .before .before .before .before .before .before .before .before .compare .ensures .1) (omega (arith, c .before .before .before .before .before .before .before .before .before .before .compare .kept .1 .1 .1 .1 .1 .1 .1 .1 .0, c .before .before .before .before .before .before .before .before .before .before .before .before .before .before .before .ceilings .inv .6, p .1 .1 .1 .1 .1 .short-room)) (omega (arith, c .before .before .before .before .before .before .before .before .before .before .compare .kept .1 .1 .1 .1 .1 .1 .1 .1 .1 .0, c .before .before .before .before .before .before .before .before .before .before .before .before .before .before .before .ceilings .inv .7, p .1 .1 .1 .1 .1 .more-room)), (omega (arith, few, c .before .before .if1 .left), walk-limit _ _ _ _ _ (p .1 .1 .1 .0) _ _ _ (h .1) few _ (c .before .before .before .before .counter-at .ensures) (c .before .before .if1 .left)))
 
 settled-requires :
     tie.Need-settled-requires
@@ -548,7 +548,7 @@ candidates-requires :
 candidates-requires c κs =
     let p = c .before .before .before .before .before .before .before .before .before .before .before .before .before .before .before .before .before .before .before .before .before .before .before .before .before .before .before .before .before .before .before .before .before .before .before .before .before .before .before .before .before .before .before .before .before .before .before .before .before .before .before .before .before .before .before .before .before .before .before .pre in
     let h = c .before .before .before .before .before .before .before .before .before .before .before .before .before .before .before .before .before .before .before .before .before .before .before .before .before .before .before .before .before .states .inv in
-    (beside-at _ _ _ _ _ _ _ _ _ _ (h .0) (room-all _ _ _ _ (p .1 .0 .in-form) (p .1 .0 .limits-table)) (p .0 .ready .limits .bounds) (c .before .before .before .before .before .before .before .before .before .before .before .before .before .before .before .before .before .before .before .before .before .before .before .before .before .before .before .before .before .before .before .before .before .before .before .before .before .before .ceilings-test .taken) (p .1 .0 .held-by) (c .before .before .before .before .before .before .before .before .before .before .before .before .before .before .before .before .before .before .before .before .before .before .before .before .before .before .before .before .before .before .before .before .before .before .compare .ensures .0) (c .before .before .before .before .before .before .before .before .before .before .before .before .before .before .before .before .before .before .before .before .before .before .before .before .before .before .before .before .before .before .before .before .before .before .compare .ensures .1) (omega (arith, c .before .before .before .before .before .before .before .before .before .before .before .before .before .before .before .before .before .before .before .before .before .before .before .before .before .before .before .before .before .before .before .before .before .before .compare .kept .1 .1 .1 .1 .1 .1 .1 .1 .0, c .before .before .before .before .before .before .before .before .before .before .before .before .before .before .before .before .before .before .before .before .before .before .before .before .before .before .before .before .before .before .before .before .before .before .before .before .before .before .before .ceilings .inv .6, p .1 .1 .1 .1 .1 .short-room)) (omega (arith, c .before .before .before .before .before .before .before .before .before .before .before .before .before .before .before .before .before .before .before .before .before .before .before .before .before .before .before .before .before .before .before .before .before .before .compare .kept .1 .1 .1 .1 .1 .1 .1 .1 .1 .0, c .before .before .before .before .before .before .before .before .before .before .before .before .before .before .before .before .before .before .before .before .before .before .before .before .before .before .before .before .before .before .before .before .before .before .before .before .before .before .before .ceilings .inv .7, p .1 .1 .1 .1 .1 .more-room)), (step-shape _ _ _ _ (p .0 .ready) (p .1 .0 .counted) (p .1 .0 .limits-table) _ _ _ _ _ _ (c .before .before .before .before .before .before .before .before .before .before .before .before .before .before .before .before .before .before .before .before .before .before .before .before .before .before .if1 .left) (c .before .before .before .before .before .before .before .before .before .before .before .before .before .state-rules .ensures) (c .before .before .before .before .before .before .before .before .kind-at .ensures .0) (c .before .before .before .before .before .before .before .before .kind-at .ensures .1) (c .before .before .before .before .before .before .rules-test .taken), (c .before .before .before .before .before .before .before .before .before .before .before .before .before .before .before .before .before .before .before .before .before .before .before .left-after .ensures, sym (c .before .before .before .is-usable .ensures) ∙ not-false _ (c .before .before .if3 .left))))
+    (beside-at _ _ _ _ _ _ _ _ _ _ (h .0) (room-all _ _ _ _ (p .1 .0 .in-form) (p .1 .0 .limits-table)) (p .0 .ready .limits .ceilings) (c .before .before .before .before .before .before .before .before .before .before .before .before .before .before .before .before .before .before .before .before .before .before .before .before .before .before .before .before .before .before .before .before .before .before .before .before .before .before .ceilings-test .taken) (p .1 .0 .held-by) (c .before .before .before .before .before .before .before .before .before .before .before .before .before .before .before .before .before .before .before .before .before .before .before .before .before .before .before .before .before .before .before .before .before .before .compare .ensures .0) (c .before .before .before .before .before .before .before .before .before .before .before .before .before .before .before .before .before .before .before .before .before .before .before .before .before .before .before .before .before .before .before .before .before .before .compare .ensures .1) (omega (arith, c .before .before .before .before .before .before .before .before .before .before .before .before .before .before .before .before .before .before .before .before .before .before .before .before .before .before .before .before .before .before .before .before .before .before .compare .kept .1 .1 .1 .1 .1 .1 .1 .1 .0, c .before .before .before .before .before .before .before .before .before .before .before .before .before .before .before .before .before .before .before .before .before .before .before .before .before .before .before .before .before .before .before .before .before .before .before .before .before .before .before .ceilings .inv .6, p .1 .1 .1 .1 .1 .short-room)) (omega (arith, c .before .before .before .before .before .before .before .before .before .before .before .before .before .before .before .before .before .before .before .before .before .before .before .before .before .before .before .before .before .before .before .before .before .before .compare .kept .1 .1 .1 .1 .1 .1 .1 .1 .1 .0, c .before .before .before .before .before .before .before .before .before .before .before .before .before .before .before .before .before .before .before .before .before .before .before .before .before .before .before .before .before .before .before .before .before .before .before .before .before .before .before .ceilings .inv .7, p .1 .1 .1 .1 .1 .more-room)), (step-shape _ _ _ _ (p .0 .ready) (p .1 .0 .counted) (p .1 .0 .limits-table) _ _ _ _ _ _ (c .before .before .before .before .before .before .before .before .before .before .before .before .before .before .before .before .before .before .before .before .before .before .before .before .before .before .if1 .left) (c .before .before .before .before .before .before .before .before .before .before .before .before .before .state-rules .ensures) (c .before .before .before .before .before .before .before .before .kind-at .ensures .0) (c .before .before .before .before .before .before .before .before .kind-at .ensures .1) (c .before .before .before .before .before .before .rules-test .taken), (c .before .before .before .before .before .before .before .before .before .before .before .before .before .before .before .before .before .before .before .before .before .before .before .left-after .ensures, sym (c .before .before .before .is-usable .ensures) ∙ not-false _ (c .before .before .if3 .left))))
 
 surely-covered-requires :
     tie.Need-surely-covered-requires
@@ -608,7 +608,7 @@ rules-again-2 c =
     let p = c .before .before .before .before .before .before .before .before .before .before .before .before .before .before .before .before .before .before .before .before .before .before .before .before .before .before .before .before .before .before .before .before .before .before .before .before .before .before .before .before .before .before .before .before .before .before .before .before .before .before .before .before .before .before .before .before .before .before .before .before .before .before .pre in
     let h = c .before .before .before .before .before .before .before .before .before .before .before .before .before .before .before .before .before .before .before .before .before .before .before .before .before .before .before .before .before .before .before .before .states .inv in
     let few = states-few _ _ _ _ (p .0 .ready) (p .1 .0 .counted) (p .1 .0 .limits-table) in
-    let some = left-surely (c .before .before .before .before .before .before .before .before .before .before .before .before .before .before .before .before .before .before .before .before .before .before .before .before .before .before .before .before .before .before .before .before .before .before .before .before .before .before .before .before .before .before .before .before .before .before .before .before .before .before .before .before .before .before .before .before .before .before .before .before .before .before .args .ws .now) (c .before .before .before .before .before .before .before .before .before .before .before .before .before .before .before .before .before .before .before .before .before .before .before .before .before .before .before .before .before .before .before .before .before .before .before .before .before .before .before .before .before .before .before .before .before .before .before .before .before .before .before .before .before .before .before .before .before .before .before .before .before .before .args .s) _ _ _ _ _ (c .before .before .candidates2 .ensures .0) (p .0 .ready .limits .bounds) (c .before .before .candidates2 .ensures .1) (sym (c .before .surely-covered .ensures) ∙ c .if4 .taken) in
+    let some = left-surely (c .before .before .before .before .before .before .before .before .before .before .before .before .before .before .before .before .before .before .before .before .before .before .before .before .before .before .before .before .before .before .before .before .before .before .before .before .before .before .before .before .before .before .before .before .before .before .before .before .before .before .before .before .before .before .before .before .before .before .before .before .before .before .args .ws .now) (c .before .before .before .before .before .before .before .before .before .before .before .before .before .before .before .before .before .before .before .before .before .before .before .before .before .before .before .before .before .before .before .before .before .before .before .before .before .before .before .before .before .before .before .before .before .before .before .before .before .before .before .before .before .before .before .before .before .before .before .before .before .before .args .s) _ _ _ _ _ (c .before .before .candidates2 .ensures .0) (p .0 .ready .limits .ceilings) (c .before .before .candidates2 .ensures .1) (sym (c .before .surely-covered .ensures) ∙ c .if4 .taken) in
     (rules-turn _ _ _ _ _ (p .1 .1 .1 .0) _ _ _ (h .1) few _ (c .before .before .before .before .before .before .before .before .before .before .before .before .before .before .before .before .before .before .before .before .before .before .before .before .before .before .before .before .before .before .before .counter-at .ensures) (c .before .before .before .before .before .before .before .before .before .before .before .before .before .before .before .before .before .before .before .before .before .before .before .before .before .before .before .before .before .if1 .left) _ _ _ _ (c .before .before .before .before .before .before .before .before .before .before .before .before .before .before .before .before .state-rules .ensures) (c .before .before .before .before .before .before .before .before .before .before .before .kind-at .ensures .0) _ (c .before .before .before .before .before .before .before .before .before .rules-test .taken) (c .before .before .before .before .before .before .before .before .before .before .rules .inv .0) (covered _ _ _ _ _ _ (sym (c .before .before .before .before .before .before .is-usable .ensures) ∙ not-false _ (c .before .before .before .before .before .if3 .left)) some), omega (arith, c .before .before .before .before .before .before .before .before .before .rules-test .taken))
 
 first-set-requires :
@@ -637,7 +637,7 @@ candidates-holds :
     μ-states
     Inv-ceilings
     μ-ceilings
-candidates-holds c = (refl, left-start _ _ _ _ _ _ _ (c .before .before .before .candidates2 .ensures .0) (c .before .before .before .before .before .before .before .before .before .before .before .before .before .before .before .before .before .before .before .before .before .before .before .before .before .before .before .before .before .before .before .before .before .before .before .before .before .before .before .before .before .before .before .before .before .before .before .before .before .before .before .before .before .before .before .before .before .before .before .before .before .before .before .pre .0 .ready .limits .bounds) _ (c .first-set .ensures))
+candidates-holds c = (refl, left-start _ _ _ _ _ _ _ (c .before .before .before .candidates2 .ensures .0) (c .before .before .before .before .before .before .before .before .before .before .before .before .before .before .before .before .before .before .before .before .before .before .before .before .before .before .before .before .before .before .before .before .before .before .before .before .before .before .before .before .before .before .before .before .before .before .before .before .before .before .before .before .before .before .before .before .before .before .before .before .before .before .before .pre .0 .ready .limits .ceilings) _ (c .first-set .ensures))
 
 loop-holds :
     tie.Need-loop-holds
@@ -682,7 +682,7 @@ passes-requires :
 passes-requires c κs =
     let p = c .before .before .before .before .before .before .before .before .before .before .before .before .before .before .before .before .before .before .before .before .before .before .before .before .before .before .before .before .before .before .before .before .before .before .before .before .before .before .before .before .before .before .before .before .before .before .before .before .before .before .before .before .before .before .before .before .before .before .before .before .before .before .before .before .before .before .before .before .before .pre in
     let h = c .before .before .before .before .before .before .before .before .before .before .before .before .before .before .before .before .before .before .before .before .before .before .before .before .before .before .before .before .before .before .before .before .before .before .before .before .before .before .before .states .inv in
-    ((omega (arith, h .0, c .before .before .before .before .before .before .before .before .before .before .before .before .before .before .before .before .before .before .before .before .before .before .before .before .before .before .before .before .before .before .before .before .before .before .before .before .before .before .before .before .before .before .before .before .before .before .before .before .ceilings-test .taken), left-low _ _ _ _ _ _ _ (c .before .before .before .before .before .before .before .before .before .candidates2 .ensures .0) (p .0 .ready .limits .bounds) _ (c .before .before .before .before .before .candidates .inv .1) (c .before .before .before .before .candidates-test .taken)), (row-at _ _ _ _ (p .1 .0 .in-form) (p .1 .0 .limits-table) _ (c .if5 .taken), c .before .before .before .before .before .before .before .before .before .before .before .before .before .before .before .before .before .before .kind-at .ensures .1))
+    ((omega (arith, h .0, c .before .before .before .before .before .before .before .before .before .before .before .before .before .before .before .before .before .before .before .before .before .before .before .before .before .before .before .before .before .before .before .before .before .before .before .before .before .before .before .before .before .before .before .before .before .before .before .before .ceilings-test .taken), left-low _ _ _ _ _ _ _ (c .before .before .before .before .before .before .before .before .before .candidates2 .ensures .0) (p .0 .ready .limits .ceilings) _ (c .before .before .before .before .before .candidates .inv .1) (c .before .before .before .before .candidates-test .taken)), (row-at _ _ _ _ (p .1 .0 .in-form) (p .1 .0 .limits-table) _ (c .if5 .taken), c .before .before .before .before .before .before .before .before .before .before .before .before .before .before .before .before .before .before .kind-at .ensures .1))
 
 add-next-in :
     tie.Need-add-next-in
@@ -740,7 +740,7 @@ candidates-again :
     μ-ceilings
 candidates-again c =
     let p = c .before .before .before .before .before .before .before .before .before .before .before .before .before .before .before .before .before .before .before .before .before .before .before .before .before .before .before .before .before .before .before .before .before .before .before .before .before .before .before .before .before .before .before .before .before .before .before .before .before .before .before .before .before .before .before .before .before .before .before .before .before .before .before .before .before .before .before .before .before .before .before .before .pre in
-    (c .before .before .before .before .before .before .before .before .candidates .inv .0, left-next _ _ _ _ _ _ _ (c .before .before .before .before .before .before .before .before .before .before .before .before .candidates2 .ensures .0) (p .0 .ready .limits .bounds) _ (c .before .before .before .before .before .before .before .before .candidates .inv .1) (c .before .before .before .before .before .before .before .candidates-test .taken) _ (c .next-in .ensures) (covers-not _ _ _ _ _ _ _ (c .before .before .before .if5 .taken) (sym (c .before .before .passes .ensures) ∙ not-true _ (c .before .if6 .taken))))
+    (c .before .before .before .before .before .before .before .before .candidates .inv .0, left-next _ _ _ _ _ _ _ (c .before .before .before .before .before .before .before .before .before .before .before .before .candidates2 .ensures .0) (p .0 .ready .limits .ceilings) _ (c .before .before .before .before .before .before .before .before .candidates .inv .1) (c .before .before .before .before .before .before .before .candidates-test .taken) _ (c .next-in .ensures) (covers-not _ _ _ _ _ _ _ (c .before .before .before .if5 .taken) (sym (c .before .before .passes .ensures) ∙ not-true _ (c .before .if6 .taken))))
 
 add-b :
     tie.Need-add-b
@@ -831,12 +831,12 @@ rules-again-3 c =
     let few = states-few _ _ _ _ (p .0 .ready) (p .1 .0 .counted) (p .1 .0 .limits-table) in
     let shape = step-shape _ _ _ _ (p .0 .ready) (p .1 .0 .counted) (p .1 .0 .limits-table) _ _ _ _ _ _ (c .before .before .before .before .before .before .before .before .before .before .before .before .before .before .before .before .before .before .before .before .before .before .before .before .before .before .before .before .before .before .before .before .before .before .if1 .left) (c .before .before .before .before .before .before .before .before .before .before .before .before .before .before .before .before .before .before .before .before .before .state-rules .ensures) (c .before .before .before .before .before .before .before .before .before .before .before .before .before .before .before .before .kind-at .ensures .0) (c .before .before .before .before .before .before .before .before .before .before .before .before .before .before .before .before .kind-at .ensures .1) (c .before .before .before .before .before .before .before .before .before .before .before .before .before .before .rules-test .taken) in
     let d = c .before .before .before .candidates .inv in
-    let low = left-low _ _ _ _ _ _ _ (c .before .before .before .before .before .before .before .candidates2 .ensures .0) (p .0 .ready .limits .bounds) _ (d .1) (c .before .before .candidates-test .taken) in
-    let some = left-covers _ _ _ _ _ _ _ (c .before .before .before .before .before .before .before .candidates2 .ensures .0) (p .0 .ready .limits .bounds) _ (d .1) (c .before .before .candidates-test .taken) (candidate-covers _ _ _ _ _ shape _ _ low (d .1 .in-mask (c .before .before .candidates-test .taken)) (c .before .before .before .before .before .before .before .candidates2 .ensures .0) (λ x l. c .before .loop .inv .1 x (omega (arith, l, c .loop-test .left)))) in
+    let low = left-low _ _ _ _ _ _ _ (c .before .before .before .before .before .before .before .candidates2 .ensures .0) (p .0 .ready .limits .ceilings) _ (d .1) (c .before .before .candidates-test .taken) in
+    let some = left-covers _ _ _ _ _ _ _ (c .before .before .before .before .before .before .before .candidates2 .ensures .0) (p .0 .ready .limits .ceilings) _ (d .1) (c .before .before .candidates-test .taken) (candidate-covers _ _ _ _ _ shape _ _ low (d .1 .in-mask (c .before .before .candidates-test .taken)) (c .before .before .before .before .before .before .before .candidates2 .ensures .0) (λ x l. c .before .loop .inv .1 x (omega (arith, l, c .loop-test .left)))) in
     rw (d .0) (rules-turn _ _ _ _ _ (p .1 .1 .1 .0) _ _ _ (h .1) few _ (c .before .before .before .before .before .before .before .before .before .before .before .before .before .before .before .before .before .before .before .before .before .before .before .before .before .before .before .before .before .before .before .before .before .before .before .before .counter-at .ensures) (c .before .before .before .before .before .before .before .before .before .before .before .before .before .before .before .before .before .before .before .before .before .before .before .before .before .before .before .before .before .before .before .before .before .before .if1 .left) _ _ _ _ (c .before .before .before .before .before .before .before .before .before .before .before .before .before .before .before .before .before .before .before .before .before .state-rules .ensures) (c .before .before .before .before .before .before .before .before .before .before .before .before .before .before .before .before .kind-at .ensures .0) _ (c .before .before .before .before .before .before .before .before .before .before .before .before .before .before .rules-test .taken) (c .before .before .before .before .before .before .before .before .before .before .before .before .before .before .before .rules .inv .0) (covered _ _ _ _ _ _ (sym (c .before .before .before .before .before .before .before .before .before .before .before .is-usable .ensures) ∙ not-false _ (c .before .before .before .before .before .before .before .before .before .before .if3 .left)) some), omega (arith, c .before .before .before .before .before .before .before .before .before .before .before .before .before .before .rules-test .taken))
 
-bounds-at-requires :
-    tie.Need-bounds-at-requires
+ceilings-at-requires :
+    tie.Need-ceilings-at-requires
     Inv-loop
     μ-loop
     Inv-candidates
@@ -847,7 +847,7 @@ bounds-at-requires :
     μ-states
     Inv-ceilings
     μ-ceilings
-bounds-at-requires c κs = c .before .before .before .before .before .before .before .before .before .before .before .before .before .before .before .before .before .before .before .before .before .before .before .before .before .before .before .before .before .before .before .before .before .before .before .before .before .before .before .before .before .before .before .before .before .before .before .before .before .before .before .before .before .before .before .before .before .before .before .before .before .before .before .before .before .pre .0 .ready .limits
+ceilings-at-requires c κs = c .before .before .before .before .before .before .before .before .before .before .before .before .before .before .before .before .before .before .before .before .before .before .before .before .before .before .before .before .before .before .before .before .before .before .before .before .before .before .before .before .before .before .before .before .before .before .before .before .before .before .before .before .before .before .before .before .before .before .before .before .before .before .before .before .before .pre .0 .ready .limits
 
 add-place :
     tie.Need-add-place
@@ -861,7 +861,7 @@ add-place :
     μ-states
     Inv-ceilings
     μ-ceilings
-add-place c = record { fits = omega (arith, c .bounds-at .ensures, begins-low _ (c .before .before .before .before .before .before .before .before .before .before .before .before .before .before .before .before .before .before .before .before .before .before .before .before .before .before .before .before .before .before .before .before .before .before .before .before .before .before .before .before .before .before .before .before .before .before .before .before .before .before .before .before .before .before .before .before .before .before .before .before .before .before .before .before .before .before .pre .0 .ready .limits)) }
+add-place c = record { fits = omega (arith, c .ceilings-at .ensures, begins-low _ (c .before .before .before .before .before .before .before .before .before .before .before .before .before .before .before .before .before .before .before .before .before .before .before .before .before .before .before .before .before .before .before .before .before .before .before .before .before .before .before .before .before .before .before .before .before .before .before .before .before .before .before .before .before .before .before .before .before .before .before .before .before .before .before .before .before .before .pre .0 .ready .limits)) }
 
 add-place-2 :
     tie.Need-add-place-2
@@ -875,7 +875,7 @@ add-place-2 :
     μ-states
     Inv-ceilings
     μ-ceilings
-add-place-2 c = record { fits = omega (arith, c .bounds-at .ensures, begins-low _ (c .before .before .before .before .before .before .before .before .before .before .before .before .before .before .before .before .before .before .before .before .before .before .before .before .before .before .before .before .before .before .before .before .before .before .before .before .before .before .before .before .before .before .before .before .before .before .before .before .before .before .before .before .before .before .before .before .before .before .before .before .before .before .before .before .before .before .pre .0 .ready .limits), c .before .before .before .before .before .before .before .before .before .before .before .before .before .before .before .before .before .before .before .before .before .before .before .before .before .before .before .before .before .before .before .before .before .before .before .before .before .before .before .before .before .before .before .before .before .before .before .before .before .before .before .before .before .before .before .shared-slice-known11 .given (c .before .before .before .before .before .before .before .before .before .before .before .before .before .before .before .before .before .before .before .before .before .before .before .before .before .before .before .before .before .before .before .before .before .before .before .before .before .before .before .before .before .before .before .before .before .before .ceilings .k)) }
+add-place-2 c = record { fits = omega (arith, c .ceilings-at .ensures, begins-low _ (c .before .before .before .before .before .before .before .before .before .before .before .before .before .before .before .before .before .before .before .before .before .before .before .before .before .before .before .before .before .before .before .before .before .before .before .before .before .before .before .before .before .before .before .before .before .before .before .before .before .before .before .before .before .before .before .before .before .before .before .before .before .before .before .before .before .before .pre .0 .ready .limits), c .before .before .before .before .before .before .before .before .before .before .before .before .before .before .before .before .before .before .before .before .before .before .before .before .before .before .before .before .before .before .before .before .before .before .before .before .before .before .before .before .before .before .before .before .before .before .before .before .before .before .before .before .before .before .before .shared-slice-known11 .given (c .before .before .before .before .before .before .before .before .before .before .before .before .before .before .before .before .before .before .before .before .before .before .before .before .before .before .before .before .before .before .before .before .before .before .before .before .before .before .before .before .before .before .before .before .before .before .ceilings .k)) }
 
 same-length :
     tie.Need-same-length
@@ -963,9 +963,9 @@ returns c =
     let p = c .before .before .before .before .before .before .before .before .before .before .before .before .before .before .before .before .before .before .before .before .before .before .before .before .before .before .before .before .before .before .before .before .before .before .before .before .before .before .before .before .before .before .before .before .before .before .before .before .before .before .before .before .before .before .before .before .before .before .before .before .before .before .before .before .before .before .pre in
     let h = c .before .before .before .before .before .before .before .before .before .before .before .before .before .before .before .before .before .before .before .before .before .before .before .before .before .before .before .before .before .before .before .before .before .before .before .before .states .inv in
     let few = states-few _ _ _ _ (p .0 .ready) (p .1 .0 .counted) (p .1 .0 .limits-table) in
-    let none = left-none _ _ _ _ _ _ _ (c .before .before .before .before .before .before .candidates2 .ensures .0) (p .0 .ready .limits .bounds) _ (c .before .before .candidates .inv .1) (c .before .candidates-test .left) in
+    let none = left-none _ _ _ _ _ _ _ (c .before .before .before .before .before .before .candidates2 .ensures .0) (p .0 .ready .limits .ceilings) _ (c .before .before .candidates .inv .1) (c .before .candidates-test .left) in
     let out = rules-leak _ _ _ _ _ (p .1 .1 .1 .0) _ _ _ (h .1) few _ (c .before .before .before .before .before .before .before .before .before .before .before .before .before .before .before .before .before .before .before .before .before .before .before .before .before .before .before .before .before .before .before .before .before .before .before .counter-at .ensures) (c .before .before .before .before .before .before .before .before .before .before .before .before .before .before .before .before .before .before .before .before .before .before .before .before .before .before .before .before .before .before .before .before .before .if1 .left) _ _ _ _ (c .before .before .before .before .before .before .before .before .before .before .before .before .before .before .before .before .before .before .before .before .state-rules .ensures) (c .before .before .before .before .before .before .before .before .before .before .before .before .before .before .before .kind-at .ensures .0) _ (c .before .before .before .before .before .before .before .before .before .before .before .before .before .rules-test .taken) (c .before .before .before .before .before .before .before .before .before .before .before .before .before .before .rules .inv .0) (led-out _ _ _ _ _ _ (sym (c .before .before .before .before .before .before .before .before .before .before .is-usable .ensures) ∙ not-false _ (c .before .before .before .before .before .before .before .before .before .if3 .left)) none) in
-    leak-refused-at _ _ _ _ (p .0 .ready) (p .1 .0 .counted) (p .1 .0 .limits-table) _ _ _ _ _ (p .1 .0 .starts-table) (h .0) (c .before .before .before .before .before .before .before .before .before .before .before .before .before .before .before .before .before .before .before .before .before .before .before .before .before .before .before .before .before .before .before .before .before .before .before .before .before .before .before .before .before .before .before .before .before .ceilings-test .taken) (c .before .before .before .before .before .before .before .before .before .before .before .before .before .before .before .before .before .before .before .before .before .before .before .before .before .before .before .before .before .before .before .before .before .before .before .before .before .before .before .before .before .before .before .before .before .before .ceilings .inv .0) out (c .bounds-at .ensures) refl
+    leak-refused-at _ _ _ _ (p .0 .ready) (p .1 .0 .counted) (p .1 .0 .limits-table) _ _ _ _ _ (p .1 .0 .starts-table) (h .0) (c .before .before .before .before .before .before .before .before .before .before .before .before .before .before .before .before .before .before .before .before .before .before .before .before .before .before .before .before .before .before .before .before .before .before .before .before .before .before .before .before .before .before .before .before .before .ceilings-test .taken) (c .before .before .before .before .before .before .before .before .before .before .before .before .before .before .before .before .before .before .before .before .before .before .before .before .before .before .before .before .before .before .before .before .before .before .before .before .before .before .before .before .before .before .before .before .before .before .ceilings .inv .0) out (c .ceilings-at .ensures) refl
 
 same-length-6 :
     tie.Need-same-length-6
@@ -1118,7 +1118,7 @@ leak-check-spec =
     add-j-3
     rules-less-3
     rules-again-3
-    bounds-at-requires
+    ceilings-at-requires
     add-place
     add-place-2
     same-length

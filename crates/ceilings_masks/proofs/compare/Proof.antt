@@ -4,9 +4,9 @@ use native.Mathlib.Omega.{arith}
 use mathlib.Core.Path.{_≡_, refl, sym, _∙_}
 use lib.ListN.{length}
 use borrow.Author.Needs.{needs}
-use Rattle.model.specs.Bounds.{bound-entries}
-use Rattle.bounds.specs.Limits.{bound-end}
-use Rattle.bounds.proofs.Ceilings.{entries-size}
+use Rattle.model.specs.Ceilings.{ceiling-entries}
+use Rattle.ceilings_form.specs.Limits.{ceiling-end}
+use Rattle.ceilings_form.proofs.Ceilings.{entries-size}
 use Rattle.ceilings.proofs.Begun.{begun, room-all}
 use Rattle.ceilings_masks.proofs.Turning.{Turning, counted-start, turning-start, turning-inside, turning-counter, turning-end, turning-next}
 use Rattle.ceilings_masks.proofs.compare.Statement.{statement}
@@ -14,13 +14,13 @@ use Rattle.ceilings_masks.proofs.compare.Tie as tie
 
 abbrev Inv-loop : tie.InvT-loop
 Inv-loop ws s n limits holders unbounded k e short₀ more₀ over₀ i₀ short more over i =
-    Turning n (bound-entries ws s) limits (s .bounds) k (bound-end n (bound-entries ws s) e) i over short more × (length short ≡ length short₀) × (length more ≡ length more₀)
+    Turning n (ceiling-entries ws s) limits (s .ceilings) k (ceiling-end n (ceiling-entries ws s) e) i over short more × (length short ≡ length short₀) × (length more ≡ length more₀)
 
 abbrev μ-loop : tie.MeasureT-loop
-μ-loop ws s n limits holders unbounded k e short₀ more₀ over₀ i₀ short more over i = s .limits - i
+μ-loop ws s n limits holders unbounded k e short₀ more₀ over₀ i₀ short more over i = s .entries - i
 
 -- an entry is left
-inside : (c : tie.At-loop Inv-loop μ-loop) → c .loop .i < c .before .before .before .before .before .before .before .before .before .before .args .s .limits
+inside : (c : tie.At-loop Inv-loop μ-loop) → c .loop .i < c .before .before .before .before .before .before .before .before .before .before .args .s .entries
 inside c = let a = c .before .before .before .before .before .before .before .before .before .before .args in omega (arith, turning-inside _ _ _ _ _ _ _ _ _ _ (c .loop .inv .0), entries-size (a .ws .now) (a .s))
 
 none-requires : tie.Need-none-requires Inv-loop μ-loop
@@ -53,13 +53,13 @@ put-counter-requires : tie.Need-put-counter-requires Inv-loop μ-loop
 put-counter-requires c κs =
     let p = c .before .before .before .before .before .before .before .before .before .before .before .before .before .before .pre .1 in
     let below = turning-counter _ _ _ _ _ _ _ _ _ _ (c .before .before .before .before .loop .inv .0) (λ z. c .before .before .if1 .left (c .before .before .before .counter-at .ensures ∙ z)) in
-    ((c .before .before .before .before .before .before .before .before .before .before .before .before .before .before .pre .0 .limits .bounds, omega (arith, below, c .before .before .before .counter-at .ensures)), (p .1 .1 .1 .0 .0, (room-all _ _ _ _ (p .0) (p .1 .0), (p .1 .1 .0, (omega (arith, p .1 .1 .1 .1 .0, c .before .before .before .before .loop .inv .1), omega (arith, p .1 .1 .1 .1 .1, c .before .before .before .before .loop .inv .2))))))
+    ((c .before .before .before .before .before .before .before .before .before .before .before .before .before .before .pre .0 .limits .ceilings, omega (arith, below, c .before .before .before .counter-at .ensures)), (p .1 .1 .1 .0 .0, (room-all _ _ _ _ (p .0) (p .1 .0), (p .1 .1 .0, (omega (arith, p .1 .1 .1 .1 .0, c .before .before .before .before .loop .inv .1), omega (arith, p .1 .1 .1 .1 .1, c .before .before .before .before .loop .inv .2))))))
 
 over-more-requires : tie.Need-over-more-requires Inv-loop μ-loop
 over-more-requires c κs = tt
 
 add-i : tie.Need-add-i Inv-loop μ-loop
-add-i c = let h = inside (c .before .before .before .before .before .before .before .before .before .before) in record { fits = omega (arith, h, c .before .before .before .before .before .before .before .before .before .before .before .before .before .before .before .before .before .before .before .before .pre .0 .limits .limits) }
+add-i c = let h = inside (c .before .before .before .before .before .before .before .before .before .before) in record { fits = omega (arith, h, c .before .before .before .before .before .before .before .before .before .before .before .before .before .before .before .before .before .before .before .before .pre .0 .limits .entries) }
 
 loop-less : tie.Need-loop-less Inv-loop μ-loop
 loop-less c = let h = inside (c .before .before .before .before .before .before .before .before .before .before) in omega (arith, h)
@@ -68,7 +68,7 @@ loop-again : tie.Need-loop-again Inv-loop μ-loop
 loop-again c =
     let o = c .over-more .ensures in
     let m = c .before .before .before .before .before .put-counter .ensures in
-    (turning-next _ _ _ _ _ _ _ _ _ _ (c .before .before .before .before .before .before .before .before .before .before .loop .inv .0) _ _ _ _ _ (c .before .before .before .before .before .before .before .before .before .counter-at .ensures) (λ z. c .before .before .before .before .before .before .before .before .if1 .left (c .before .before .before .before .before .before .before .before .before .counter-at .ensures ∙ z)) (c .before .before .before .before .before .before .before .before .before .before .before .before .before .before .before .before .before .before .before .before .pre .0 .limits .bounds) (m .0) (o .0) (o .1 .0) (o .1 .1) (m .1 .0) (m .1 .1), m .1 .0 .long ∙ c .before .before .before .before .before .before .before .before .before .before .loop .inv .1, m .1 .1 .long ∙ c .before .before .before .before .before .before .before .before .before .before .loop .inv .2)
+    (turning-next _ _ _ _ _ _ _ _ _ _ (c .before .before .before .before .before .before .before .before .before .before .loop .inv .0) _ _ _ _ _ (c .before .before .before .before .before .before .before .before .before .counter-at .ensures) (λ z. c .before .before .before .before .before .before .before .before .if1 .left (c .before .before .before .before .before .before .before .before .before .counter-at .ensures ∙ z)) (c .before .before .before .before .before .before .before .before .before .before .before .before .before .before .before .before .before .before .before .before .pre .0 .limits .ceilings) (m .0) (o .0) (o .1 .0) (o .1 .1) (m .1 .0) (m .1 .1), m .1 .0 .long ∙ c .before .before .before .before .before .before .before .before .before .before .loop .inv .1, m .1 .1 .long ∙ c .before .before .before .before .before .before .before .before .before .before .loop .inv .2)
 
 pub compare-spec : {M : Type 1} → statement M
 compare-spec =

@@ -10,10 +10,10 @@ use Rattle.ceilings_met.proofs.meets.Statement.{statement}
 use Rattle.ceilings_met.proofs.meets.Tie as tie
 
 abbrev Inv-loop : tie.InvT-loop
-Inv-loop ws s n limits items k r i₀ i = (met (most ws s n k) (bad-rows ws s) r ≡ met (most ws s n k) (bad-rows ws s) i) × (i ≤ s .conditions + 3)
+Inv-loop ws s n limits items k r i₀ i = (met (most ws s n k) (bad-rows ws s) r ≡ met (most ws s n k) (bad-rows ws s) i) × (i ≤ s .badrows + 3)
 
 abbrev μ-loop : tie.MeasureT-loop
-μ-loop ws s n limits items k r i₀ i = s .conditions + 3 - i
+μ-loop ws s n limits items k r i₀ i = s .badrows + 3 - i
 
 loop-holds : tie.Need-loop-holds Inv-loop μ-loop
 loop-holds c = (refl, search needs)

@@ -28,7 +28,7 @@ loop-holds : tie.Need-loop-holds Inv-loop μ-loop
 loop-holds c = let a = c .before .before .before .before .args in (refl, bads-start (a .ws .now) (a .s) (a .n) (c .before .before .before .before .pre .1), zero-le)
 
 add-here : tie.Need-add-here Inv-loop μ-loop
-add-here c = let a = c .before .before .before .before .before .before .args in let h = bads-inside (a .ws .now) (a .s) (a .n) _ _ (c .before .loop .inv .1) in let l = c .before .before .before .before .before .before .pre .0 .whole .limits in record { fits = omega (arith, h, l .rows, l .conditions) }
+add-here c = let a = c .before .before .before .before .before .before .args in let h = bads-inside (a .ws .now) (a .s) (a .n) _ _ (c .before .loop .inv .1) in let l = c .before .before .before .before .before .before .pre .0 .whole .limits in record { fits = omega (arith, h, l .rows, l .badrows) }
 
 some-allows-requires : tie.Need-some-allows-requires Inv-loop μ-loop
 some-allows-requires c κs = let a = c .before .before .before .before .before .before .args in (c .before .before .before .before .before .before .pre .0, bads-inside (a .ws .now) (a .s) (a .n) _ _ (c .before .loop .inv .1))

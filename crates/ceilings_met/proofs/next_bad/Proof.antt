@@ -12,10 +12,10 @@ use Rattle.ceilings_met.proofs.next_bad.Statement.{statement}
 use Rattle.ceilings_met.proofs.next_bad.Tie as tie
 
 abbrev Inv-loop : tie.InvT-loop
-Inv-loop ws s r i₀ i = ((m : ℕ) × (read (bad-step (program ws s)) (bad-rows ws s) m (further ∷ []) i ≡ past (bad-end (program ws s) (bad-rows ws s) r))) × (i ≤ s .conditions + 3)
+Inv-loop ws s r i₀ i = ((m : ℕ) × (read (bad-step (program ws s)) (bad-rows ws s) m (further ∷ []) i ≡ past (bad-end (program ws s) (bad-rows ws s) r))) × (i ≤ s .badrows + 3)
 
 abbrev μ-loop : tie.MeasureT-loop
-μ-loop ws s r i₀ i = s .conditions + 3 - i
+μ-loop ws s r i₀ i = s .badrows + 3 - i
 
 add-i : tie.Need-add-i Inv-loop μ-loop
 add-i c = search needs
@@ -36,7 +36,7 @@ add-i-2 : tie.Need-add-i-2 Inv-loop μ-loop
 add-i-2 c = search needs
 
 -- an item is one of the rows
-inside : (c : tie.Else1 Inv-loop μ-loop) → c .before .before .loop .i < c .before .before .before .before .args .s .conditions
+inside : (c : tie.Else1 Inv-loop μ-loop) → c .before .before .loop .i < c .before .before .before .before .args .s .badrows
 inside c = bad-inside _ _ _ (sym (c .before .bad-tag .ensures) ∙ c .if1 .left)
 
 loop-less : tie.Need-loop-less Inv-loop μ-loop

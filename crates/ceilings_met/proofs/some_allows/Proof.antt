@@ -9,10 +9,10 @@ use Rattle.ceilings_met.proofs.some_allows.Statement.{statement}
 use Rattle.ceilings_met.proofs.some_allows.Tie as tie
 
 abbrev Inv-loop : tie.InvT-loop
-Inv-loop ws s n limits items r k₀ k-end k = (any 0 (s .bounds) (allows ws s n r) ≡ any k (s .bounds) (allows ws s n r)) × (k ≤ s .bounds)
+Inv-loop ws s n limits items r k₀ k-end k = (any 0 (s .ceilings) (allows ws s n r) ≡ any k (s .ceilings) (allows ws s n r)) × (k ≤ s .ceilings)
 
 abbrev μ-loop : tie.MeasureT-loop
-μ-loop ws s n limits items r k₀ k-end k = s .bounds - k
+μ-loop ws s n limits items r k₀ k-end k = s .ceilings - k
 
 loop-holds : tie.Need-loop-holds Inv-loop μ-loop
 loop-holds c = (refl, search needs)

@@ -10,10 +10,10 @@ use Rattle.ceilings_met.proofs.start_check.Statement.{statement}
 use Rattle.ceilings_met.proofs.start_check.Tie as tie
 
 abbrev Inv-loop : tie.InvT-loop
-Inv-loop ws s n limits x0 k₀ k-end k = (any 0 (s .bounds) (covers-start ws s n) ≡ any k (s .bounds) (covers-start ws s n)) × (k ≤ s .bounds)
+Inv-loop ws s n limits x0 k₀ k-end k = (any 0 (s .ceilings) (covers-start ws s n) ≡ any k (s .ceilings) (covers-start ws s n)) × (k ≤ s .ceilings)
 
 abbrev μ-loop : tie.MeasureT-loop
-μ-loop ws s n limits x0 k₀ k-end k = s .bounds - k
+μ-loop ws s n limits x0 k₀ k-end k = s .ceilings - k
 
 loop-holds : tie.Need-loop-holds Inv-loop μ-loop
 loop-holds c = (refl, search needs)
@@ -33,11 +33,11 @@ loop-less c = search needs
 loop-again : tie.Need-loop-again Inv-loop μ-loop
 loop-again c = let p = c .before .before .before .before .before .before .pre in (c .before .before .before .loop .inv .0 ∙ start-miss _ _ _ _ (p .1 .1 .0) _ (p .1 .1 .1 .0) (search needs) _ _ (search needs) (c .before .limit .ensures .0) (search needs), search needs)
 
-bounds-at-requires : tie.Need-bounds-at-requires Inv-loop μ-loop
-bounds-at-requires c κs = search needs
+ceilings-at-requires : tie.Need-ceilings-at-requires Inv-loop μ-loop
+ceilings-at-requires c κs = search needs
 
 returns-2 : tie.Need-returns-2 Inv-loop μ-loop
-returns-2 c = rw (c .bounds-at .ensures) (start-refused _ _ _ (c .before .before .loop .inv .0 ∙ any-end _ _ _ (search needs)))
+returns-2 c = rw (c .ceilings-at .ensures) (start-refused _ _ _ (c .before .before .loop .inv .0 ∙ any-end _ _ _ (search needs)))
 
 pub start-check-spec : {M : Type 1} → statement M
 start-check-spec =
@@ -51,5 +51,5 @@ start-check-spec =
     add-k
     loop-less
     loop-again
-    bounds-at-requires
+    ceilings-at-requires
     returns-2)

@@ -13,19 +13,19 @@ tables-at-requires c κs = search needs
 
 add-place : tie.Need-add-place
 unfolding tables-at
-add-place c = let l = c .before .before .before .pre .0 in omega (arith, c .tables-at .ensures, l .rows, l .conditions)
+add-place c = let l = c .before .before .before .pre .0 in omega (arith, c .tables-at .ensures, l .rows, l .badrows)
 
 add-place-2 : tie.Need-add-place-2
 unfolding tables-at
-add-place-2 c = let l = c .before .before .before .before .pre .0 in omega (arith, c .before .tables-at .ensures, l .rows, l .conditions, l .flows)
+add-place-2 c = let l = c .before .before .before .before .pre .0 in omega (arith, c .before .tables-at .ensures, l .rows, l .badrows, l .flows)
 
 add-place-3 : tie.Need-add-place-3
 unfolding tables-at
-add-place-3 c = let l = c .before .before .before .before .before .pre .0 in omega (arith, c .before .before .tables-at .ensures, l .rows, l .conditions, l .flows, l .mails)
+add-place-3 c = let l = c .before .before .before .before .before .pre .0 in omega (arith, c .before .before .tables-at .ensures, l .rows, l .badrows, l .flows, l .mails)
 
 add-place-4 : tie.Need-add-place-4
 unfolding tables-at
-add-place-4 c = let l = c .before .before .before .before .before .pre .0 in omega (arith, c .before .before .tables-at .ensures, l .rows, l .conditions, l .flows, l .mails, l .states, c .before .before .before .before .before .pre .1)
+add-place-4 c = let l = c .before .before .before .before .before .pre .0 in omega (arith, c .before .before .tables-at .ensures, l .rows, l .badrows, l .flows, l .mails, l .states, c .before .before .before .before .before .pre .1)
 
 returns-2 : tie.Need-returns-2
 returns-2 c = verdict-open _ _ _ (c .before .before .tables-at .ensures) (search needs)

@@ -1,6 +1,6 @@
 -- Each return is the first check that refused, behind those that passed; the last ones by the bytes that are left.
 use borrow.Author.Needs.{needs}
-use Rattle.model.specs.Message.{bounds-at, end-at}
+use Rattle.model.specs.Message.{ceilings-at, end-at}
 use Rattle.message.proofs.Checks.{tests-of-parts}
 use Rattle.message.proofs.parts_of.Statement.{statement}
 use Rattle.message.proofs.parts_of.Tie as tie
@@ -44,8 +44,8 @@ returns-3 c = search tests-of-parts
 enum-told-3 : tie.Need-enum-told-3
 enum-told-3 c = search needs
 
-bounds-part-requires : tie.Need-bounds-part-requires
-bounds-part-requires c κs = search needs
+ceilings-part-requires : tie.Need-ceilings-part-requires
+ceilings-part-requires c κs = search needs
 
 enum-known-v-4 : tie.Need-enum-known-v-4
 enum-known-v-4 c = search needs
@@ -60,7 +60,7 @@ end-at-requires : tie.Need-end-at-requires
 end-at-requires c κs = search needs
 
 mul-if1 : tie.Need-mul-if1
-unfolding end-at bounds-at
+unfolding end-at ceilings-at
 mul-if1 c = search needs
 
 returns-5 : tie.Need-returns-5
@@ -86,7 +86,7 @@ parts-of-spec =
     enum-known-v-3
     returns-3
     enum-told-3
-    bounds-part-requires
+    ceilings-part-requires
     enum-known-v-4
     returns-4
     enum-told-4

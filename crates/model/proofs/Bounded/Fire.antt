@@ -1,4 +1,4 @@
--- A rule's step, one counter at a time: higher counts stay higher, a count falls by one at most, and what can be used at counts under a bound
+-- A rule's step, one counter at a time: higher counts stay higher, a count falls by one at most, and what can be used at counts under a ceiling
 -- can be used at its highest counts.
 use Prim.Native.Nat.{ℕ, _+_, _-_, _≤_, _<_}
 use native.Mathlib.Decide.{ℕ-discrete}
@@ -12,7 +12,7 @@ use Rattle.model.specs.Limits.{omega-limit}
 use Rattle.model.specs.Letters.{one-if}
 use Rattle.model.specs.Rules.{Effect, quiet, reads, puts, starts, Rule}
 use Rattle.model.specs.Markings.{Marking, readable, usable, fire}
-use Rattle.model.specs.Bounds.{Bound, highest}
+use Rattle.model.specs.Ceilings.{Ceiling-limits, highest}
 use Rattle.model.proofs.Logic.{and-left, and-right, and-intro}
 use Rattle.model.proofs.Markings.{effect-less, effect-more, fire-at}
 use Rattle.model.proofs.Bounded.Under.{Allowed, below-highest}
@@ -56,21 +56,21 @@ taken-once counters from (starts x) y a = omega (arith, one-at-most (eqb y from)
 pub fire-loss : (counters : ℕ) (ρ : Rule) (m : Marking) (y : ℕ) → Shaped counters ρ → m y ≤ fire ρ m y + 1
 fire-loss counters ρ m y s = omega (arith, fired ρ m y, taken-once counters (ρ .from) (ρ .effect) y (s .1))
 
--- counts, and the highest counts of the bound that they lie under
+-- counts, and the highest counts of the ceiling that they lie under
 
-one-at-highest : (b : Bound) (x n : ℕ) → Allowed (b x) n → leb 1 n ≡ true → leb 1 (highest b x) ≡ true
+one-at-highest : (b : Ceiling-limits) (x n : ℕ) → Allowed (b x) n → leb 1 n ≡ true → leb 1 (highest b x) ≡ true
 one-at-highest b x n a h =
     let one = leb-true 1 n h in
     le-leb 1 (highest b x) (⊎-elim (λ z. omega arith) (λ z. omega arith) (below-highest b x n a))
 
-readable-at-highest : (counters from : ℕ) (b : Bound) (e : Effect) (m : Marking) → Apart counters from e → ((x : ℕ) → x < counters → Allowed (b x) (m x)) → readable e m ≡ true → readable e (highest b) ≡ true
+readable-at-highest : (counters from : ℕ) (b : Ceiling-limits) (e : Effect) (m : Marking) → Apart counters from e → ((x : ℕ) → x < counters → Allowed (b x) (m x)) → readable e m ≡ true → readable e (highest b) ≡ true
 unfolding readable
 readable-at-highest counters from b quiet m a u h = refl
 readable-at-highest counters from b (reads x) m a u h = one-at-highest b x (m x) (u x (a .0)) h
 readable-at-highest counters from b (puts x) m a u h = refl
 readable-at-highest counters from b (starts x) m a u h = refl
 
-module _ (counters : ℕ) (ρ : Rule) (shaped : Shaped counters ρ) (b : Bound) (m : Marking) (u : (x : ℕ) → x < counters → Allowed (b x) (m x)) where
+module _ (counters : ℕ) (ρ : Rule) (shaped : Shaped counters ρ) (b : Ceiling-limits) (m : Marking) (u : (x : ℕ) → x < counters → Allowed (b x) (m x)) where
   -- what can be used at the counts can be used at the highest
   pub usable-at-highest : usable ρ m ≡ true → usable ρ (highest b) ≡ true
   unfolding usable
@@ -79,8 +79,8 @@ module _ (counters : ℕ) (ρ : Rule) (shaped : Shaped counters ρ) (b : Bound) 
       (one-at-highest b (ρ .from) (m (ρ .from)) (u (ρ .from) (shaped .0)) (and-left _ (readable (ρ .effect) m) h))
       (readable-at-highest counters (ρ .from) b (ρ .effect) m (shaped .1) u (and-right (leb 1 (m (ρ .from))) _ h))
 
-  -- where the highest counts come under a bound, the counts do: an unbounded counter stays past every limit but the last
-  pub fire-allowed : (b′ : Bound) → ((x : ℕ) → b′ x ≤ omega-limit) → ((x : ℕ) → x < counters → Allowed (b′ x) (fire ρ (highest b) x)) → (x : ℕ) → x < counters → Allowed (b′ x) (fire ρ m x)
+  -- where the highest counts come under a ceiling, the counts do: an unbounded counter stays past every limit but the last
+  pub fire-allowed : (b′ : Ceiling-limits) → ((x : ℕ) → b′ x ≤ omega-limit) → ((x : ℕ) → x < counters → Allowed (b′ x) (fire ρ (highest b) x)) → (x : ℕ) → x < counters → Allowed (b′ x) (fire ρ m x)
   fire-allowed b′ short h x below =
       ⊎-elim (λ e. inl e)
       (λ le. ⊎-elim (λ lower. let mono = fire-mono ρ m (highest b) x lower in inr (omega arith))

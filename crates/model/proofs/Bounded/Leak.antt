@@ -1,4 +1,4 @@
--- Refusals 11 and 13 are exact: from counts under a bound a rule leads out of all bounds exactly where one does from the bound's highest counts.
+-- Refusals 11 and 13 are exact: from counts under a ceiling a rule leads out of all ceilings exactly where one does from the ceiling's highest counts.
 use Prim.Native.Nat.{ℕ, _+_, _≤_, _<_}
 use mathlib.Core.Path.{_≡_, refl}
 use mathlib.Core.Bool.{Bool, true, false, not, _&&_}
@@ -10,12 +10,12 @@ use Rattle.model.specs.declared.Sizes.{Sizes}
 use Rattle.model.specs.declared.Verdict.{Verdict}
 use Rattle.model.specs.declared.Verdict.the-variants.{Start, Leak}
 use Rattle.model.specs.Limits.{omega-limit}
-use Rattle.model.specs.Message.{bounds-at}
+use Rattle.model.specs.Message.{ceilings-at}
 use Rattle.model.specs.Rows.{Program}
 use Rattle.model.specs.Tables.{Tables}
 use Rattle.model.specs.Rules.{Rule}
 use Rattle.model.specs.Markings.{Marking, usable, fire, initial}
-use Rattle.model.specs.Bounds.{Bounds, bound-entries, bound-entry, under-some, highest, start-check, leads-out, leak-check}
+use Rattle.model.specs.Ceilings.{Ceilings, ceiling-entries, ceiling-entry, under-some, highest, start-check, leads-out, leak-check}
 use Rattle.model.specs.Demands.{Under, Under-one}
 use Rattle.model.specs.Refusals.{First-such, Leaks}
 use Rattle.model.proofs.Logic.{true-false, and-left, and-right, and-false-right, or-cases, or-false-left, or-false-right}
@@ -24,13 +24,13 @@ use Rattle.model.proofs.Exact.Tests.{fails-iff, passes-iff}
 use Rattle.model.proofs.Exact.Checks.{unless-iff, first-none, first-some}
 use Rattle.model.proofs.Bounded.Fire.{Shaped, usable-at-highest, fire-allowed}
 
--- refusal 11: the start lies under one of the bounds
-pub start-check-exact : (s : Sizes) (p : Program) (t : Tables) (bs : Bounds) → (start-check s p t bs ≡ none) ↔ Under-one bs (initial p t)
+-- refusal 11: the start lies under one of the ceilings
+pub start-check-exact : (s : Sizes) (p : Program) (t : Tables) (bs : Ceilings) → (start-check s p t bs ≡ none) ↔ Under-one bs (initial p t)
 unfolding start-check
-start-check-exact s p t bs = unless-iff (under-some bs (initial p t)) (Start (bounds-at s)) (under-some-exact bs (initial p t))
+start-check-exact s p t bs = unless-iff (under-some bs (initial p t)) (Start (ceilings-at s)) (under-some-exact bs (initial p t))
 
--- a rule that can be used at the counts and leads out of all bounds
-leads-out-elim : (bs : Bounds) (ρs : List Rule) (m : Marking) → leads-out bs ρs m ≡ true → (ρ : Rule) × List·Memᴰ ρ ρs × (usable ρ m ≡ true) × (Under-one bs (fire ρ m) → ⊥)
+-- a rule that can be used at the counts and leads out of all ceilings
+leads-out-elim : (bs : Ceilings) (ρs : List Rule) (m : Marking) → leads-out bs ρs m ≡ true → (ρ : Rule) × List·Memᴰ ρ ρs × (usable ρ m ≡ true) × (Under-one bs (fire ρ m) → ⊥)
 unfolding leads-out
 leads-out-elim bs [] m h = true-false h refl
 leads-out-elim bs (ρ ∷ ρs) m h =
@@ -40,8 +40,8 @@ leads-out-elim bs (ρ ∷ ρs) m h =
     (λ e. let (σ, i, used, out) = leads-out-elim bs ρs m e in (σ, List·Memᴰ·tail i, used, out))
     (or-cases (usable ρ m && not (under-some bs (fire ρ m))) _ h)
 
--- where none leads out, each that can be used leads under one of the bounds
-leads-out-none : (bs : Bounds) (ρs : List Rule) (m : Marking) (ρ : Rule) → leads-out bs ρs m ≡ false → List·Memᴰ ρ ρs → usable ρ m ≡ true → under-some bs (fire ρ m) ≡ true
+-- where none leads out, each that can be used leads under one of the ceilings
+leads-out-none : (bs : Ceilings) (ρs : List Rule) (m : Marking) (ρ : Rule) → leads-out bs ρs m ≡ false → List·Memᴰ ρ ρs → usable ρ m ≡ true → under-some bs (fire ρ m) ≡ true
 unfolding leads-out
 leads-out-none bs [] m ρ h i u = absurd (List·Memᴰ·not-nil i)
 leads-out-none bs (σ ∷ ρs) m ρ h i u =
@@ -51,12 +51,12 @@ leads-out-none bs (σ ∷ ρs) m ρ h i u =
     (λ j. leads-out-none bs ρs m ρ (or-false-right (usable σ m && not (under-some bs (fire σ m))) _ h) j u)
     (List·Memᴰ·cases-cons i)
 
--- from counts under bound k each rule that can be used leads under one of the bounds
-abbrev pub Kept-from : Bounds → List Rule → ℕ → Type 0
+-- from counts under ceiling k each rule that can be used leads under one of the ceilings
+abbrev pub Kept-from : Ceilings → List Rule → ℕ → Type 0
 Kept-from bs ρs k = (m : Marking) (ρ : Rule) → Under bs k m → List·Memᴰ ρ ρs → usable ρ m ≡ true → Under-one bs (fire ρ m)
 
-module _ (bs : Bounds) (ρs : List Rule) (short : (k x : ℕ) → bs .limit k x ≤ omega-limit) (shaped : (ρ : Rule) → List·Memᴰ ρ ρs → Shaped (bs .counters) ρ) where
-  -- the highest counts answer for all counts under a bound
+module _ (bs : Ceilings) (ρs : List Rule) (short : (k x : ℕ) → bs .limit k x ≤ omega-limit) (shaped : (ρ : Rule) → List·Memᴰ ρ ρs → Shaped (bs .counters) ρ) where
+  -- the highest counts answer for all counts under a ceiling
   pub leads-out-exact : (k : ℕ) → (leads-out bs ρs (highest (bs .limit k)) ≡ false) ↔ Kept-from bs ρs k
   leads-out-exact k = (
     λ h m ρ u i used.
@@ -81,16 +81,16 @@ module _ (bs : Bounds) (ρs : List Rule) (short : (k x : ℕ) → bs .limit k x 
     leaks k = leads-out bs ρs (highest (bs .limit k))
 
     abbrev refusal : ℕ → Verdict
-    refusal k = Leak (bounds-at s + 2 + bound-entry (bs .counters) (bound-entries ws s) k)
+    refusal k = Leak (ceilings-at s + 2 + ceiling-entry (bs .counters) (ceiling-entries ws s) k)
 
-    -- refusal 13: each rule keeps the counts that lie under one of the bounds
+    -- refusal 13: each rule keeps the counts that lie under one of the ceilings
     pub leak-check-exact : (leak-check ws s bs ρs ≡ none) ↔ ((m : Marking) (ρ : Rule) → Under-one bs m → List·Memᴰ ρ ρs → usable ρ m ≡ true → Under-one bs (fire ρ m))
     unfolding leak-check
     leak-check-exact =
         Iff·trans (first-none (bs .size) leaks _ (λ k below. leads-out-exact k))
         (λ h m ρ u. let (k, below, lies) = u in h k below m ρ lies, λ h k below m ρ lies. h m ρ (k, below, lies))
 
-    -- no bound is left, or the first that is
+    -- no ceiling is left, or the first that is
     pub leak-check-none : (leak-check ws s bs ρs ≡ none) ↔ ((k : ℕ) → k < bs .size → Leaks bs ρs k → ⊥)
     unfolding leak-check
     leak-check-none = first-none (bs .size) leaks _ (λ k below. fails-iff (leaks k) (leads-out-iff k))

@@ -1,4 +1,4 @@
--- Refusal 12 is exact: a bound allows counts that meet a bad exactly where its highest counts do.
+-- Refusal 12 is exact: a ceiling allows counts that meet a bad exactly where its highest counts do.
 use Prim.Native.Nat.{ℕ, zero, suc, _+_, _-_, _≤_, _<_}
 use native.Mathlib.Omega.{arith}
 use mathlib.Core.Path.{_≡_, refl}
@@ -20,7 +20,7 @@ use Rattle.model.specs.Tables.{Tables}
 use Rattle.model.specs.Bads.{Counted, counted, met-from, met, bad, bad-step, bad-row}
 use Rattle.model.specs.Counters.{counter-count, counter-of}
 use Rattle.model.specs.Markings.{Marking, standing, count-in}
-use Rattle.model.specs.Bounds.{Bounds, highest, bad-allowed, met-check}
+use Rattle.model.specs.Ceilings.{Ceilings, highest, bad-allowed, met-check}
 use Rattle.model.specs.Met.{All-met}
 use Rattle.model.specs.Demands.{Under, Under-one}
 use Rattle.model.specs.Refusals.{First-such}
@@ -53,7 +53,7 @@ unfolding standing
 higher-standing low high counters none below higher = inl (omega arith)
 higher-standing low high counters (some y) below higher = higher y (below y refl)
 
-module _ (p : Program) (t : Tables) (bs : Bounds) (rows : Columns) where
+module _ (p : Program) (t : Tables) (bs : Ceilings) (rows : Columns) where
   -- the counts meet the bad whose first row is r
   abbrev Meets : Marking → ℕ → Type 0
   Meets m r = met (count-in p t m) rows r ≡ true
@@ -64,17 +64,17 @@ module _ (p : Program) (t : Tables) (bs : Bounds) (rows : Columns) where
   abbrev refusal : Sizes → ℕ → Verdict
   refusal s j = Met (bads-at s + 2 + bad-row p rows j)
 
-  -- counts under a bound meet it
+  -- counts under a ceiling meet it
   abbrev Met-below : ℕ → Type 0
   Met-below r = (m : Marking) × Under-one bs m × Meets m r
 
-  -- some bound allows a bad: its highest counts meet it
+  -- some ceiling allows a bad: its highest counts meet it
   pub bad-allowed-elim : (r : ℕ) → bad-allowed p t bs rows r ≡ true → (k : ℕ) × (k < bs .size) × Meets (highest (bs .limit k)) r
   unfolding bad-allowed
   bad-allowed-elim r h = let (k, w, e) = any-elim 0 (bs .size) _ h in (k, w .1, e)
 
   module _ (keys : Keys p t) (counters : bs .counters ≡ counter-count p t) (short : (i : ℕ) → right rows i ≤ omega-limit) where
-    -- what counts under a bound meet, its highest counts meet
+    -- what counts under a ceiling meet, its highest counts meet
     pub highest-meet : (k : ℕ) (m : Marking) (r : ℕ) → Under bs k m → Meets m r → Meets (highest (bs .limit k)) r
     unfolding met count-in
     highest-meet k m r u h =
@@ -84,7 +84,7 @@ module _ (p : Program) (t : Tables) (bs : Bounds) (rows : Columns) where
         (λ y below. ⊎-elim (λ z. inl z) (λ z. inr (omega arith)) (below-highest (bs .limit k) y (m y) (u y below))))
         short h
 
-    -- some bound allows a bad exactly where some counts under a bound meet it
+    -- some ceiling allows a bad exactly where some counts under a ceiling meet it
     pub bad-allowed-iff : (r : ℕ) → (bad-allowed p t bs rows r ≡ true) ↔ Met-below r
     unfolding bad-allowed
     bad-allowed-iff r = (
@@ -92,7 +92,7 @@ module _ (p : Program) (t : Tables) (bs : Bounds) (rows : Columns) where
       λ h. let (m, u, meets) = h in any-intro 0 (bs .size) (u .0) _ (omega arith) (u .1) (highest-meet (u .0) m r (u .2) meets),
     )
 
-    -- in bads that are in form, which is what the bounds say of the bad with this number
+    -- in bads that are in form, which is what the ceilings say of the bad with this number
     module _ (s : Sizes) (form : first-wrong (bad-step p) rows (replicate (s .bads) bad) ≡ none) where
       abbrev Met-under : ℕ → Type 0
       Met-under j = (m : Marking) × Under-one bs m × All-met (count-in p t m) rows j

@@ -1,4 +1,4 @@
--- Words are below 65,536: so is every limit of a bound and every minimum of a bad.
+-- Words are below 65,536: so is every limit of a ceiling and every minimum of a bad.
 use Prim.Native.Nat.{ℕ, zero, suc, _+_, _≤_}
 use native.Mathlib.Decide.{decLt}
 use native.Mathlib.Omega.{arith}
@@ -10,7 +10,7 @@ use Rattle.model.specs.declared.Sizes.{Sizes}
 use Rattle.model.specs.Limits.{omega-limit}
 use Rattle.model.specs.Words.{words, Columns, left, right, columns}
 use Rattle.model.specs.Bads.{bad-rows}
-use Rattle.model.specs.Bounds.{bound-entries, limit-from, bounds}
+use Rattle.model.specs.Ceilings.{ceiling-entries, limit-from, ceilings-of}
 use Rattle.model.specs.Demands.{Bytes}
 use Rattle.model.proofs.Logic.{test}
 
@@ -41,7 +41,7 @@ pub short-minimum : (ws : List ℕ) (s : Sizes) (r : ℕ) → Short ws → right
 unfolding bad-rows
 short-minimum ws s r h = short-right ws _ _ _ r h
 
--- every limit of a bound
+-- every limit of a ceiling
 limit-from-short : (counters : ℕ) (entries : Columns) (n e x : ℕ) → ((i : ℕ) → right entries i ≤ omega-limit) → limit-from counters entries n e x ≤ omega-limit
 unfolding limit-from
 limit-from-short counters entries zero e x h = omega arith
@@ -50,6 +50,6 @@ limit-from-short counters entries (suc n) e x h =
     (λ f. test (eqb (left entries e) x) (λ t. rw (f, t, limit-from) (h e))
     (λ g. rw (f, g, limit-from) (limit-from-short counters entries n (e + 1) x h)))
 
-pub short-limit : (ws : List ℕ) (s : Sizes) (counters k x : ℕ) → Short ws → bounds ws s counters .limit k x ≤ omega-limit
-unfolding bounds bound-entries
-short-limit ws s counters k x h = limit-from-short counters (bound-entries ws s) _ _ x (λ i. short-right ws _ _ _ i h)
+pub short-limit : (ws : List ℕ) (s : Sizes) (counters k x : ℕ) → Short ws → ceilings-of ws s counters .limit k x ≤ omega-limit
+unfolding ceilings-of ceiling-entries
+short-limit ws s counters k x h = limit-from-short counters (ceiling-entries ws s) _ _ x (λ i. short-right ws _ _ _ i h)

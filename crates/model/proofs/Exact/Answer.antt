@@ -12,7 +12,7 @@ use Rattle.model.specs.declared.Verdict.{Verdict}
 use Rattle.model.specs.declared.Verdict.the-variants.{Safe, Length, Size, Row, Name, Scope, Bad, Entry, Open, Counters, Ceiling, Start, Met, Leak, Space}
 use Rattle.model.specs.Words.{Columns}
 use Rattle.model.specs.Verdict.{Check, _>>_, unless, number}
-use Rattle.model.specs.Message.{Limited, sizes-check, part-check, program-part, bads-part, tables-part, bounds-part, nothing-left, parts-check, bads-at, bounds-at}
+use Rattle.model.specs.Message.{Limited, sizes-check, part-check, program-part, bads-part, tables-part, ceilings-part, nothing-left, parts-check, bads-at, ceilings-at}
 use Rattle.model.specs.Reader.{first-wrong}
 use Rattle.model.specs.Rows.{Program, step, whole, row-check}
 use Rattle.model.specs.Scopes.{name-check, scope-check}
@@ -21,8 +21,8 @@ use Rattle.model.specs.Tables.{Tables, list-check, entry-check}
 use Rattle.model.specs.Closed.{open-check}
 use Rattle.model.specs.Counters.{counter-check}
 use Rattle.model.specs.Listing.{space-check}
-use Rattle.model.specs.Bounds.{Bounds, bound-entries, bound-step, bounds-of, bound-check, start-check, met-check, leak-check}
-use Rattle.model.specs.Verify.{Message, program-check, evidence-check, bounds-check, message-check, check, answer, verdict}
+use Rattle.model.specs.Ceilings.{Ceilings, ceiling-entries, ceiling-step, ceilings-ahead, ceiling-check, start-check, met-check, leak-check}
+use Rattle.model.specs.Verify.{Message, program-check, evidence-check, ceilings-check, message-check, check, answer, verdict}
 use Rattle.model.proofs.Logic.{test}
 use Rattle.model.proofs.Exact.Checks.{then-some, unless-some}
 
@@ -58,7 +58,7 @@ part-refuses ws at ls n =
     (then-refuses _ _ (sizes-refuses at ls) (unless-refuses _ (Length at) tt))
 
 parts-refuse : (bytes : List ℕ) → Refuses (parts-check bytes)
-unfolding parts-check program-part bads-part tables-part bounds-part nothing-left number
+unfolding parts-check program-part bads-part tables-part ceilings-part nothing-left number
 parts-refuse bytes =
     then-refuses _ _ (part-refuses _ _ _ _) (then-refuses _ _ (part-refuses _ _ _ _) (then-refuses _ _ (part-refuses _ _ _ _)
     (then-refuses _ _ (part-refuses _ _ _ _) (unless-refuses _ (Length _) tt))))
@@ -106,23 +106,23 @@ evidence-refuses m =
     then-refuses _ _ (bad-refuses _ _ _)
     (then-refuses _ _ (entry-refuses _ _ _) (then-refuses _ _ (open-refuses _ _ _) (counter-refuses _ _ _)))
 
-pub bound-refuses : (ws : List ℕ) (s : Sizes) (counters : ℕ) → Refuses (bound-check ws s counters)
-unfolding bound-check number
-bound-refuses ws s counters =
-    map-refuses (λ e. Ceiling (bounds-at s + 2 + e)) (first-wrong (bound-step counters) (bound-entries ws s) (bounds-of (s .bounds))) (λ r. tt)
+pub ceiling-refuses : (ws : List ℕ) (s : Sizes) (counters : ℕ) → Refuses (ceiling-check ws s counters)
+unfolding ceiling-check number
+ceiling-refuses ws s counters =
+    map-refuses (λ e. Ceiling (ceilings-at s + 2 + e)) (first-wrong (ceiling-step counters) (ceiling-entries ws s) (ceilings-ahead (s .ceilings))) (λ r. tt)
 
-pub start-refuses : (s : Sizes) (p : Program) (t : Tables) (bs : Bounds) → Refuses (start-check s p t bs)
+pub start-refuses : (s : Sizes) (p : Program) (t : Tables) (bs : Ceilings) → Refuses (start-check s p t bs)
 unfolding start-check number
 start-refuses s p t bs = unless-refuses _ (Start _) tt
 
-pub met-refuses : (s : Sizes) (p : Program) (t : Tables) (bs : Bounds) (rows : Columns) → Refuses (met-check s p t bs rows)
+pub met-refuses : (s : Sizes) (p : Program) (t : Tables) (bs : Ceilings) (rows : Columns) → Refuses (met-check s p t bs rows)
 unfolding met-check number
 met-refuses s p t bs rows = unless-refuses _ (Met _) tt
 
-pub bounds-refuse : (m : Message) → Refuses (bounds-check m)
-unfolding bounds-check leak-check number
-bounds-refuse m =
-    then-refuses _ _ (bound-refuses _ _ _)
+pub ceilings-refuse : (m : Message) → Refuses (ceilings-check m)
+unfolding ceilings-check leak-check number
+ceilings-refuse m =
+    then-refuses _ _ (ceiling-refuses _ _ _)
     (then-refuses _ _ (start-refuses _ _ _ _) (then-refuses _ _ (met-refuses _ _ _ _ _) (unless-refuses _ (Leak _) tt)))
 
 pub check-refuses : (bytes : List ℕ) (lent : ℕ) → Refuses (check bytes lent)
@@ -130,7 +130,7 @@ unfolding check message-check space-check number
 check-refuses bytes lent =
     then-refuses _ _ (parts-refuse bytes)
     (then-refuses _ _ (program-refuses _)
-    (then-refuses _ _ (evidence-refuses _) (then-refuses _ _ (bounds-refuse _) (unless-refuses _ (Space _) tt))))
+    (then-refuses _ _ (evidence-refuses _) (then-refuses _ _ (ceilings-refuse _) (unless-refuses _ (Space _) tt))))
 
 pub answer-safe : (c : Check) → Refuses c → (answer c ≡ Safe) ↔ (c ≡ none)
 unfolding answer

@@ -1,4 +1,4 @@
--- Refusals 6, 7 and 10: nothing is refused exactly where the bads, the tables and the bounds are in form.
+-- Refusals 6, 7 and 10: nothing is refused exactly where the bads, the tables and the ceilings are in form.
 use Prim.Native.Nat.{ℕ, zero, suc, _+_, _-_, _<_}
 use native.Mathlib.Decide.{ℕ-discrete}
 use native.Mathlib.Omega.{arith}
@@ -12,13 +12,13 @@ use lib.Dec.{ltb, eqb}
 use Rattle.model.specs.declared.Sizes.{Sizes}
 use Rattle.model.specs.declared.Verdict.the-variants.{Bad, Ceiling}
 use Rattle.model.specs.Words.{Columns, left, right}
-use Rattle.model.specs.Message.{bads-at, bounds-at}
+use Rattle.model.specs.Message.{bads-at, ceilings-at}
 use Rattle.model.specs.Reader.{first-wrong}
 use Rattle.model.specs.Rows.{Program, tag, is-head, is-name}
 use Rattle.model.specs.Heads.{is-class}
 use Rattle.model.specs.Bads.{bad, bad-step, bad-rows, bad-check}
 use Rattle.model.specs.Tables.{Tables, is-value, ascends, first-misplaced, list-check, entry-check}
-use Rattle.model.specs.Bounds.{bound-entries, bound-step, bounds-of, bound-check}
+use Rattle.model.specs.Ceilings.{ceiling-entries, ceiling-step, ceilings-ahead, ceiling-check}
 use Rattle.model.specs.Demands.{Pair-below, Listed}
 use Rattle.model.specs.Refusals.{Placed}
 use Rattle.model.proofs.Exact.Tests.{ltb-iff, eqb-iff, not-iff, and-iff, or-iff}
@@ -84,7 +84,7 @@ pub bad-none : (ws : List ℕ) (s : Sizes) (p : Program) → (bad-check ws s p �
 unfolding bad-check
 bad-none ws s p = map-eq-none-iff (λ r. Bad (bads-at s + 2 + r)) (first-wrong (bad-step p) (bad-rows ws s) (replicate (s .bads) bad))
 
-pub bound-none : (ws : List ℕ) (s : Sizes) (counters : ℕ) → (bound-check ws s counters ≡ none) ↔ (first-wrong (bound-step counters) (bound-entries ws s) (bounds-of (s .bounds)) ≡ none)
-unfolding bound-check
-bound-none ws s counters =
-    map-eq-none-iff (λ e. Ceiling (bounds-at s + 2 + e)) (first-wrong (bound-step counters) (bound-entries ws s) (bounds-of (s .bounds)))
+pub ceiling-none : (ws : List ℕ) (s : Sizes) (counters : ℕ) → (ceiling-check ws s counters ≡ none) ↔ (first-wrong (ceiling-step counters) (ceiling-entries ws s) (ceilings-ahead (s .ceilings)) ≡ none)
+unfolding ceiling-check
+ceiling-none ws s counters =
+    map-eq-none-iff (λ e. Ceiling (ceilings-at s + 2 + e)) (first-wrong (ceiling-step counters) (ceiling-entries ws s) (ceilings-ahead (s .ceilings)))

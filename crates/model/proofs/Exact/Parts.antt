@@ -13,7 +13,7 @@ use Rattle.model.specs.declared.Verdict.{Verdict}
 use Rattle.model.specs.declared.Verdict.the-variants.{Length, Size}
 use Rattle.model.specs.Words.{words}
 use Rattle.model.specs.Verdict.{Check, _>>_}
-use Rattle.model.specs.Message.{Limited, sizes, bads-at, tables-at, bounds-at, end-at, sizes-check, part-check, program-part, bads-part, tables-part, bounds-part, nothing-left, parts-check}
+use Rattle.model.specs.Message.{Limited, sizes, bads-at, tables-at, ceilings-at, end-at, sizes-check, part-check, program-part, bads-part, tables-part, ceilings-part, nothing-left, parts-check}
 use Rattle.model.specs.Demands.{Within-limits}
 use Rattle.model.specs.Refusals.{Behind, here, there, Message-part, parts, Within, Each-within, Sizes-whole, Arrays-whole, Whole}
 use Rattle.model.proofs.Logic.{true-false, test}
@@ -130,7 +130,7 @@ module _ (bytes : List ℕ) where
   s = sizes ws
 
   pub parts-none : (parts-check bytes ≡ none) ↔ ((length bytes ≡ 2 * end-at s) × Within-limits s)
-  unfolding parts-check program-part bads-part tables-part bounds-part nothing-left end-at bounds-at tables-at bads-at
+  unfolding parts-check program-part bads-part tables-part ceilings-part nothing-left end-at ceilings-at tables-at bads-at
   parts-none =
       Iff·trans
       (Iff·trans (checks-none ws (parts s) (nothing-left bytes s))
@@ -138,7 +138,7 @@ module _ (bytes : List ℕ) where
       (λ h. omega (arith, words-length bytes), λ h. omega (arith, words-length bytes))
 
   pub parts-some : (v : Verdict) → (parts-check bytes ≡ some v) ↔ (((k : ℕ) × (x : Message-part) × Behind (Whole ws) (parts s) k x × Part-wrong ws x v) ⊎ (Within-limits s × (2 * end-at s < length bytes) × (Length (end-at s) ≡ v)))
-  unfolding parts-check program-part bads-part tables-part bounds-part nothing-left end-at bounds-at tables-at bads-at
+  unfolding parts-check program-part bads-part tables-part ceilings-part nothing-left end-at ceilings-at tables-at bads-at
   parts-some v = (
     λ h. ⊎-elim (λ x. let (k, y, b, e) = x in inl (k, y, b, part-some ws y v .0 e))
         (λ x. let w = x .0 in let (n, q) = remain .0 (x .1) in inr (omega arith, omega arith, q))

@@ -1,4 +1,4 @@
--- The verdict is safe exactly where the message is sound, once the tests of the bounds (refusals 11 to 13) are known to be exact.
+-- The verdict is safe exactly where the message is sound, once the tests of the ceilings (refusals 11 to 13) are known to be exact.
 use Prim.Native.Nat.{ℕ, _*_, _≤_}
 use mathlib.Core.Path.{_≡_}
 use mathlib.Core.Logic.{_↔_, Iff·trans, Iff·rfl}
@@ -17,15 +17,15 @@ use Rattle.model.specs.Wanted.{Closed}
 use Rattle.model.specs.Counters.{counter-count, counter-check}
 use Rattle.model.specs.Rules.{rules}
 use Rattle.model.specs.Listing.{system-words, space-check}
-use Rattle.model.specs.Bounds.{bounds, start-check, met-check, leak-check}
-use Rattle.model.specs.Verify.{Message, message, evidence-check, bounds-check, message-check, check}
+use Rattle.model.specs.Ceilings.{ceilings-of, start-check, met-check, leak-check}
+use Rattle.model.specs.Verify.{Message, message, evidence-check, ceilings-check, message-check, check}
 use Rattle.model.specs.Demands.{Bytes, Within-limits, Well-formed, In-form, Inductive, Safe-exactly}
 use Rattle.model.proofs.Exact.Tests.{leb-iff}
 use Rattle.model.proofs.Exact.Checks.{then-iff, unless-iff}
 use Rattle.model.proofs.Exact.Answer.{verdict-safe}
 use Rattle.model.proofs.Exact.Parts.{parts-none}
 use Rattle.model.proofs.Exact.Names.{program-none}
-use Rattle.model.proofs.Exact.Entries.{entry-none, bad-none, bound-none}
+use Rattle.model.proofs.Exact.Entries.{entry-none, bad-none, ceiling-none}
 use Rattle.model.proofs.Exact.Closed.{open-none}
 
 -- what refusals 1 to 10 leave
@@ -38,18 +38,18 @@ pub record Formed (bytes : List ℕ) : Type 0 where
   pub counters : counter-count (message bytes .program) (message bytes .tables) ≤ maxCounters
 
 -- refusals 11 to 13
-abbrev pub tests-of-bounds : Message → Check
-tests-of-bounds m =
-    start-check (m .sizes) (m .program) (m .tables) (m .bounds) >>
-    (met-check (m .sizes) (m .program) (m .tables) (m .bounds) (m .bads) >>
-    leak-check (m .words) (m .sizes) (m .bounds) (rules (m .program) (m .tables)))
+abbrev pub tests-of-ceilings : Message → Check
+tests-of-ceilings m =
+    start-check (m .sizes) (m .program) (m .tables) (m .ceilings) >>
+    (met-check (m .sizes) (m .program) (m .tables) (m .ceilings) (m .bads) >>
+    leak-check (m .words) (m .sizes) (m .ceilings) (rules (m .program) (m .tables)))
 
-abbrev pub Bounds-exactly : Type 0
-Bounds-exactly = (bytes : List ℕ) → Bytes bytes → Formed bytes → (tests-of-bounds (message bytes) ≡ none) ↔ Inductive (message bytes)
+abbrev pub Ceilings-exactly : Type 0
+Ceilings-exactly = (bytes : List ℕ) → Bytes bytes → Formed bytes → (tests-of-ceilings (message bytes) ≡ none) ↔ Inductive (message bytes)
 
--- Nothing is refused where the message is formed, the tests of the bounds pass, and the system fits
-pub check-none : (bytes : List ℕ) (lent : ℕ) → (check bytes lent ≡ none) ↔ (Formed bytes × ((tests-of-bounds (message bytes) ≡ none) × (length (system-words (message bytes .program) (message bytes .tables)) ≤ lent)))
-unfolding check message-check evidence-check bounds-check counter-check space-check message bounds
+-- Nothing is refused where the message is formed, the tests of the ceilings pass, and the system fits
+pub check-none : (bytes : List ℕ) (lent : ℕ) → (check bytes lent ≡ none) ↔ (Formed bytes × ((tests-of-ceilings (message bytes) ≡ none) × (length (system-words (message bytes .program) (message bytes .tables)) ≤ lent)))
+unfolding check message-check evidence-check ceilings-check counter-check space-check message ceilings-of
 check-none bytes lent =
     Iff·trans
     (then-iff _ _ (parts-none bytes)
@@ -58,14 +58,14 @@ check-none bytes lent =
     (then-iff _ _ (bad-none ws s p)
     (then-iff _ _ (entry-none s p t)
     (then-iff _ _ (open-none ws s t) (unless-iff _ _ (leb-iff (counter-count p t) maxCounters)))))
-    (then-iff _ _ (then-iff _ _ (bound-none ws s (counter-count p t)) Iff·rfl)
+    (then-iff _ _ (then-iff _ _ (ceiling-none ws s (counter-count p t)) Iff·rfl)
     (unless-iff _ _ (leb-iff (length (system-words p t)) lent)))))) (
-      λ h. let ((whole, limits), (well, ((bads, ((flow, (mail, states)), (closed, counters))), ((bound, tests), space)))) = h in (
+      λ h. let ((whole, limits), (well, ((bads, ((flow, (mail, states)), (closed, counters))), ((ceiling, tests), space)))) = h in (
         record {
           whole = whole;
           limits = limits;
           program = well;
-          form = record { bads = bads; flow = flow; mail = mail; states = states; bounds = bound };
+          form = record { bads = bads; flow = flow; mail = mail; states = states; ceilings = ceiling };
           closed = closed;
           counters = counters;
         },
@@ -74,7 +74,7 @@ check-none bytes lent =
       λ h. let (k, (tests, space)) = h in
           let f = k .form in (
             (k .whole, k .limits),
-            (k .program, ((f .bads, ((f .flow, (f .mail, f .states)), (k .closed, k .counters))), ((f .bounds, tests), space))),
+            (k .program, ((f .bads, ((f .flow, (f .mail, f .states)), (k .closed, k .counters))), ((f .ceilings, tests), space))),
           ),
     )
   where
@@ -91,7 +91,7 @@ check-none bytes lent =
     t = tables ws s
 
 -- Demand 2, first half
-pub safe-exactly : Bounds-exactly → Safe-exactly
+pub safe-exactly : Ceilings-exactly → Safe-exactly
 safe-exactly exact bytes lent b =
     Iff·trans (verdict-safe bytes lent)
     (Iff·trans (check-none bytes lent) (

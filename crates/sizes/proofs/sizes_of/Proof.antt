@@ -43,20 +43,20 @@ add-size-at-3 c = omega (arith, c .before .before .before .size-at .ensures .1, 
 size-at-requires-5 : tie.Need-size-at-requires-5
 size-at-requires-5 c κs = tt
 
-add-bounds : tie.Need-add-bounds
-add-bounds c = omega (arith, c .before .before .before .before .size-at .ensures .1, c .before .before .before .size-at2 .ensures .1, c .before .before .size-at3 .ensures .1, c .before .size-at4 .ensures .1, c .size-at5 .ensures .1)
+add-ceilings : tie.Need-add-ceilings
+add-ceilings c = omega (arith, c .before .before .before .before .size-at .ensures .1, c .before .before .before .size-at2 .ensures .1, c .before .before .size-at3 .ensures .1, c .before .size-at4 .ensures .1, c .size-at5 .ensures .1)
 
-add-bounds-2 : tie.Need-add-bounds-2
-add-bounds-2 c = omega (arith, c .before .before .before .before .size-at .ensures .1, c .before .before .before .size-at2 .ensures .1, c .before .before .size-at3 .ensures .1, c .before .size-at4 .ensures .1, c .size-at5 .ensures .1)
+add-ceilings-2 : tie.Need-add-ceilings-2
+add-ceilings-2 c = omega (arith, c .before .before .before .before .size-at .ensures .1, c .before .before .before .size-at2 .ensures .1, c .before .before .size-at3 .ensures .1, c .before .size-at4 .ensures .1, c .size-at5 .ensures .1)
 
-add-bounds-3 : tie.Need-add-bounds-3
-add-bounds-3 c = omega (arith, c .before .before .before .before .size-at .ensures .1, c .before .before .before .size-at2 .ensures .1, c .before .before .size-at3 .ensures .1, c .before .size-at4 .ensures .1, c .size-at5 .ensures .1)
+add-ceilings-3 : tie.Need-add-ceilings-3
+add-ceilings-3 c = omega (arith, c .before .before .before .before .size-at .ensures .1, c .before .before .before .size-at2 .ensures .1, c .before .before .size-at3 .ensures .1, c .before .size-at4 .ensures .1, c .size-at5 .ensures .1)
 
-mul-bounds : tie.Need-mul-bounds
-mul-bounds c = omega (arith, c .before .before .size-at3 .ensures .1, c .before .size-at4 .ensures .1, c .size-at5 .ensures .1)
+mul-ceilings : tie.Need-mul-ceilings
+mul-ceilings c = omega (arith, c .before .before .size-at3 .ensures .1, c .before .size-at4 .ensures .1, c .size-at5 .ensures .1)
 
-add-bounds-4 : tie.Need-add-bounds-4
-add-bounds-4 c = omega (arith, c .before .before .before .before .size-at .ensures .1, c .before .before .before .size-at2 .ensures .1, c .before .before .size-at3 .ensures .1, c .before .size-at4 .ensures .1, c .size-at5 .ensures .1)
+add-ceilings-4 : tie.Need-add-ceilings-4
+add-ceilings-4 c = omega (arith, c .before .before .before .before .size-at .ensures .1, c .before .before .before .size-at2 .ensures .1, c .before .before .size-at3 .ensures .1, c .before .size-at4 .ensures .1, c .size-at5 .ensures .1)
 
 size-at-requires-6 : tie.Need-size-at-requires-6
 size-at-requires-6 c κs = tt
@@ -99,11 +99,11 @@ sizes-of-spec =
     size-at-requires-4
     add-size-at-3
     size-at-requires-5
-    add-bounds
-    add-bounds-2
-    add-bounds-3
-    mul-bounds
-    add-bounds-4
+    add-ceilings
+    add-ceilings-2
+    add-ceilings-3
+    mul-ceilings
+    add-ceilings-4
     size-at-requires-6
     size-at-requires-7
     size-at-requires-8

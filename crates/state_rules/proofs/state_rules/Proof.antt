@@ -20,7 +20,7 @@ tag-requires : tie.Need-tag-requires
 tag-requires c κs = c .before .before .before .before .before .before .before .before .before .before .before .before .before .pre .0 .ready .whole
 
 give-rules-requires : tie.Need-give-rules-requires
-give-rules-requires c κs = (c .before .before .before .before .before .before .before .before .before .before .before .before .before .before .before .before .pre .0 .ready, (c .before .before .before .before .before .before .before .before .before .before .before .before .before .before .before .before .pre .0 .ends, (c .before .before .before .before .before .before .before .before .before .before .before .before .before .before .before .before .pre .0 .owners, (c .before .before .before .before .before .before .before .before .before .before .before .before .before .before .before .before .pre .0 .flow-sets, (c .before .before .before .before .before .before .before .before .before .before .before .before .before .before .before .before .pre .1 .0, ((sym (c .before .before .tag .ensures) ∙ c .before .match .keys1), omega (arith, c .before .before .before .before .before .before .before .before .before .before .before .before .before .before .before .before .pre .0 .ready .limits .states, c .before .before .before .before .before .before .before .before .before .before .before .before .before .before .before .before .pre .1 .1 .1 .counters)))))))
+give-rules-requires c κs = (c .before .before .before .before .before .before .before .before .before .before .before .before .before .before .before .before .pre .0 .ready, (c .before .before .before .before .before .before .before .before .before .before .before .before .before .before .before .before .pre .0 .ends, (c .before .before .before .before .before .before .before .before .before .before .before .before .before .before .before .before .pre .0 .owners, ((c .before .before .before .before .before .before .before .before .before .before .before .before .before .before .before .before .pre .0 .flow-width, c .before .before .before .before .before .before .before .before .before .before .before .before .before .before .before .before .pre .0 .flow-sets), (c .before .before .before .before .before .before .before .before .before .before .before .before .before .before .before .before .pre .1 .0, ((sym (c .before .before .tag .ensures) ∙ c .before .match .keys1), omega (arith, c .before .before .before .before .before .before .before .before .before .before .before .before .before .before .before .before .pre .0 .ready .limits .states, c .before .before .before .before .before .before .before .before .before .before .before .before .before .before .before .before .pre .1 .1 .1 .counters)))))))
 
 call-rules-requires : tie.Need-call-rules-requires
 call-rules-requires c κs = (c .before .before .before .before .before .before .before .before .before .before .before .before .before .before .before .before .pre .0 .ready, (c .before .before .before .before .before .before .before .before .before .before .before .before .before .before .before .before .pre .0 .flow-starts, (c .before .before .before .before .before .before .before .before .before .before .before .before .before .before .before .before .pre .1 .0, ((sym (c .before .before .tag .ensures) ∙ c .before .match .keys2), c .before .before .before .before .before .before .before .before .before .before .before .before .before .before .before .before .pre .1 .1 .1 .values))))

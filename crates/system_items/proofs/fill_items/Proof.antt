@@ -8,10 +8,10 @@ use Rattle.system_items.proofs.fill_items.Statement.{statement}
 use Rattle.system_items.proofs.fill_items.Tie as tie
 
 abbrev Inv-loop : tie.InvT-loop
-Inv-loop ws s letter-at letters items₀ r₀ r-end items r = Filled ws s r items × (r ≤ s .conditions) × (length items ≡ length items₀)
+Inv-loop ws s letter-at letters items₀ r₀ r-end items r = Filled ws s r items × (r ≤ s .badrows) × (length items ≡ length items₀)
 
 abbrev μ-loop : tie.MeasureT-loop
-μ-loop ws s letter-at letters items₀ r₀ r-end items r = s .conditions - r
+μ-loop ws s letter-at letters items₀ r₀ r-end items r = s .badrows - r
 
 loop-holds : tie.Need-loop-holds Inv-loop μ-loop
 loop-holds c = (filled-none (c .before .before .before .before .args .ws .now) (c .before .before .before .before .args .s) (c .before .before .before .before .args .items .now), search needs, search needs)

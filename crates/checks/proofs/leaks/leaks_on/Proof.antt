@@ -1,5 +1,5 @@
 use native.Mathlib.Omega.{arith}
-use Rattle.model.specs.Bounds.{bounds}
+use Rattle.model.specs.Ceilings.{ceilings-of}
 use Rattle.system_totals.proofs.Walk.{room-kept}
 use Rattle.checks.proofs.Laying.{rule-room, states-few}
 use borrow.Author.Needs.{needs}
@@ -7,11 +7,11 @@ use Rattle.checks.proofs.leaks.leaks_on.Statement.{statement}
 use Rattle.checks.proofs.leaks.leaks_on.Tie as tie
 
 fill-holders-requires : tie.Need-fill-holders-requires
-unfolding bounds
+unfolding ceilings-of
 fill-holders-requires c κs =
     let l = c .before .before .before .before .before .before .before .before .before .before .before .before .before .before .before .before .before .before .pre .1 .0 in
     let m = c .before .before .before .before .before .before .before .before .before .before .before .before .before .before .before .before .before .before .pre .1 .1 in
-    ((c .before .before .before .before .before .before .before .before .before .before .before .before .before .before .before .before .before .before .pre .0 .ready .limits .bounds, omega (arith, l .counted, c .before .before .before .before .before .before .before .before .before .before .before .before .before .before .before .before .before .before .pre .0 .few)), (l .limits-table .room, (m .held, m .free)))
+    ((c .before .before .before .before .before .before .before .before .before .before .before .before .before .before .before .before .before .before .pre .0 .ready .limits .ceilings, omega (arith, l .counted, c .before .before .before .before .before .before .before .before .before .before .before .before .before .before .before .before .before .before .pre .0 .few)), (l .limits-table .room, (m .held, m .free)))
 
 words16-1056-requires : tie.Need-words16-1056-requires
 words16-1056-requires c κs = search needs

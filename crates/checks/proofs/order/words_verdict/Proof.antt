@@ -14,10 +14,10 @@ use Rattle.model.specs.Tables.{tables, entry-check}
 use Rattle.model.specs.Closed.{open-check}
 use Rattle.model.specs.Counters.{counter-count, counter-check}
 use Rattle.model.specs.Rules.{rules}
-use Rattle.model.specs.Bounds.{bounds, bound-check, start-check, met-check, leak-check}
+use Rattle.model.specs.Ceilings.{ceilings-of, ceiling-check, start-check, met-check, leak-check}
 use Rattle.model.specs.Verify.{message-check, answer}
-use Rattle.model.proofs.Exact.Answer.{row-refuses, name-refuses, bad-refuses, entry-refuses, open-refuses, counter-refuses, bound-refuses, start-refuses, met-refuses}
-use Rattle.model.proofs.Exact.Entries.{bad-none, bound-none}
+use Rattle.model.proofs.Exact.Answer.{row-refuses, name-refuses, bad-refuses, entry-refuses, open-refuses, counter-refuses, ceiling-refuses, start-refuses, met-refuses}
+use Rattle.model.proofs.Exact.Entries.{bad-none, ceiling-none}
 use Rattle.model.proofs.Exact.Checks.{then-none}
 use Rattle.answers.proofs.Passing.{passed, safe-only}
 use Rattle.lists.specs.Ready.{Ready}
@@ -25,8 +25,8 @@ use Rattle.positions.specs.Positions.{Ends, Owners}
 use Rattle.rules.specs.Derived.{Rule-tables}
 use Rattle.checks.specs.Order.{taken, ceilings, from-3, from-4, from-5, from-6, from-7, from-8, from-9, from-10, from-11, from-12, from-13, from-14}
 use Rattle.checks.specs.Scratch.{Countable}
-use Rattle.checks.proofs.Answering.{in-order, goes-by, ends-with, scopes-refuse, leaks-refuse, bound-told, start-told, met-told, leak-told}
-use Rattle.checks.proofs.Laying.{program-passes, ready, bounds-whole, few, countable, ends, owners, flow-starts, flow-sets}
+use Rattle.checks.proofs.Answering.{in-order, goes-by, ends-with, scopes-refuse, leaks-refuse, ceiling-told, start-told, met-told, leak-told}
+use Rattle.checks.proofs.Laying.{program-passes, ready, ceilings-whole, few, countable, ends, owners}
 use borrow.Author.Needs.{needs}
 use Rattle.checks.proofs.order.words_verdict.Statement.{statement}
 use Rattle.checks.proofs.order.words_verdict.Tie as tie
@@ -234,8 +234,8 @@ counter-count-requires c κs = (all-ready (c .before .before .before .before .be
 counters-few : (c : tie.After-counter-count) → Countable (c .before .before .before .before .before .before .before .before .before .before .before .before .before .before .before .before .before .before .before .before .before .before .before .before .before .before .before .before .before .before .before .before .before .before .before .before .before .before .before .before .before .before .before .before .before .before .before .before .before .before .before .before .args .s) (c .counter-count .result)
 counters-few c = countable _ _ _ (all-ready (c .before .before .before .before .before .before .before .before .before .before .before .before .before .before .before .before .before .before .before .before .before .before .before .before .before .before .before .before .before .before .before)) (counters-pass (c .before .before .before)) (c .counter-count .ensures)
 
-bound-check-requires : tie.Need-bound-check-requires
-bound-check-requires c κs = (bounds-whole _ _ (c .before .before .before .before .before .before .before .before .before .before .before .before .before .before .before .before .before .before .before .before .before .before .before .before .before .before .before .before .before .before .before .before .before .before .before .before .before .before .before .before .before .before .before .before .before .before .before .before .before .before .before .before .pre .0), counters-few c .few)
+ceiling-check-requires : tie.Need-ceiling-check-requires
+ceiling-check-requires c κs = (ceilings-whole _ _ (c .before .before .before .before .before .before .before .before .before .before .before .before .before .before .before .before .before .before .before .before .before .before .before .before .before .before .before .before .before .before .before .before .before .before .before .before .before .before .before .before .before .before .before .before .before .before .before .before .before .before .before .before .pre .0), counters-few c .few)
 
 is-safe-requires-8 : tie.Need-is-safe-requires-8
 is-safe-requires-8 c κs = search needs
@@ -245,7 +245,7 @@ same-length-3 c = search needs
 
 returns-8 : tie.Need-returns-8
 unfolding from-10
-returns-8 c = ends-with _ _ _ _ _ _ _ _ (goes-10 (c .before .before .before .before .before .before)) (bound-told _ _ _ _ (c .before .before .bound-check .ensures) (c .before .before .before .counter-count .ensures)) (c .before .is-safe8 .ensures) (not-true _ (c .if8 .taken))
+returns-8 c = ends-with _ _ _ _ _ _ _ _ (goes-10 (c .before .before .before .before .before .before)) (ceiling-told _ _ _ _ (c .before .before .ceiling-check .ensures) (c .before .before .before .counter-count .ensures)) (c .before .is-safe8 .ensures) (not-true _ (c .if8 .taken))
 
 words16-512-requires-2 : tie.Need-words16-512-requires-2
 words16-512-requires-2 c κs = search needs
@@ -253,8 +253,8 @@ words16-512-requires-2 c κs = search needs
 slice-aggregate-fill-limits : tie.Need-slice-aggregate-fill-limits
 slice-aggregate-fill-limits c = search needs
 
-form-passes : (c : tie.Else8) → Passes (c .before .before .before .before .before .before .before .before .before .before .before .before .before .before .before .before .before .before .before .before .before .before .before .before .before .before .before .before .before .before .before .before .before .before .before .before .before .before .before .before .before .before .before .before .before .before .before .before .before .before .before .before .before .before .before) (λ ws s. bound-check ws s (counter-count (program ws s) (tables ws s)))
-form-passes c = passed _ _ _ (bound-refuses _ _ _) (bound-told _ _ _ _ (c .before .before .bound-check .ensures) (c .before .before .before .counter-count .ensures)) (c .before .is-safe8 .ensures) (not-false _ (c .if8 .left))
+form-passes : (c : tie.Else8) → Passes (c .before .before .before .before .before .before .before .before .before .before .before .before .before .before .before .before .before .before .before .before .before .before .before .before .before .before .before .before .before .before .before .before .before .before .before .before .before .before .before .before .before .before .before .before .before .before .before .before .before .before .before .before .before .before .before) (λ ws s. ceiling-check ws s (counter-count (program ws s) (tables ws s)))
+form-passes c = passed _ _ _ (ceiling-refuses _ _ _) (ceiling-told _ _ _ _ (c .before .before .ceiling-check .ensures) (c .before .before .before .counter-count .ensures)) (c .before .is-safe8 .ensures) (not-false _ (c .if8 .left))
 
 goes-11 : (c : tie.Else8) → Goes (c .before .before .before .before .before .before .before .before .before .before .before .before .before .before .before .before .before .before .before .before .before .before .before .before .before .before .before .before .before .before .before .before .before .before .before .before .before .before .before .before .before .before .before .before .before .before .before .before .before .before .before .before .before .before .before) from-11
 unfolding from-10
@@ -263,7 +263,7 @@ goes-11 c = goes-by _ _ _ (goes-10 (c .before .before .before .before .before .b
 fill-limits-requires : tie.Need-fill-limits-requires
 fill-limits-requires c κs =
     let n = counters-few (c .before .before .before .before .before .before) in
-    (bounds-whole _ _ (c .before .before .before .before .before .before .before .before .before .before .before .before .before .before .before .before .before .before .before .before .before .before .before .before .before .before .before .before .before .before .before .before .before .before .before .before .before .before .before .before .before .before .before .before .before .before .before .before .before .before .before .before .before .before .before .before .before .before .pre .0), (n .few, (bound-none _ _ _ .0 (passed _ _ _ (bound-refuses _ _ _) (c .before .before .before .before .before .bound-check .ensures) (c .before .before .before .before .is-safe8 .ensures) (not-false _ (c .before .before .before .if8 .left))), ((λ z h. c .before .before .before .before .before .before .before .before .before .before .before .before .before .before .before .before .before .before .before .before .before .before .before .before .before .before .before .before .before .before .before .before .before .before .before .before .before .before .before .before .before .before .before .before .before .before .before .before .before .before .before .before .before .before .before .before .before .before .pre .1 .1 .blank z), (c .before .before .before .before .before .before .before .before .before .before .before .before .before .before .before .before .before .before .before .before .before .before .before .before .before .before .before .before .before .before .before .before .before .before .before .before .before .before .before .before .before .before .before .before .before .before .before .before .before .before .before .before .before .before .before .before .before .before .pre .1 .1 .cells _ n, omega (arith, c .before .before .before .before .before .before .before .before .before .before .before .before .before .before .before .before .before .before .before .before .before .before .before .before .before .before .before .before .before .before .before .before .before .before .before .before .before .before .before .before .before .before .before .before .before .before .before .before .before .before .before .before .before .before .before .before .before .before .pre .0 .limits .bounds, c .before .before .words16-5122 .ensures .room))))))
+    (ceilings-whole _ _ (c .before .before .before .before .before .before .before .before .before .before .before .before .before .before .before .before .before .before .before .before .before .before .before .before .before .before .before .before .before .before .before .before .before .before .before .before .before .before .before .before .before .before .before .before .before .before .before .before .before .before .before .before .before .before .before .before .before .before .pre .0), (n .few, (ceiling-none _ _ _ .0 (passed _ _ _ (ceiling-refuses _ _ _) (c .before .before .before .before .before .ceiling-check .ensures) (c .before .before .before .before .is-safe8 .ensures) (not-false _ (c .before .before .before .if8 .left))), ((λ z h. c .before .before .before .before .before .before .before .before .before .before .before .before .before .before .before .before .before .before .before .before .before .before .before .before .before .before .before .before .before .before .before .before .before .before .before .before .before .before .before .before .before .before .before .before .before .before .before .before .before .before .before .before .before .before .before .before .before .before .pre .1 .1 .blank z), (c .before .before .before .before .before .before .before .before .before .before .before .before .before .before .before .before .before .before .before .before .before .before .before .before .before .before .before .before .before .before .before .before .before .before .before .before .before .before .before .before .before .before .before .before .before .before .before .before .before .before .before .before .before .before .before .before .before .before .pre .1 .1 .cells _ n, omega (arith, c .before .before .before .before .before .before .before .before .before .before .before .before .before .before .before .before .before .before .before .before .before .before .before .before .before .before .before .before .before .before .before .before .before .before .before .before .before .before .before .before .before .before .before .before .before .before .before .before .before .before .before .before .before .before .before .before .before .before .pre .0 .limits .ceilings, c .before .before .words16-5122 .ensures .room))))))
 
 -- the tables of the layout are as long as they were made
 afters-long : (c : tie.After-ends) → length (c .ends .result) ≡ 1024
@@ -374,15 +374,16 @@ leak-verdict-requires c κs =
         few = few _ _ _ (counters-pass (c .before .before .before .before .before .before .before .before .before .before .before .before .before .before .before .before .before .before .before .before .before .before .before .before .before .before .before .before .before .before .before .before .before .before .before .before .before .before .before));
         ends = ends _ _ _ (omega (arith, c .before .before .before .before .before .before .before .before .before .before .before .before .before .before .before .before .before .before .before .before .before .before .before .before .before .before .before .before .before .before .before .before .before .before .before .before .before .before .before .before .before .before .before .before .before .before .before .before .before .before .before .before .before .before .before .before .before .before .before .before .before .before .before .before .before .before .before .before .before .before .before .before .before .before .before .before .before .before .before .before .before .before .before .before .before .before .before .before .pre .0 .limits .rows .1, afters-long (c .before .before .before .before .before .before .before .before .before .before .before .before .before .before .before .before .before .before .before .before .before .before .before .before .before .before .before .before .before .before .before .before .before .before .before .before .before .before .before .before .before .before .before .before .before .before .before .before .before .before .before .before .before .before .before .before .before .before .before .before .before .before .before .before .before .before .before .before .before .before .before .before .before .before .before .before .before))) (c .before .before .before .before .before .before .before .before .before .before .before .before .before .before .before .before .before .before .before .before .before .before .before .before .before .before .before .before .before .before .before .before .before .before .before .before .before .before .before .before .before .before .before .before .before .before .before .before .before .before .before .before .before .before .before .before .before .before .before .before .before .before .before .before .before .before .before .before .before .before .before .before .before .before .before .before .before .ends .ensures);
         owners = owners _ _ _ (omega (arith, c .before .before .before .before .before .before .before .before .before .before .before .before .before .before .before .before .before .before .before .before .before .before .before .before .before .before .before .before .before .before .before .before .before .before .before .before .before .before .before .before .before .before .before .before .before .before .before .before .before .before .before .before .before .before .before .before .before .before .before .before .before .before .before .before .before .before .before .before .before .before .before .before .before .before .before .before .before .before .before .before .before .before .before .before .before .before .before .before .pre .0 .limits .rows .1, owners-long (c .before .before .before .before .before .before .before .before .before .before .before .before .before .before .before .before .before .before .before .before .before .before .before .before .before .before .before .before .before .before .before .before .before .before .before .before .before .before .before .before .before .before .before .before .before .before .before .before .before .before .before .before .before .before .before .before .before .before .before .before .before .before .before .before .before))) (c .before .before .before .before .before .before .before .before .before .before .before .before .before .before .before .before .before .before .before .before .before .before .before .before .before .before .before .before .before .before .before .before .before .before .before .before .before .before .before .before .before .before .before .before .before .before .before .before .before .before .before .before .before .before .before .before .before .before .before .before .before .before .before .before .before .inners .ensures);
-        flow-starts = flow-starts _ _ _ (c .before .before .before .before .before .before .before .before .before .before .before .before .before .before .before .before .before .before .before .before .before .before .before .before .before .before .before .before .before .before .before .before .before .before .before .before .before .before .before .before .before .before .before .before .before .before .before .before .before .before .before .before .before .before .before .before .before .open-verdict .ensures .1 .0 safe);
-        flow-sets = flow-sets _ _ _ _ (c .before .before .before .before .before .before .before .before .before .before .width .ensures) (c .before .before .before .before .before .before .before .before .before .before .before .before .before .before .before .before .before .before .before .before .before .before .before .before .before .before .before .before .before .before .before .before .before .before .before .before .before .before .before .before .before .before .before .before .before .before .before .before .before .before .before .before .before .before .before .before .before .open-verdict .ensures .1 .1 .0 safe);
+        flow-starts = c .before .before .before .before .before .before .before .before .before .before .before .before .before .before .before .before .before .before .before .before .before .before .before .before .before .before .before .before .before .before .before .before .before .before .before .before .before .before .before .before .before .before .before .before .before .before .before .before .before .before .before .before .before .before .before .before .before .open-verdict .ensures .1 .0 safe;
+        flow-width = c .before .before .before .before .before .before .before .before .before .before .width .ensures;
+        flow-sets = c .before .before .before .before .before .before .before .before .before .before .before .before .before .before .before .before .before .before .before .before .before .before .before .before .before .before .before .before .before .before .before .before .before .before .before .before .before .before .before .before .before .before .before .before .before .before .before .before .before .before .before .before .before .before .before .before .before .open-verdict .ensures .1 .1 .0 safe;
         name-letters = c .before .before .before .before .before .before .before .before .before .before .before .before .fill-names .ensures;
         class-letters = c .before .before .before .before .before .before .before .before .before .before .before .before .before .before .before .before .before .before .before .before .before .before .before .before .before .before .before .before .before .before .before .before .before .before .before .before .before .before .before .before .before .before .before .before .before .before .fill-letters .ensures;
         branch-bits = c .before .before .before .before .before .before .before .before .before .before .before .before .before .before .before .before .before .before .before .before .before .before .before .before .before .before .before .before .before .before .before .before .before .before .before .before .before .before .before .before .before .before .before .before .before .before .before .before .before .before .before .before .before .before .before .before .before .open-verdict .ensures .1 .1 .1 safe;
       },
       record {
         counted = c .before .before .before .before .before .before .before .before .before .before .before .before .before .before .before .before .before .before .before .before .before .before .before .before .before .before .before .before .before .before .before .before .before .before .before .before .counter-count .ensures;
-        in-form = bound-none _ _ _ .0 (passed _ _ _ (bound-refuses _ _ _) (c .before .before .before .before .before .before .before .before .before .before .before .before .before .before .before .before .before .before .before .before .before .before .before .before .before .before .before .before .before .before .before .before .before .before .before .bound-check .ensures) (c .before .before .before .before .before .before .before .before .before .before .before .before .before .before .before .before .before .before .before .before .before .before .before .before .before .before .before .before .before .before .before .before .before .before .is-safe8 .ensures) (not-false _ (c .before .before .before .before .before .before .before .before .before .before .before .before .before .before .before .before .before .before .before .before .before .before .before .before .before .before .before .before .before .before .before .before .before .if8 .left)));
+        in-form = ceiling-none _ _ _ .0 (passed _ _ _ (ceiling-refuses _ _ _) (c .before .before .before .before .before .before .before .before .before .before .before .before .before .before .before .before .before .before .before .before .before .before .before .before .before .before .before .before .before .before .before .before .before .before .before .ceiling-check .ensures) (c .before .before .before .before .before .before .before .before .before .before .before .before .before .before .before .before .before .before .before .before .before .before .before .before .before .before .before .before .before .before .before .before .before .before .is-safe8 .ensures) (not-false _ (c .before .before .before .before .before .before .before .before .before .before .before .before .before .before .before .before .before .before .before .before .before .before .before .before .before .before .before .before .before .before .before .before .before .if8 .left)));
         limits-table = c .before .before .before .before .before .before .before .before .before .before .before .before .before .before .before .before .before .before .before .before .before .before .before .before .before .before .before .before .before .fill-limits .ensures .0;
         starts-table = c .before .before .before .before .before .before .before .before .before .before .before .before .before .before .before .before .before .before .before .before .before .before .before .before .before .before .before .before .before .fill-limits .ensures .1;
       },
@@ -438,8 +439,9 @@ listing-verdict-requires c κs =
         few = few _ _ _ (counters-pass (c .before .before .before .before .before .before .before .before .before .before .before .before .before .before .before .before .before .before .before .before .before .before .before .before .before .before .before .before .before .before .before .before .before .before .before .before .before .before .before .before .before .before .before .before .before .before .before .before .before .before .before .before));
         ends = ends _ _ _ (omega (arith, c .before .before .before .before .before .before .before .before .before .before .before .before .before .before .before .before .before .before .before .before .before .before .before .before .before .before .before .before .before .before .before .before .before .before .before .before .before .before .before .before .before .before .before .before .before .before .before .before .before .before .before .before .before .before .before .before .before .before .before .before .before .before .before .before .before .before .before .before .before .before .before .before .before .before .before .before .before .before .before .before .before .before .before .before .before .before .before .before .before .before .before .before .before .before .before .before .before .before .before .before .before .pre .0 .limits .rows .1, afters-long (c .before .before .before .before .before .before .before .before .before .before .before .before .before .before .before .before .before .before .before .before .before .before .before .before .before .before .before .before .before .before .before .before .before .before .before .before .before .before .before .before .before .before .before .before .before .before .before .before .before .before .before .before .before .before .before .before .before .before .before .before .before .before .before .before .before .before .before .before .before .before .before .before .before .before .before .before .before .before .before .before .before .before .before .before .before .before .before .before .before .before))) (c .before .before .before .before .before .before .before .before .before .before .before .before .before .before .before .before .before .before .before .before .before .before .before .before .before .before .before .before .before .before .before .before .before .before .before .before .before .before .before .before .before .before .before .before .before .before .before .before .before .before .before .before .before .before .before .before .before .before .before .before .before .before .before .before .before .before .before .before .before .before .before .before .before .before .before .before .before .before .before .before .before .before .before .before .before .before .before .before .before .before .ends .ensures);
         owners = owners _ _ _ (omega (arith, c .before .before .before .before .before .before .before .before .before .before .before .before .before .before .before .before .before .before .before .before .before .before .before .before .before .before .before .before .before .before .before .before .before .before .before .before .before .before .before .before .before .before .before .before .before .before .before .before .before .before .before .before .before .before .before .before .before .before .before .before .before .before .before .before .before .before .before .before .before .before .before .before .before .before .before .before .before .before .before .before .before .before .before .before .before .before .before .before .before .before .before .before .before .before .before .before .before .before .before .before .before .pre .0 .limits .rows .1, owners-long (c .before .before .before .before .before .before .before .before .before .before .before .before .before .before .before .before .before .before .before .before .before .before .before .before .before .before .before .before .before .before .before .before .before .before .before .before .before .before .before .before .before .before .before .before .before .before .before .before .before .before .before .before .before .before .before .before .before .before .before .before .before .before .before .before .before .before .before .before .before .before .before .before .before .before .before .before .before .before))) (c .before .before .before .before .before .before .before .before .before .before .before .before .before .before .before .before .before .before .before .before .before .before .before .before .before .before .before .before .before .before .before .before .before .before .before .before .before .before .before .before .before .before .before .before .before .before .before .before .before .before .before .before .before .before .before .before .before .before .before .before .before .before .before .before .before .before .before .before .before .before .before .before .before .before .before .before .before .before .inners .ensures);
-        flow-starts = flow-starts _ _ _ (c .before .before .before .before .before .before .before .before .before .before .before .before .before .before .before .before .before .before .before .before .before .before .before .before .before .before .before .before .before .before .before .before .before .before .before .before .before .before .before .before .before .before .before .before .before .before .before .before .before .before .before .before .before .before .before .before .before .before .before .before .before .before .before .before .before .before .before .before .before .before .open-verdict .ensures .1 .0 safe);
-        flow-sets = flow-sets _ _ _ _ (c .before .before .before .before .before .before .before .before .before .before .before .before .before .before .before .before .before .before .before .before .before .before .before .width .ensures) (c .before .before .before .before .before .before .before .before .before .before .before .before .before .before .before .before .before .before .before .before .before .before .before .before .before .before .before .before .before .before .before .before .before .before .before .before .before .before .before .before .before .before .before .before .before .before .before .before .before .before .before .before .before .before .before .before .before .before .before .before .before .before .before .before .before .before .before .before .before .before .open-verdict .ensures .1 .1 .0 safe);
+        flow-starts = c .before .before .before .before .before .before .before .before .before .before .before .before .before .before .before .before .before .before .before .before .before .before .before .before .before .before .before .before .before .before .before .before .before .before .before .before .before .before .before .before .before .before .before .before .before .before .before .before .before .before .before .before .before .before .before .before .before .before .before .before .before .before .before .before .before .before .before .before .before .before .open-verdict .ensures .1 .0 safe;
+        flow-width = c .before .before .before .before .before .before .before .before .before .before .before .before .before .before .before .before .before .before .before .before .before .before .before .width .ensures;
+        flow-sets = c .before .before .before .before .before .before .before .before .before .before .before .before .before .before .before .before .before .before .before .before .before .before .before .before .before .before .before .before .before .before .before .before .before .before .before .before .before .before .before .before .before .before .before .before .before .before .before .before .before .before .before .before .before .before .before .before .before .before .before .before .before .before .before .before .before .before .before .before .before .before .open-verdict .ensures .1 .1 .0 safe;
         name-letters = c .before .before .before .before .before .before .before .before .before .before .before .before .before .before .before .before .before .before .before .before .before .before .before .before .before .fill-names .ensures;
         class-letters = c .before .before .before .before .before .before .before .before .before .before .before .before .before .before .before .before .before .before .before .before .before .before .before .before .before .before .before .before .before .before .before .before .before .before .before .before .before .before .before .before .before .before .before .before .before .before .before .before .before .before .before .before .before .before .before .before .before .before .before .fill-letters .ensures;
         branch-bits = c .before .before .before .before .before .before .before .before .before .before .before .before .before .before .before .before .before .before .before .before .before .before .before .before .before .before .before .before .before .before .before .before .before .before .before .before .before .before .before .before .before .before .before .before .before .before .before .before .before .before .before .before .before .before .before .before .before .before .before .before .before .before .before .before .before .before .before .before .before .before .open-verdict .ensures .1 .1 .1 safe;
@@ -507,7 +509,7 @@ words-verdict-spec =
     slice-aggregate-counter-count
     slice-aggregate-counter-count-2
     counter-count-requires
-    bound-check-requires
+    ceiling-check-requires
     is-safe-requires-8
     same-length-3
     returns-8

@@ -1,5 +1,5 @@
 use native.Mathlib.Omega.{arith}
-use Rattle.checks.proofs.Laying.{bounds-of-ready, items-of}
+use Rattle.checks.proofs.Laying.{ceilings-of-ready, items-of}
 use borrow.Author.Needs.{needs}
 use Rattle.checks.proofs.stages.met_verdict.Statement.{statement}
 use Rattle.checks.proofs.stages.met_verdict.Tie as tie
@@ -10,7 +10,7 @@ slice-aggregate-fill-items c = search needs
 fill-items-requires : tie.Need-fill-items-requires
 fill-items-requires c κs =
     let n = c .before .before .before .before .before .pre .1 .1 .1 .0 in
-    (c .before .before .before .before .before .pre .0, (c .before .before .before .before .before .pre .1 .1 .0, (omega (arith, n .0, n .1), omega (arith, c .before .before .before .before .before .pre .0 .limits .conditions .1))))
+    (c .before .before .before .before .before .pre .0, (c .before .before .before .before .before .pre .1 .1 .0, (omega (arith, n .0, n .1), omega (arith, c .before .before .before .before .before .pre .0 .limits .badrows .1))))
 
 slice-aggregate-met-check : tie.Need-slice-aggregate-met-check
 slice-aggregate-met-check c = search needs
@@ -19,7 +19,7 @@ met-check-requires : tie.Need-met-check-requires
 met-check-requires c κs =
     let n = c .before .before .before .before .before .before .before .before .pre .1 .1 .1 .0 in (
       record {
-        whole = bounds-of-ready _ _ (c .before .before .before .before .before .before .before .before .pre .0);
+        whole = ceilings-of-ready _ _ (c .before .before .before .before .before .before .before .before .pre .0);
         counters = n .1;
         limits-table = c .before .before .before .before .before .before .before .before .pre .1 .1 .1 .1;
         items-table = items-of _ _ _ _ _ _ (n .0) (c .before .before .fill-items .ensures);

@@ -1,5 +1,5 @@
 use native.Mathlib.Omega.{arith}
-use Rattle.checks.proofs.Laying.{bounds-of-ready, start-counted, start-told}
+use Rattle.checks.proofs.Laying.{ceilings-of-ready, start-counted, start-told}
 use borrow.Author.Needs.{needs}
 use Rattle.checks.proofs.stages.start_verdict.Statement.{statement}
 use Rattle.checks.proofs.stages.start_verdict.Tie as tie
@@ -14,7 +14,7 @@ start-check-requires : tie.Need-start-check-requires
 start-check-requires c κs =
     let x = start-told _ _ _ _ (c .before .start .ensures) (c .state-index .ensures) in
     let low = start-counted _ _ _ (c .before .before .before .before .before .pre .1 .1 .0) in
-    (bounds-of-ready _ _ (c .before .before .before .before .before .pre .0), (c .before .before .before .before .before .pre .1 .1 .1 .0 .1, (c .before .before .before .before .before .pre .1 .1 .1 .1, (x, omega (arith, x, low, c .before .before .before .before .before .pre .1 .1 .1 .0 .0)))))
+    (ceilings-of-ready _ _ (c .before .before .before .before .before .pre .0), (c .before .before .before .before .before .pre .1 .1 .1 .0 .1, (c .before .before .before .before .before .pre .1 .1 .1 .1, (x, omega (arith, x, low, c .before .before .before .before .before .pre .1 .1 .1 .0 .0)))))
 
 returns : tie.Need-returns
 returns c = search needs

@@ -1,0 +1,41 @@
+-- Each sum is far below the end of the numbers, by `Placed`.
+use borrow.Author.Needs.{needs}
+use Rattle.model.specs.Message.{tables-at, ceilings-at}
+use Rattle.sizes.proofs.ceilings_at.Statement.{statement}
+use Rattle.sizes.proofs.ceilings_at.Tie as tie
+
+tables-at-requires : tie.Need-tables-at-requires
+tables-at-requires c κs = search needs
+
+add-result : tie.Need-add-result
+unfolding tables-at
+add-result c = search needs
+
+add-result-2 : tie.Need-add-result-2
+add-result-2 c = search needs
+
+add-result-3 : tie.Need-add-result-3
+add-result-3 c = search needs
+
+mul-result : tie.Need-mul-result
+mul-result c = search needs
+
+add-result-4 : tie.Need-add-result-4
+unfolding tables-at
+add-result-4 c = search needs
+
+returns : tie.Need-returns
+unfolding tables-at ceilings-at
+returns c = search needs
+
+pub ceilings-at-spec : {M : Type 1} → statement M
+ceilings-at-spec =
+    tie.close
+    (tie.spec
+    tables-at-requires
+    add-result
+    add-result-2
+    add-result-3
+    mul-result
+    add-result-4
+    returns)
