@@ -1,26 +1,22 @@
 -- What the checks are lent: tables with room for a message of these sizes, some of them with nothing in them.
-use Prim.Native.Nat.{ℕ, _+_, _*_, _≤_}
+use Prim.Native.Nat.{ℕ, _*_, _≤_}
 use mathlib.Core.Path.{_≡_}
 use mathlib.Core.List.{List}
 use lib.ListN.{length, getD}
 use Rattle.model.specs.declared.Sizes.{Sizes}
-use Rattle.model.specs.Limits.{maxCounters}
 use Rattle.model.specs.Rows.{program}
 use Rattle.model.specs.Tables.{tables}
 use Rattle.model.specs.Counters.{counter-count}
 use Rattle.model.specs.Bounds.{bounds, bound-entries}
 use Rattle.bounds.specs.Limits.{In-form, Starts-table}
 use Rattle.ceilings.specs.Table.{Limits-table}
+use Rattle.ceilings_met.specs.Items.{Bads-in-form}
 
--- A message of these sizes may have n counters: one for each state, and no more for letters than there is mail.
-pub record Countable (s : Sizes) (n : ℕ) : Type 0 where
-  pub few : n ≤ maxCounters
-  pub listed : n ≤ s .states + s .mails
-
--- a limit of 0 for each counter under each ceiling
-pub record Limits-room (s : Sizes) (limits : List ℕ) : Type 0 where
-  pub cells : (n : ℕ) → Countable s n → n * s .bounds ≤ length limits
+-- a limit of 0 for each of n counters under each ceiling, and a word for each ceiling
+pub record Limits-room (s : Sizes) (n : ℕ) (limits ceiling-at : List ℕ) : Type 0 where
+  pub cells : n * s .bounds ≤ length limits
   pub blank : (z : ℕ) → getD limits z 0 ≡ 0
+  pub firsts : s .bounds ≤ length ceiling-at
 
 -- a set of ceilings for each of n counters, and for each state
 pub record Mask-room (n : ℕ) (holders unbounded group short more : List ℕ) : Type 0 where
@@ -29,6 +25,12 @@ pub record Mask-room (n : ℕ) (holders unbounded group short more : List ℕ) :
   pub states : n * 4 ≤ length group
   pub one-less : n * 4 ≤ length short
   pub one-more : n * 4 ≤ length more
+
+-- n counters, and the ceilings and bads of a message in form
+pub record Numbered (ws : List ℕ) (s : Sizes) (n : ℕ) : Type 0 where
+  pub counted : n ≡ counter-count (program ws s) (tables ws s)
+  pub in-form : In-form ws s n
+  pub bads : Bads-in-form ws s
 
 -- n counters, and the ceilings of a message in form, with their limits and where each begins
 pub record Limited (ws : List ℕ) (s : Sizes) (n : ℕ) (limits ceiling-at : List ℕ) : Type 0 where

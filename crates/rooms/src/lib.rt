@@ -74,6 +74,12 @@ pub fn words64_130() -> [u64; 130]
     [0; 130]
 }
 
+pub fn words64_512() -> [u64; 512]
+    ensures { λ r. ⌜ Cleared 512 r ⌝ }
+{
+    [0; 512]
+}
+
 pub fn words64_1024() -> [u64; 1024]
     ensures { λ r. ⌜ Cleared 1024 r ⌝ }
 {
