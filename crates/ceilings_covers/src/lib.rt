@@ -97,7 +97,8 @@ fn one_more_at(
     ensures { λ r. ⌜ ((j : ℕ) → j < 256 → has r j ≡ takes-more (now (limits .entry)) ceilings k y j) ⌝ }
 {
     if limit(limits, ceilings, k, y) == 0 {
-        return load(holders, y);
+        let first = 2 * y;
+        return load(holders, first);
     }
     load(more, y)
 }

@@ -153,8 +153,8 @@ pub all-cells : (s : Sizes) (n : ℕ) → n ≤ maxCounters → Within-limits s 
 all-cells s n h l = product-most n (s .bounds) 512 256 (omega arith) (l .bounds)
 
 -- sets of ceilings for n counters
-pub mask-room : (k n : ℕ) (holders unbounded group short more : List ℕ) → n * 4 ≤ k → Cleared k holders → Cleared k unbounded → Cleared k group → Cleared k short → Cleared k more → Mask-room n holders unbounded group short more
-mask-room k n holders unbounded group short more h a b c d e =
+pub mask-room : (j k n : ℕ) (holders unbounded group short more : List ℕ) → n * 8 ≤ j → n * 4 ≤ k → Cleared j holders → Cleared k unbounded → Cleared k group → Cleared k short → Cleared k more → Mask-room n holders unbounded group short more
+mask-room j k n holders unbounded group short more g h a b c d e =
     record {
       held = let q = a .room in omega arith;
       free = let q = b .room in omega arith;

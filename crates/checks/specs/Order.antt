@@ -30,8 +30,8 @@ taken ws s =
 unfoldable pub under-ceilings : List ℕ → Sizes → ℕ → Check
 under-ceilings ws s n =
     start-check s (program ws s) (tables ws s) (bounds ws s n) >> (
-      met-check s (program ws s) (tables ws s) (bounds ws s n) (bad-rows ws s) >>
-      leak-check ws s (bounds ws s n) (rules (program ws s) (tables ws s)))
+    met-check s (program ws s) (tables ws s) (bounds ws s n) (bad-rows ws s) >>
+    leak-check ws s (bounds ws s n) (rules (program ws s) (tables ws s)))
 
 module _ (ws : List ℕ) (s : Sizes) (lent : ℕ) where
   unfoldable pub from-14 : Check

@@ -15,7 +15,9 @@ use rooms::words16_16384;
 use rooms::words16_131072;
 use rooms::words64_130;
 use rooms::words64_512;
+use rooms::words64_1024;
 use rooms::words64_2048;
+use rooms::words64_4096;
 use rules::no_class;
 use system_totals::Totals;
 ghost use mathlib.Core.Path.{_≡_};
@@ -161,11 +163,17 @@ fn ceilings_on(
     fill_limits(ws, s, n, limits, ceiling_at);
     let begins = start_verdict(ws, s, afters, n, limits);
     if !is_safe(begins) {
-        return Leaks { verdict: begins, totals: none };
+        return Leaks {
+            verdict: begins,
+            totals: none,
+        };
     }
     let met = met_verdict(ws, s, letter_at, letters, n, limits);
     if !is_safe(met) {
-        return Leaks { verdict: met, totals: none };
+        return Leaks {
+            verdict: met,
+            totals: none,
+        };
     }
     leaks_on(
         ws,
@@ -215,7 +223,7 @@ fn few_limits(
 {
     let mut limits = words16_2048();
     let mut ceiling_at = words16_258();
-    let mut holders = words64_130();
+    let mut holders = words64_512();
     let mut unbounded = words64_130();
     let mut group = words64_130();
     let mut short = words64_130();
@@ -268,7 +276,7 @@ fn more_limits(
 {
     let mut limits = words16_16384();
     let mut ceiling_at = words16_258();
-    let mut holders = words64_512();
+    let mut holders = words64_1024();
     let mut unbounded = words64_512();
     let mut group = words64_512();
     let mut short = words64_512();
@@ -320,7 +328,7 @@ fn all_limits(
 {
     let mut limits = words16_131072();
     let mut ceiling_at = words16_258();
-    let mut holders = words64_2048();
+    let mut holders = words64_4096();
     let mut unbounded = words64_2048();
     let mut group = words64_2048();
     let mut short = words64_2048();
@@ -374,20 +382,73 @@ pub fn ceilings_verdict(
         Totalled (program (now (ws .entry)) s) (tables (now (ws .entry)) s) (l .totals)) ⌝ }
 {
     if most >= 512 {
-        return all_limits(ws, s, afters, inners, flow_at, w, flows, names, letter_at, letters, branches, n);
+        return all_limits(
+            ws,
+            s,
+            afters,
+            inners,
+            flow_at,
+            w,
+            flows,
+            names,
+            letter_at,
+            letters,
+            branches,
+            n,
+        );
     }
     if n <= most {
         let cells = n * s.bounds;
         if most <= 32 {
             if cells <= 2048 {
-                return few_limits(ws, s, afters, inners, flow_at, w, flows, names, letter_at, letters, branches, n);
+                return few_limits(
+                    ws,
+                    s,
+                    afters,
+                    inners,
+                    flow_at,
+                    w,
+                    flows,
+                    names,
+                    letter_at,
+                    letters,
+                    branches,
+                    n,
+                );
             }
         }
         if most <= 128 {
             if cells <= 16384 {
-                return more_limits(ws, s, afters, inners, flow_at, w, flows, names, letter_at, letters, branches, n);
+                return more_limits(
+                    ws,
+                    s,
+                    afters,
+                    inners,
+                    flow_at,
+                    w,
+                    flows,
+                    names,
+                    letter_at,
+                    letters,
+                    branches,
+                    n,
+                );
             }
         }
     }
-    ceilings_verdict(4 * most, ws, s, afters, inners, flow_at, w, flows, names, letter_at, letters, branches, n)
+    ceilings_verdict(
+        4 * most,
+        ws,
+        s,
+        afters,
+        inners,
+        flow_at,
+        w,
+        flows,
+        names,
+        letter_at,
+        letters,
+        branches,
+        n,
+    )
 }

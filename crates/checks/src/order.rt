@@ -60,7 +60,16 @@ pub fn words_verdict(ws: &[u16], s: Sizes, flow: &mut [u64], lent: &mut [u32]) -
     let owners = inners(ws, s, &afters);
     let mut starts = words16_1056();
     let mut branches = words16_1056();
-    let open = open_verdict(64, ws, s, &afters, &owners, &mut starts, flow, &mut branches);
+    let open = open_verdict(
+        64,
+        ws,
+        s,
+        &afters,
+        &owners,
+        &mut starts,
+        flow,
+        &mut branches,
+    );
     if !is_safe(open) {
         return open;
     }

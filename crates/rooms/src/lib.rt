@@ -98,6 +98,12 @@ pub fn words64_2048() -> [u64; 2048]
     [0; 2048]
 }
 
+pub fn words64_4096() -> [u64; 4096]
+    ensures { λ r. ⌜ Cleared 4096 r ⌝ }
+{
+    [0; 4096]
+}
+
 pub fn words64_8721() -> [u64; 8721]
     ensures { λ r. ⌜ Cleared 8721 r ⌝ }
 {

@@ -9,6 +9,9 @@ use Rattle.ceilings_covers.proofs.one_more_at.Tie as tie
 limit-requires : tie.Need-limit-requires
 limit-requires c κs = (c .before .before .before .before .before .pre .0 .ceiling, row-in _ (c .before .before .before .before .before .args .n) _ _ (c .before .before .before .before .before .pre .1) (c .before .before .before .before .before .pre .0 .room))
 
+mul-first : tie.Need-mul-first
+mul-first c = search needs
+
 load-requires : tie.Need-load-requires
 load-requires c κs = record { room = omega (arith, c .before .before .before .before .before .before .before .pre .1, c .before .before .before .before .before .before .before .pre .0 .held-by .holders-room) }
 
@@ -23,4 +26,4 @@ returns-2 c = λ j h. c .load2 .ensures j h ∙ c .before .before .before .befor
 
 pub one-more-at-spec : {M : Type 1} → statement M
 one-more-at-spec =
-    tie.close (tie.spec limit-requires load-requires returns load-requires-2 returns-2)
+    tie.close (tie.spec limit-requires mul-first load-requires returns load-requires-2 returns-2)

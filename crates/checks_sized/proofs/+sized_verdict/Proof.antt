@@ -68,20 +68,20 @@ pub +sized-verdict-spec : {M : Type 1} → statement M
     close
     μ-sized-verdict
     (λ t.
-      sized-verdict-lts.spec
-      (sized-verdict-claims t)
-      (sized-verdict-at t)
-      sized-verdict.Post
-      (sized-verdict-large-flow-requires t)
-      (sized-verdict-same-length t)
-      (sized-verdict-returns t)
-      (sized-verdict-small-flow-requires t)
-      (sized-verdict-same-length-2 t)
-      (sized-verdict-returns-2 t)
-      (sized-verdict-middle-flow-requires t)
-      (sized-verdict-same-length-3 t)
-      (sized-verdict-returns-3 t)
-      (sized-verdict-mul-sized-verdict t)
-      (sized-verdict-sized-verdict-requires t)
-      (sized-verdict-same-length-4 t)
-      (sized-verdict-returns-4 t))
+    sized-verdict-lts.spec
+    (sized-verdict-claims t)
+    (sized-verdict-at t)
+    sized-verdict.Post
+    (sized-verdict-large-flow-requires t)
+    (sized-verdict-same-length t)
+    (sized-verdict-returns t)
+    (sized-verdict-small-flow-requires t)
+    (sized-verdict-same-length-2 t)
+    (sized-verdict-returns-2 t)
+    (sized-verdict-middle-flow-requires t)
+    (sized-verdict-same-length-3 t)
+    (sized-verdict-returns-3 t)
+    (sized-verdict-mul-sized-verdict t)
+    (sized-verdict-sized-verdict-requires t)
+    (sized-verdict-same-length-4 t)
+    (sized-verdict-returns-4 t))

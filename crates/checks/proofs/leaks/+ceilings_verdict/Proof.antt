@@ -60,17 +60,17 @@ pub +ceilings-verdict-spec : {M : Type 1} → statement M
     close
     μ-ceilings-verdict
     (λ t.
-      ceilings-verdict-lts.spec
-      (ceilings-verdict-claims t)
-      (ceilings-verdict-at t)
-      ceilings-verdict.Post
-      (ceilings-verdict-all-limits-requires t)
-      (ceilings-verdict-returns t)
-      (ceilings-verdict-mul-cells t)
-      (ceilings-verdict-few-limits-requires t)
-      (ceilings-verdict-returns-2 t)
-      (ceilings-verdict-more-limits-requires t)
-      (ceilings-verdict-returns-3 t)
-      (ceilings-verdict-mul-ceilings-verdict t)
-      (ceilings-verdict-ceilings-verdict-requires t)
-      (ceilings-verdict-returns-4 t))
+    ceilings-verdict-lts.spec
+    (ceilings-verdict-claims t)
+    (ceilings-verdict-at t)
+    ceilings-verdict.Post
+    (ceilings-verdict-all-limits-requires t)
+    (ceilings-verdict-returns t)
+    (ceilings-verdict-mul-cells t)
+    (ceilings-verdict-few-limits-requires t)
+    (ceilings-verdict-returns-2 t)
+    (ceilings-verdict-more-limits-requires t)
+    (ceilings-verdict-returns-3 t)
+    (ceilings-verdict-mul-ceilings-verdict t)
+    (ceilings-verdict-ceilings-verdict-requires t)
+    (ceilings-verdict-returns-4 t))

@@ -10,6 +10,9 @@ words16-131072-requires c κs = search needs
 words16-258-requires : tie.Need-words16-258-requires
 words16-258-requires c κs = search needs
 
+words64-4096-requires : tie.Need-words64-4096-requires
+words64-4096-requires c κs = search needs
+
 words64-2048-requires : tie.Need-words64-2048-requires
 words64-2048-requires c κs = search needs
 
@@ -21,9 +24,6 @@ words64-2048-requires-3 c κs = search needs
 
 words64-2048-requires-4 : tie.Need-words64-2048-requires-4
 words64-2048-requires-4 c κs = search needs
-
-words64-2048-requires-5 : tie.Need-words64-2048-requires-5
-words64-2048-requires-5 c κs = search needs
 
 slice-aggregate-ceilings-on : tie.Need-slice-aggregate-ceilings-on
 slice-aggregate-ceilings-on c = search needs
@@ -47,9 +47,9 @@ slice-aggregate-ceilings-on-7 : tie.Need-slice-aggregate-ceilings-on-7
 slice-aggregate-ceilings-on-7 c = search needs
 
 ceilings-on-requires : tie.Need-ceilings-on-requires
-ceilings-on-requires c κs = 
+ceilings-on-requires c κs =
     let m = few-counters _ _ _ (c .before .before .before .before .before .before .before .before .before .before .before .before .before .before .before .before .before .before .before .before .before .before .before .pre .1 .counted) (c .before .before .before .before .before .before .before .before .before .before .before .before .before .before .before .before .before .before .before .before .before .before .before .pre .0 .few) in
-    (c .before .before .before .before .before .before .before .before .before .before .before .before .before .before .before .before .before .before .before .before .before .before .before .pre .0, (c .before .before .before .before .before .before .before .before .before .before .before .before .before .before .before .before .before .before .before .before .before .before .before .pre .1, (limits-room _ _ _ _ _ _ (all-cells _ _ m (c .before .before .before .before .before .before .before .before .before .before .before .before .before .before .before .before .before .before .before .before .before .before .before .pre .0 .ready .limits)) (omega (arith, c .before .before .before .before .before .before .before .before .before .before .before .before .before .before .before .before .before .before .before .before .before .before .before .pre .0 .ready .limits .bounds)) (c .before .before .before .before .before .before .before .before .before .before .before .before .before .words16-131072 .ensures) (c .before .before .before .before .before .before .before .before .before .before .before .before .words16-258 .ensures), mask-room _ _ _ _ _ _ _ (omega (arith, m)) (c .before .before .before .before .before .before .before .before .before .before .before .words64-2048 .ensures) (c .before .before .before .before .before .before .before .before .before .before .words64-20482 .ensures) (c .before .before .before .before .before .before .before .before .before .words64-20483 .ensures) (c .before .before .before .before .before .before .before .before .words64-20484 .ensures) (c .before .before .before .before .before .before .before .words64-20485 .ensures))))
+    (c .before .before .before .before .before .before .before .before .before .before .before .before .before .before .before .before .before .before .before .before .before .before .before .pre .0, (c .before .before .before .before .before .before .before .before .before .before .before .before .before .before .before .before .before .before .before .before .before .before .before .pre .1, (limits-room _ _ _ _ _ _ (all-cells _ _ m (c .before .before .before .before .before .before .before .before .before .before .before .before .before .before .before .before .before .before .before .before .before .before .before .pre .0 .ready .limits)) (omega (arith, c .before .before .before .before .before .before .before .before .before .before .before .before .before .before .before .before .before .before .before .before .before .before .before .pre .0 .ready .limits .bounds)) (c .before .before .before .before .before .before .before .before .before .before .before .before .before .words16-131072 .ensures) (c .before .before .before .before .before .before .before .before .before .before .before .before .words16-258 .ensures), mask-room _ _ _ _ _ _ _ _ (omega (arith, m)) (omega (arith, m)) (c .before .before .before .before .before .before .before .before .before .before .before .words64-4096 .ensures) (c .before .before .before .before .before .before .before .before .before .before .words64-2048 .ensures) (c .before .before .before .before .before .before .before .before .before .words64-20482 .ensures) (c .before .before .before .before .before .before .before .before .words64-20483 .ensures) (c .before .before .before .before .before .before .before .words64-20484 .ensures))))
 
 returns : tie.Need-returns
 returns c = search needs
@@ -60,11 +60,11 @@ all-limits-spec =
     (tie.spec
     words16-131072-requires
     words16-258-requires
+    words64-4096-requires
     words64-2048-requires
     words64-2048-requires-2
     words64-2048-requires-3
     words64-2048-requires-4
-    words64-2048-requires-5
     slice-aggregate-ceilings-on
     slice-aggregate-ceilings-on-2
     slice-aggregate-ceilings-on-3

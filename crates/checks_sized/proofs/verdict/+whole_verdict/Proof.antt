@@ -68,20 +68,20 @@ pub +whole-verdict-spec : {M : Type 1} → statement M
     close
     μ-whole-verdict
     (λ t.
-      whole-verdict-lts.spec
-      (whole-verdict-claims t)
-      (whole-verdict-at t)
-      whole-verdict.Post
-      (whole-verdict-long-verdict-requires t)
-      (whole-verdict-same-length t)
-      (whole-verdict-returns t)
-      (whole-verdict-tiny-verdict-requires t)
-      (whole-verdict-same-length-2 t)
-      (whole-verdict-returns-2 t)
-      (whole-verdict-short-verdict-requires t)
-      (whole-verdict-same-length-3 t)
-      (whole-verdict-returns-3 t)
-      (whole-verdict-mul-whole-verdict t)
-      (whole-verdict-whole-verdict-requires t)
-      (whole-verdict-same-length-4 t)
-      (whole-verdict-returns-4 t))
+    whole-verdict-lts.spec
+    (whole-verdict-claims t)
+    (whole-verdict-at t)
+    whole-verdict.Post
+    (whole-verdict-long-verdict-requires t)
+    (whole-verdict-same-length t)
+    (whole-verdict-returns t)
+    (whole-verdict-tiny-verdict-requires t)
+    (whole-verdict-same-length-2 t)
+    (whole-verdict-returns-2 t)
+    (whole-verdict-short-verdict-requires t)
+    (whole-verdict-same-length-3 t)
+    (whole-verdict-returns-3 t)
+    (whole-verdict-mul-whole-verdict t)
+    (whole-verdict-whole-verdict-requires t)
+    (whole-verdict-same-length-4 t)
+    (whole-verdict-returns-4 t))
