@@ -356,8 +356,8 @@ fn all_limits(
     )
 }
 
-// Refusals 11 to 13 over the least scratch that fits, which that for `most` counters or more may be. It calls itself for
-// the next size, as `open_verdict` does: each size has a frame of its own.
+// Refusals 11 to 13 over the least scratch that fits, which that for `most` counters or more may be. It calls itself
+// for the next size, as `open_verdict` does: each size has a frame of its own.
 pub fn ceilings_verdict(
     most: usize,
     ws: &[u16],

@@ -47,8 +47,8 @@ fn large_flow(ws: &[u16], s: Sizes, lent: &mut [u32]) -> Verdict
     words_verdict(ws, s, &mut flow, lent)
 }
 
-// Refusals 3 to 14 over the least scratch that fits, which that for `most` rows and names or more may be. It calls itself
-// for the next size: each size has a frame of its own (DECISIONS 46).
+// Refusals 3 to 14 over the least scratch that fits, which that for `most` rows and names or more may be. It calls
+// itself for the next size: each size has a frame of its own (DECISIONS 46).
 pub fn sized_verdict(most: usize, ws: &[u16], s: Sizes, lent: &mut [u32]) -> Verdict
     requires { ⌜ 1 ≤ most ⌝ }
     requires { ⌜ Parts-whole (now ws) s ⌝ }

@@ -58,8 +58,8 @@ fn long_verdict(bytes: &[u8], s: Sizes, lent: &mut [u32]) -> Verdict
     decoded_verdict(bytes, s, &mut words, lent)
 }
 
-// The verdict on a message whose parts are whole, over the fewest words that fit, which `most` bytes or more may be. It
-// calls itself for the next size: each size has a frame of its own (DECISIONS 46).
+// The verdict on a message whose parts are whole, over the fewest words that fit, which `most` bytes or more may be.
+// It calls itself for the next size: each size has a frame of its own (DECISIONS 46).
 fn whole_verdict(most: usize, bytes: &[u8], s: Sizes, lent: &mut [u32]) -> Verdict
     requires { ⌜ 1 ≤ most ⌝ }
     requires { ⌜ Whole-message (now bytes) s ⌝ }

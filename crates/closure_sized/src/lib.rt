@@ -172,9 +172,9 @@ fn large_open(
     )
 }
 
-// Refusal 8 over the least tables that fit, which those for `most` rows and names or more may be; after none the tables
-// that later checks read are filled. It calls itself for the next size, so that LLVM keeps each size's tables in a frame
-// of their own (DECISIONS 46).
+// Refusal 8 over the least tables that fit, which those for `most` rows and names or more may be; after none the
+// tables that later checks read are filled. It calls itself for the next size, so that LLVM keeps each size's tables in
+// a frame of their own (DECISIONS 46).
 pub fn open_verdict(
     most: usize,
     ws: &[u16],
