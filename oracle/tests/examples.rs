@@ -39,10 +39,14 @@ fn each_has_the_verdict_of_the_list() {
     }
 }
 
+/// Hostile messages that nothing here makes.
+const KEPT: [&str; 3] = ["digraph-3x167-k256", "slots-240-one", "split-digraph-k64"];
+
 #[test]
 fn each_hostile_message_is_what_is_made_anew() {
     let made = stress::hostile().unwrap();
-    assert_eq!(made.len(), files("examples/hostile", "msg").len());
+    assert_eq!(made.len() + KEPT.len(), files("examples/hostile", "msg").len());
+    assert!(made.iter().all(|hostile| !KEPT.contains(&hostile.name.as_str())));
     for hostile in made {
         let stored = std::fs::read(path("examples/hostile").join(format!("{}.msg", hostile.name))).unwrap();
         assert!(stored == hostile.message, "{}", hostile.name);

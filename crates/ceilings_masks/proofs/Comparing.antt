@@ -2,7 +2,7 @@
 use Prim.Native.Nat.{ℕ, zero, suc, _+_, _*_, _/_, _%_, _^_, _≤_, _<_}
 use native.Mathlib.Decide.{ℕ-discrete, decLt}
 use native.Mathlib.Omega.{arith}
-use mathlib.Core.Path.{_≡_, refl, sym, _∙_, ap}
+use mathlib.Core.Path.{_≡_, refl, sym, _∙_, ap, subst}
 use mathlib.Core.Bool.{Bool, true, false, _&&_, _||_}
 use mathlib.Core.List.{List}
 use lib.Bits.{bitOr}
@@ -128,6 +128,9 @@ module _ (limits : List ℕ) (ceilings x n k : ℕ) where
   unfolding allows reaches
   allows-one e = rw e (ap (λ b. ltb k ceilings && b) (allowed-reached (held limits ceilings k x) 1 (omega arith)))
 
+  pub allows-two : n ≡ 2 → reaches limits ceilings x 2 k ≡ allows limits ceilings x n k
+  allows-two e = ap (λ z. reaches limits ceilings x z k) (sym e) ∙ allows-reached (omega arith)
+
   pub allows-unbounded : ((z : ℕ) → getD limits z 0 < 65536) → omega-limit ≤ n → reaches limits ceilings x omega-limit k ≡ allows limits ceilings x n k
   unfolding allows reaches
   allows-unbounded words h = ap (λ b. ltb k ceilings && b) (allowed-unbounded (held limits ceilings k x) n (let z = words (x * ceilings + k) in omega arith) h)
@@ -147,7 +150,35 @@ sets-next u t e g f s is same x k h l = elim (ℕ-discrete x e) [
   | no z ↦ is .others x k l z ∙ s x k (omega arith) l
 ]
 
-pub holders-table : (limits : List ℕ) (ceilings n x : ℕ) (holders unbounded : List ℕ) → n ≤ x → n * 4 ≤ length holders → n * 4 ≤ length unbounded → Sets-upto holders x (λ y. reaches limits ceilings y 1) → Sets-upto unbounded x (λ y. reaches limits ceilings y omega-limit) → Holders limits ceilings n holders unbounded
+pub sets-at : (t : List ℕ) (d e : ℕ) (f : ℕ → ℕ → Bool) → d ≡ e → Sets-upto t d f → Sets-upto t e f
+sets-at t d e f z s = subst (λ n. Sets-upto t n f) z s
+
+-- the sets of the ceilings that hold a counter and that hold two of it, one behind the other
+unfoldable pub paired : List ℕ → ℕ → ℕ → ℕ → Bool
+paired limits ceilings y k = reaches limits ceilings (y / 2) (1 + y % 2) k
+
+module _ (limits : List ℕ) (ceilings x k : ℕ) where
+  pub paired-one : reaches limits ceilings x 1 k ≡ paired limits ceilings (2 * x) k
+  unfolding paired
+  paired-one =
+      let a : x ≡ 2 * x / 2 = omega arith in
+      let b : 1 ≡ 1 + 2 * x % 2 = omega arith in
+      ap (λ z. reaches limits ceilings z 1 k) a ∙ ap (λ z. reaches limits ceilings (2 * x / 2) z k) b
+
+  pub paired-two : reaches limits ceilings x 2 k ≡ paired limits ceilings (2 * x + 1) k
+  unfolding paired
+  paired-two =
+      let a : x ≡ (2 * x + 1) / 2 = omega arith in
+      let b : 2 ≡ 1 + (2 * x + 1) % 2 = omega arith in
+      ap (λ z. reaches limits ceilings z 2 k) a ∙ ap (λ z. reaches limits ceilings ((2 * x + 1) / 2) z k) b
+
+pub holders-table : (limits : List ℕ) (ceilings n x : ℕ) (holders unbounded : List ℕ) → n ≤ x → n * 8 ≤ length holders → n * 4 ≤ length unbounded → Sets-upto holders (2 * x) (paired limits ceilings) → Sets-upto unbounded x (λ y. reaches limits ceilings y omega-limit) → Holders limits ceilings n holders unbounded
 unfolding Sets-upto
 holders-table limits ceilings n x holders unbounded all a b s t =
-    record { holders-room = a; unbounded-room = b; holder = λ y k h. s y k (omega arith); no-bound = λ y k h. t y k (omega arith) }
+    record {
+      holders-room = a;
+      unbounded-room = b;
+      holder = λ y k h l. s (2 * y) k (omega arith) l ∙ sym (paired-one limits ceilings y k);
+      holder-of-two = λ y k h l. s (2 * y + 1) k (omega arith) l ∙ sym (paired-two limits ceilings y k);
+      no-bound = λ y k h. t y k (omega arith);
+    }

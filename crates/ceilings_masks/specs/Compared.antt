@@ -22,11 +22,13 @@ reaches limits ceilings x least k = ltb k ceilings && leb least (held limits cei
 unfoldable pub allows : List ℕ → ℕ → ℕ → ℕ → ℕ → Bool
 allows limits ceilings x n k = ltb k ceilings && allowed (held limits ceilings k x) n
 
--- for each of n counters, the ceilings that hold it at all and those where it is unbounded
+-- For each of n counters, two sets of the ceilings that hold it at all and that hold two of it, one behind the other,
+-- and the set of those where it is unbounded.
 pub record Holders (limits : List ℕ) (ceilings n : ℕ) (holders unbounded : List ℕ) : Type 0 where
-  pub holders-room : n * 4 ≤ length holders
+  pub holders-room : n * 8 ≤ length holders
   pub unbounded-room : n * 4 ≤ length unbounded
-  pub holder : (x k : ℕ) → x < n → k < 256 → member holders 4 x k ≡ reaches limits ceilings x 1 k
+  pub holder : (x k : ℕ) → x < n → k < 256 → member holders 4 (2 * x) k ≡ reaches limits ceilings x 1 k
+  pub holder-of-two : (x k : ℕ) → x < n → k < 256 → member holders 4 (2 * x + 1) k ≡ reaches limits ceilings x 2 k
   pub no-bound : (x k : ℕ) → x < n → k < 256 → member unbounded 4 x k ≡ reaches limits ceilings x omega-limit k
 
 -- the highest count of counter x under ceiling k

@@ -90,7 +90,8 @@ fn limits_from(limits: &[u16], ceilings: usize, x: usize, least: usize) -> Mask
     }
 }
 
-// For each of n counters the ceilings that hold it, and those where it is unbounded.
+// For each of n counters the ceilings that hold it, those that hold two of it, and those where it is unbounded. (A
+// limit is 1 most often, and one more than that is asked of every ceiling: so two is kept beside one.)
 pub fn fill_holders(
     limits: &[u16],
     ceilings: usize,
@@ -100,11 +101,14 @@ pub fn fill_holders(
 )
     requires { ⌜ (ceilings ≤ maxCeilings) × (n ≤ maxCounters) ⌝ }
     requires { ⌜ n * ceilings ≤ length (now limits) ⌝ }
-    requires { ⌜ (n * 4 ≤ length (now holders)) × (n * 4 ≤ length (now unbounded)) ⌝ }
+    requires { ⌜ (n * 8 ≤ length (now holders)) × (n * 4 ≤ length (now unbounded)) ⌝ }
     ensures { λ _. ⌜ Holders (now (limits .entry)) ceilings n (now (holders .exit)) (now (unbounded .exit)) ⌝ }
 {
     for x in 0..n {
-        store(holders, x, limits_from(limits, ceilings, x, 1));
+        let first = 2 * x;
+        store(holders, first, limits_from(limits, ceilings, x, 1));
+        let second = 2 * x + 1;
+        store(holders, second, limits_from(limits, ceilings, x, 2));
         store(unbounded, x, limits_from(limits, ceilings, x, OMEGA));
     }
 }
@@ -128,7 +132,12 @@ pub fn allowing(
         return below(ceilings);
     }
     if count == 1 {
-        return load(holders, x);
+        let first = 2 * x;
+        return load(holders, first);
+    }
+    if count == 2 {
+        let second = 2 * x + 1;
+        return load(holders, second);
     }
     if count >= OMEGA {
         return load(unbounded, x);

@@ -6,21 +6,20 @@ use mathlib.Core.List.{List, []}
 use mathlib.Core.Option.{some, none}
 use Rattle.model.specs.declared.Sizes.{Sizes}
 use Rattle.model.specs.declared.Verdict.{Verdict}
-use Rattle.model.specs.Verdict.{Check, _>>_}
+use Rattle.model.specs.declared.Verdict.the-variants.{Safe}
+use Rattle.model.specs.Verdict.{Check, _>>_, number}
 use Rattle.model.specs.Words.{words}
 use Rattle.model.specs.Rows.{Program, program, row-check}
 use Rattle.model.specs.Scopes.{name-check, scope-check}
-use Rattle.model.specs.Bads.{bad-rows}
-use Rattle.model.specs.Rules.{rules}
 use Rattle.model.specs.Tables.{tables}
 use Rattle.model.specs.Counters.{counter-count}
-use Rattle.model.specs.Ceilings.{ceilings-of, ceiling-check, start-check, met-check, leak-check}
+use Rattle.model.specs.Ceilings.{ceiling-check}
 use Rattle.model.specs.Verify.{program-check, evidence-check, ceilings-check, message, message-check, check, answer, verdict}
 use Rattle.model.proofs.Exact.Answer.{Refuses, program-refuses, ceilings-refuse}
 use Rattle.system_space.specs.Space.{words-after}
 use Rattle.answers.specs.Safe.{is-safe}
-use Rattle.checks.specs.Order.{taken, ceilings, from-3, from-4, from-5, from-6, from-7, from-8, from-9, from-10, from-11, from-12, from-13, from-14}
-use Rattle.answers.proofs.Passing.{else-is, ends}
+use Rattle.checks.specs.Order.{taken, under-ceilings, from-3, from-4, from-5, from-6, from-7, from-8, from-9, from-10, from-11, from-14}
+use Rattle.answers.proofs.Passing.{else-is, ends, goes-on, no-safe}
 
 -- the checks in the order in which the code takes them
 assoc : (a b c : Check) → (a >> b) >> c ≡ a >> (b >> c)
@@ -34,13 +33,13 @@ three a b c r = assoc a (b >> c) r ∙ ap (λ x. a >> x) (assoc b c r)
 four : (a b c d r : Check) → (a >> (b >> (c >> d))) >> r ≡ a >> (b >> (c >> (d >> r)))
 four a b c d r = assoc a (b >> (c >> d)) r ∙ ap (λ x. a >> x) (three b c d r)
 
-in-threes : (a b c d e f g h i j k l : Check) → (a >> (b >> c)) >> ((d >> (e >> (f >> g))) >> ((h >> (i >> (j >> k))) >> l)) ≡ a >> (b >> (c >> (d >> (e >> (f >> (g >> (h >> (i >> (j >> (k >> l))))))))))
-in-threes a b c d e f g h i j k l =
-    three a b c _ ∙ ap (λ x. a >> (b >> (c >> x))) (four d e f g _ ∙ ap (λ x. d >> (e >> (f >> (g >> x)))) (four h i j k l))
+in-threes : (a b c d e f g h i l : Check) → (a >> (b >> c)) >> ((d >> (e >> (f >> g))) >> ((h >> i) >> l)) ≡ a >> (b >> (c >> (d >> (e >> (f >> (g >> (h >> (i >> l))))))))
+in-threes a b c d e f g h i l =
+    three a b c _ ∙ ap (λ x. a >> (b >> (c >> x))) (four d e f g _ ∙ ap (λ x. d >> (e >> (f >> (g >> x)))) (assoc h i l))
 
 pub in-order : (ws : List ℕ) (s : Sizes) (n : ℕ) → message-check (taken ws s) n ≡ from-3 ws s n
-unfolding message-check taken program-check evidence-check ceilings-check ceilings from-3 from-4 from-5 from-6 from-7 from-8 from-9 from-10 from-11 from-12 from-13 from-14
-in-order ws s n = in-threes _ _ _ _ _ _ _ _ _ _ _ _
+unfolding message-check taken program-check evidence-check ceilings-check under-ceilings from-3 from-4 from-5 from-6 from-7 from-8 from-9 from-10 from-11 from-14
+in-order ws s n = in-threes _ _ _ _ _ _ _ _ _ _
 
 -- a check that finds nothing leaves those behind it
 pub goes-by : (m c r : Check) → m ≡ c >> r → c ≡ none → m ≡ r
@@ -52,14 +51,14 @@ pub behind : (a b : Check) → Refuses (a >> b) → a ≡ none → Refuses b
 unfolding _>>_
 behind a b r h = subst Refuses (ap (λ x. x >> b) h) r
 
--- nor do 5 and 13 by themselves
+-- nor do 5 and 11 to 13 by themselves
 pub scopes-refuse : (p : Program) → row-check p ≡ none → name-check p ≡ none → Refuses (scope-check p)
 unfolding program-check
 scopes-refuse p r n = behind _ _ (behind _ _ (program-refuses p) r) n
 
-pub leaks-refuse : (ws : List ℕ) (s : Sizes) → ceiling-check ws s (counter-count (program ws s) (tables ws s)) ≡ none → start-check s (program ws s) (tables ws s) (ceilings ws s) ≡ none → met-check s (program ws s) (tables ws s) (ceilings ws s) (bad-rows ws s) ≡ none → Refuses (leak-check ws s (ceilings ws s) (rules (program ws s) (tables ws s)))
-unfolding ceilings-check taken ceilings
-leaks-refuse ws s b h m = behind _ _ (behind _ _ (behind _ _ (ceilings-refuse (taken ws s)) b) h) m
+pub under-refuses : (ws : List ℕ) (s : Sizes) → ceiling-check ws s (counter-count (program ws s) (tables ws s)) ≡ none → Refuses (under-ceilings ws s (counter-count (program ws s) (tables ws s)))
+unfolding ceilings-check taken under-ceilings
+under-refuses ws s b = behind _ _ (ceilings-refuse (taken ws s)) b
 
 -- what the code finds of the n counters that it has counted is what the model says of the message
 module _ (ws : List ℕ) (s : Sizes) (n : ℕ) (v : Verdict) where
@@ -69,19 +68,24 @@ module _ (ws : List ℕ) (s : Sizes) (n : ℕ) (v : Verdict) where
   pub ceiling-told : v ≡ answer (ceiling-check ws s n) → n ≡ counter-count (program ws s) (tables ws s) → v ≡ answer (ceiling-check ws s (counter-count (program ws s) (tables ws s)))
   ceiling-told = told (ceiling-check ws s)
 
-  pub start-told : v ≡ answer (start-check s (program ws s) (tables ws s) (ceilings-of ws s n)) → n ≡ counter-count (program ws s) (tables ws s) → v ≡ answer (start-check s (program ws s) (tables ws s) (ceilings ws s))
-  unfolding ceilings
-  start-told = told (λ k. start-check s (program ws s) (tables ws s) (ceilings-of ws s k))
-
-  pub met-told : v ≡ answer (met-check s (program ws s) (tables ws s) (ceilings-of ws s n) (bad-rows ws s)) → n ≡ counter-count (program ws s) (tables ws s) → v ≡ answer (met-check s (program ws s) (tables ws s) (ceilings ws s) (bad-rows ws s))
-  unfolding ceilings
-  met-told = told (λ k. met-check s (program ws s) (tables ws s) (ceilings-of ws s k) (bad-rows ws s))
-
-  pub leak-told : v ≡ answer (leak-check ws s (ceilings-of ws s n) (rules (program ws s) (tables ws s))) → n ≡ counter-count (program ws s) (tables ws s) → v ≡ answer (leak-check ws s (ceilings ws s) (rules (program ws s) (tables ws s)))
-  unfolding ceilings
-  leak-told = told (λ k. leak-check ws s (ceilings-of ws s k) (rules (program ws s) (tables ws s)))
+  pub ceilings-told : v ≡ answer (under-ceilings ws s n) → n ≡ counter-count (program ws s) (tables ws s) → v ≡ answer (under-ceilings ws s (counter-count (program ws s) (tables ws s)))
+  ceilings-told = told (under-ceilings ws s)
 
 -- a refusal ends the checks, and the lent words stay
 pub ends-with : (m c r : Check) (v : Verdict) (f : Bool) (ws : List ℕ) (s : Sizes) (lent : List ℕ) → m ≡ c >> r → v ≡ answer c → f ≡ is-safe v → f ≡ false → (v ≡ answer m) × (lent ≡ words-after v ws s lent)
 unfolding words-after
 ends-with m c r v f ws s lent z e t h = (ends c r v f e t h ∙ sym (ap answer z), sym (else-is v _ lent (sym t ∙ h)))
+
+-- of checks one after the other the first refuses, or the second where the first finds nothing; what holds after safe
+-- need not hold then
+pub first-refuses : {A : Type 0} (a b : Check) (v : Verdict) (f : Bool) → v ≡ answer a → f ≡ is-safe v → f ≡ false → (v ≡ answer (a >> b)) × (v ≡ Safe → A)
+unfolding is-safe number
+first-refuses a b v f e s h = (ends a b v f e s h, λ z. no-safe v f s h (ap is-safe z))
+
+pub second-refuses : {A : Type 0} (a b c : Check) (v : Verdict) (f : Bool) → a ≡ none → v ≡ answer b → f ≡ is-safe v → f ≡ false → (v ≡ answer (a >> (b >> c))) × (v ≡ Safe → A)
+second-refuses a b c v f n e s h =
+    let r = first-refuses b c v f e s h in
+    (goes-on a (b >> c) v n (r .0), r .1)
+
+pub third-answers : (a b c : Check) (v : Verdict) → a ≡ none → b ≡ none → v ≡ answer c → v ≡ answer (a >> (b >> c))
+third-answers a b c v n m e = goes-on a (b >> c) v n (goes-on b c v m e)

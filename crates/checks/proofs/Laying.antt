@@ -16,7 +16,7 @@ use Rattle.model.specs.Index.{all, implies}
 use Rattle.model.specs.Scopes.{name-check, scope-check}
 use Rattle.model.specs.Heads.{innermost, start}
 use Rattle.model.specs.Closed.{opening-closed, open-check}
-use Rattle.model.specs.Counters.{counter-count, counter-check, letter-count, letter-keys}
+use Rattle.model.specs.Counters.{counter-count, counter-check}
 use Rattle.model.specs.Verify.{program-check}
 use Rattle.model.proofs.Exact.Checks.{then-none, unless-none}
 use Rattle.model.proofs.Logic.{and-right}
@@ -30,11 +30,11 @@ use Rattle.ceilings_form.specs.Parts as ceilings
 use Rattle.lists.specs.Ready.{Ready}
 use Rattle.evidence.specs.Whole.{Parts-whole}
 use Rattle.rooms.specs.Cleared.{Cleared}
-use Rattle.system_letters.proofs.Pairs.{letters-few}
+use Rattle.closure_sized.proofs.Opening.{product-most}
 use Rattle.ceilings_met.specs.Items.{Items-counted}
 use Rattle.rules.specs.Derived.{Rule-room}
 use Rattle.model.specs.Demands.{Within-limits}
-use Rattle.checks.specs.Scratch.{Countable, Mask-room}
+use Rattle.checks.specs.Scratch.{Limits-room, Mask-room}
 
 -- refusals 3 to 5 found nothing
 pub program-passes : (p : Program) → row-check p ≡ none → name-check p ≡ none → scope-check p ≡ none → program-check p ≡ none
@@ -52,12 +52,6 @@ ceilings-whole ws s w = record { limits = w .limits; held = w .held }
 pub few : (s : Sizes) (p : Program) (t : Tables) → counter-check s p t ≡ none → counter-count p t ≤ maxCounters
 unfolding counter-check
 few s p t h = leb-true _ _ (unless-none _ _ .0 h)
-
--- a message has no more counters than states and mail
-pub countable : (ws : List ℕ) (s : Sizes) (n : ℕ) → Ready ws s → counter-check s (program ws s) (tables ws s) ≡ none → n ≡ counter-count (program ws s) (tables ws s) → Countable s n
-unfolding counter-count letter-count tables entries columns
-countable ws s n h c e =
-    record { few = omega (arith, e, few _ _ _ c); listed = omega (arith, e, letters-few h (letter-keys (program ws s))) }
 
 -- refusal 8 found nothing, so the start has a counter
 pub start-counted : (s : Sizes) (p : Program) (t : Tables) → open-check s p t ≡ none → state-index t (state (size p) (start p)) < counter-count p t
@@ -112,9 +106,26 @@ rule-room s tos others l t o =
       alike = b ∙ sym a;
     }
 
+-- limits of n counters, and where the ceilings begin
+pub limits-room : (s : Sizes) (n k m : ℕ) (limits ceiling-at : List ℕ) → n * s .ceilings ≤ k → s .ceilings ≤ m → Cleared k limits → Cleared m ceiling-at → Limits-room s n limits ceiling-at
+limits-room s n k m limits ceiling-at h b l c =
+    record {
+      cells = let q = l .room in omega arith;
+      blank = l .zero;
+      firsts = let q = c .room in omega arith;
+    }
+
+-- the counters of a message that refusal 9 does not refuse
+pub few-counters : (ws : List ℕ) (s : Sizes) (n : ℕ) → n ≡ counter-count (program ws s) (tables ws s) → counter-count (program ws s) (tables ws s) ≤ maxCounters → n ≤ maxCounters
+few-counters ws s n e h = omega (arith, e)
+
+-- no message has more limits
+pub all-cells : (s : Sizes) (n : ℕ) → n ≤ maxCounters → Within-limits s → n * s .ceilings ≤ 131072
+all-cells s n h l = product-most n (s .ceilings) 512 256 (omega arith) (l .ceilings)
+
 -- sets of ceilings for n counters
-pub mask-room : (k n : ℕ) (holders unbounded group short more : List ℕ) → n * 4 ≤ k → Cleared k holders → Cleared k unbounded → Cleared k group → Cleared k short → Cleared k more → Mask-room n holders unbounded group short more
-mask-room k n holders unbounded group short more h a b c d e =
+pub mask-room : (j k n : ℕ) (holders unbounded group short more : List ℕ) → n * 8 ≤ j → n * 4 ≤ k → Cleared j holders → Cleared k unbounded → Cleared k group → Cleared k short → Cleared k more → Mask-room n holders unbounded group short more
+mask-room j k n holders unbounded group short more g h a b c d e =
     record {
       held = let q = a .room in omega arith;
       free = let q = b .room in omega arith;

@@ -10,7 +10,7 @@ use Rattle.model.specs.Tables.{tables, entry-check}
 use Rattle.model.specs.Closed.{open-check}
 use Rattle.model.specs.Counters.{counter-count, counter-check}
 use Rattle.model.specs.Rules.{rules}
-use Rattle.model.specs.Ceilings.{Ceilings, ceilings-of, ceiling-check, start-check, met-check, leak-check}
+use Rattle.model.specs.Ceilings.{ceilings-of, ceiling-check, start-check, met-check, leak-check}
 use Rattle.model.specs.Listing.{space-check}
 use Rattle.model.specs.Verify.{Message}
 
@@ -26,22 +26,19 @@ taken ws s =
       ceilings = ceilings-of ws s (counter-count (program ws s) (tables ws s));
     }
 
--- the ceilings of the message
-unfoldable pub ceilings : List ℕ → Sizes → Ceilings
-ceilings ws s = ceilings-of ws s (counter-count (program ws s) (tables ws s))
+-- refusals 11 to 13 of a message of n counters: its ceilings are in form
+unfoldable pub under-ceilings : List ℕ → Sizes → ℕ → Check
+under-ceilings ws s n =
+    start-check s (program ws s) (tables ws s) (ceilings-of ws s n) >> (
+    met-check s (program ws s) (tables ws s) (ceilings-of ws s n) (bad-rows ws s) >>
+    leak-check ws s (ceilings-of ws s n) (rules (program ws s) (tables ws s)))
 
 module _ (ws : List ℕ) (s : Sizes) (lent : ℕ) where
   unfoldable pub from-14 : Check
   from-14 = space-check (program ws s) (tables ws s) lent
 
-  unfoldable pub from-13 : Check
-  from-13 = leak-check ws s (ceilings ws s) (rules (program ws s) (tables ws s)) >> from-14
-
-  unfoldable pub from-12 : Check
-  from-12 = met-check s (program ws s) (tables ws s) (ceilings ws s) (bad-rows ws s) >> from-13
-
   unfoldable pub from-11 : Check
-  from-11 = start-check s (program ws s) (tables ws s) (ceilings ws s) >> from-12
+  from-11 = under-ceilings ws s (counter-count (program ws s) (tables ws s)) >> from-14
 
   unfoldable pub from-10 : Check
   from-10 = ceiling-check ws s (counter-count (program ws s) (tables ws s)) >> from-11

@@ -1,34 +1,36 @@
 -- What the checks are lent: tables with room for a message of these sizes, some of them with nothing in them.
-use Prim.Native.Nat.{ℕ, _+_, _*_, _≤_}
+use Prim.Native.Nat.{ℕ, _*_, _≤_}
 use mathlib.Core.Path.{_≡_}
 use mathlib.Core.List.{List}
 use lib.ListN.{length, getD}
 use Rattle.model.specs.declared.Sizes.{Sizes}
-use Rattle.model.specs.Limits.{maxCounters}
 use Rattle.model.specs.Rows.{program}
 use Rattle.model.specs.Tables.{tables}
 use Rattle.model.specs.Counters.{counter-count}
 use Rattle.model.specs.Ceilings.{ceilings-of, ceiling-entries}
 use Rattle.ceilings_form.specs.Limits.{In-form, Starts-table}
 use Rattle.ceilings.specs.Table.{Limits-table}
+use Rattle.ceilings_met.specs.Items.{Bads-in-form}
 
--- A message of these sizes may have n counters: one for each state, and no more for letters than there is mail.
-pub record Countable (s : Sizes) (n : ℕ) : Type 0 where
-  pub few : n ≤ maxCounters
-  pub listed : n ≤ s .states + s .mails
-
--- a limit of 0 for each counter under each ceiling
-pub record Limits-room (s : Sizes) (limits : List ℕ) : Type 0 where
-  pub cells : (n : ℕ) → Countable s n → n * s .ceilings ≤ length limits
+-- a limit of 0 for each of n counters under each ceiling, and a word for each ceiling
+pub record Limits-room (s : Sizes) (n : ℕ) (limits ceiling-at : List ℕ) : Type 0 where
+  pub cells : n * s .ceilings ≤ length limits
   pub blank : (z : ℕ) → getD limits z 0 ≡ 0
+  pub firsts : s .ceilings ≤ length ceiling-at
 
--- a set of ceilings for each of n counters, and for each state
+-- two sets of ceilings for each of n counters, and one three times and for each state
 pub record Mask-room (n : ℕ) (holders unbounded group short more : List ℕ) : Type 0 where
-  pub held : n * 4 ≤ length holders
+  pub held : n * 8 ≤ length holders
   pub free : n * 4 ≤ length unbounded
   pub states : n * 4 ≤ length group
   pub one-less : n * 4 ≤ length short
   pub one-more : n * 4 ≤ length more
+
+-- n counters, and the ceilings and bads of a message in form
+pub record Numbered (ws : List ℕ) (s : Sizes) (n : ℕ) : Type 0 where
+  pub counted : n ≡ counter-count (program ws s) (tables ws s)
+  pub in-form : In-form ws s n
+  pub bads : Bads-in-form ws s
 
 -- n counters, and the ceilings of a message in form, with their limits and where each begins
 pub record Limited (ws : List ℕ) (s : Sizes) (n : ℕ) (limits ceiling-at : List ℕ) : Type 0 where

@@ -1,16 +1,28 @@
-// Refusal 13: the masks of the ceilings and the rules of each state, over scratch by need.
+// Refusals 11 to 13: the limits and the masks of the ceilings and the rules of each state, over scratch by need.
+use crate::stages::met_verdict;
+use crate::stages::start_verdict;
+use answers::is_safe;
+use ceilings::fill_limits;
 use ceilings_leaks::fill_groups;
 use ceilings_leaks::leak_check;
 use ceilings_masks::fill_holders;
 use model::Sizes;
 use model::Verdict;
+use rooms::words16_258;
 use rooms::words16_1056;
+use rooms::words16_2048;
+use rooms::words16_16384;
+use rooms::words16_131072;
 use rooms::words64_130;
+use rooms::words64_512;
+use rooms::words64_1024;
 use rooms::words64_2048;
+use rooms::words64_4096;
 use rules::no_class;
 use system_totals::Totals;
 ghost use mathlib.Core.Path.{_≡_};
-ghost use Prim.Native.Nat.{_≤_};
+ghost use Prim.Native.Nat.{_*_, _≤_};
+ghost use Rattle.model.specs.declared.Verdict.the-variants.{Safe};
 ghost use Rattle.model.specs.Rows.{program};
 ghost use Rattle.model.specs.Tables.{tables};
 ghost use Rattle.model.specs.Rules.{rules};
@@ -18,7 +30,8 @@ ghost use Rattle.model.specs.Ceilings.{ceilings-of, leak-check};
 ghost use Rattle.model.specs.Verify.{answer};
 ghost use Rattle.rules.specs.Derived.{Rule-tables};
 ghost use Rattle.system_totals.specs.Lines.{Totalled};
-ghost use Rattle.checks.specs.Scratch.{Limited, Mask-room};
+ghost use Rattle.checks.specs.Order.{under-ceilings};
+ghost use Rattle.checks.specs.Scratch.{Numbered, Limited, Limits-room, Mask-room};
 
 // The verdict, and the totals of the rules, which are counted on the way.
 pub struct Leaks {
@@ -115,8 +128,8 @@ fn leaks_on(
     Leaks { verdict, totals }
 }
 
-// Refusal 13 of few counters.
-fn few_leaks(
+// Refusals 11 to 13 over lent limits and sets of ceilings.
+fn ceilings_on(
     ws: &[u16],
     s: Sizes,
     afters: &[u16],
@@ -129,24 +142,93 @@ fn few_leaks(
     letters: &[u16],
     branches: &[u16],
     n: usize,
-    limits: &[u16],
-    ceiling_at: &[u16],
+    limits: &mut [u16],
+    ceiling_at: &mut [u16],
+    holders: &mut [u64],
+    unbounded: &mut [u64],
+    group: &mut [u64],
+    short: &mut [u64],
+    more: &mut [u64],
 ) -> Leaks
     requires { ⌜ Rule-tables (now ws) s (now afters) (now inners) (now «flow_at») w (now flows) (now names)
         (now «letter_at») (now letters) (now branches) ⌝ }
-    requires { ⌜ Limited (now ws) s n (now limits) (now «ceiling_at») ⌝ }
-    requires { ⌜ n ≤ 32 ⌝ }
-    ensures { λ l. ⌜ l .verdict ≡
-        answer (leak-check (now (ws .entry)) s (ceilings-of (now (ws .entry)) s n)
-        (rules (program (now (ws .entry)) s) (tables (now (ws .entry)) s))) ⌝ }
-    ensures { λ l. ⌜ Totalled (program (now (ws .entry)) s) (tables (now (ws .entry)) s) (l .totals) ⌝ }
+    requires { ⌜ Numbered (now ws) s n ⌝ }
+    requires { ⌜ Limits-room s n (now limits) (now «ceiling_at») ⌝ }
+    requires { ⌜ Mask-room n (now holders) (now unbounded) (now group) (now short) (now more) ⌝ }
+    ensures { λ l. ⌜ l .verdict ≡ answer (under-ceilings (now (ws .entry)) s n) ⌝ }
+    ensures { λ l. ⌜ (l .verdict ≡ Safe →
+        Totalled (program (now (ws .entry)) s) (tables (now (ws .entry)) s) (l .totals)) ⌝ }
 {
-    let mut holders = words64_130();
+    let none = Totals { rules: 0, rows: 0 };
+    fill_limits(ws, s, n, limits, ceiling_at);
+    let begins = start_verdict(ws, s, afters, n, limits);
+    if !is_safe(begins) {
+        return Leaks {
+            verdict: begins,
+            totals: none,
+        };
+    }
+    let met = met_verdict(ws, s, letter_at, letters, n, limits);
+    if !is_safe(met) {
+        return Leaks {
+            verdict: met,
+            totals: none,
+        };
+    }
+    leaks_on(
+        ws,
+        s,
+        afters,
+        inners,
+        flow_at,
+        w,
+        flows,
+        names,
+        letter_at,
+        letters,
+        branches,
+        n,
+        limits,
+        ceiling_at,
+        holders,
+        unbounded,
+        group,
+        short,
+        more,
+    )
+}
+
+// Refusals 11 to 13 of few counters and limits.
+fn few_limits(
+    ws: &[u16],
+    s: Sizes,
+    afters: &[u16],
+    inners: &[u16],
+    flow_at: &[u16],
+    w: usize,
+    flows: &[u64],
+    names: &[u64],
+    letter_at: &[u16],
+    letters: &[u16],
+    branches: &[u16],
+    n: usize,
+) -> Leaks
+    requires { ⌜ Rule-tables (now ws) s (now afters) (now inners) (now «flow_at») w (now flows) (now names)
+        (now «letter_at») (now letters) (now branches) ⌝ }
+    requires { ⌜ Numbered (now ws) s n ⌝ }
+    requires { ⌜ (n ≤ 32) × (n * s .ceilings ≤ 2048) ⌝ }
+    ensures { λ l. ⌜ l .verdict ≡ answer (under-ceilings (now (ws .entry)) s n) ⌝ }
+    ensures { λ l. ⌜ (l .verdict ≡ Safe →
+        Totalled (program (now (ws .entry)) s) (tables (now (ws .entry)) s) (l .totals)) ⌝ }
+{
+    let mut limits = words16_2048();
+    let mut ceiling_at = words16_258();
+    let mut holders = words64_512();
     let mut unbounded = words64_130();
     let mut group = words64_130();
     let mut short = words64_130();
     let mut more = words64_130();
-    leaks_on(
+    ceilings_on(
         ws,
         s,
         afters,
@@ -159,8 +241,8 @@ fn few_leaks(
         letters,
         branches,
         n,
-        limits,
-        ceiling_at,
+        &mut limits,
+        &mut ceiling_at,
         &mut holders,
         &mut unbounded,
         &mut group,
@@ -169,8 +251,8 @@ fn few_leaks(
     )
 }
 
-// Refusal 13 of any number of counters.
-fn many_leaks(
+// Refusals 11 to 13 of more.
+fn more_limits(
     ws: &[u16],
     s: Sizes,
     afters: &[u16],
@@ -183,23 +265,75 @@ fn many_leaks(
     letters: &[u16],
     branches: &[u16],
     n: usize,
-    limits: &[u16],
-    ceiling_at: &[u16],
 ) -> Leaks
     requires { ⌜ Rule-tables (now ws) s (now afters) (now inners) (now «flow_at») w (now flows) (now names)
         (now «letter_at») (now letters) (now branches) ⌝ }
-    requires { ⌜ Limited (now ws) s n (now limits) (now «ceiling_at») ⌝ }
-    ensures { λ l. ⌜ l .verdict ≡
-        answer (leak-check (now (ws .entry)) s (ceilings-of (now (ws .entry)) s n)
-        (rules (program (now (ws .entry)) s) (tables (now (ws .entry)) s))) ⌝ }
-    ensures { λ l. ⌜ Totalled (program (now (ws .entry)) s) (tables (now (ws .entry)) s) (l .totals) ⌝ }
+    requires { ⌜ Numbered (now ws) s n ⌝ }
+    requires { ⌜ (n ≤ 128) × (n * s .ceilings ≤ 16384) ⌝ }
+    ensures { λ l. ⌜ l .verdict ≡ answer (under-ceilings (now (ws .entry)) s n) ⌝ }
+    ensures { λ l. ⌜ (l .verdict ≡ Safe →
+        Totalled (program (now (ws .entry)) s) (tables (now (ws .entry)) s) (l .totals)) ⌝ }
 {
-    let mut holders = words64_2048();
+    let mut limits = words16_16384();
+    let mut ceiling_at = words16_258();
+    let mut holders = words64_1024();
+    let mut unbounded = words64_512();
+    let mut group = words64_512();
+    let mut short = words64_512();
+    let mut more = words64_512();
+    ceilings_on(
+        ws,
+        s,
+        afters,
+        inners,
+        flow_at,
+        w,
+        flows,
+        names,
+        letter_at,
+        letters,
+        branches,
+        n,
+        &mut limits,
+        &mut ceiling_at,
+        &mut holders,
+        &mut unbounded,
+        &mut group,
+        &mut short,
+        &mut more,
+    )
+}
+
+// Refusals 11 to 13 of any number.
+fn all_limits(
+    ws: &[u16],
+    s: Sizes,
+    afters: &[u16],
+    inners: &[u16],
+    flow_at: &[u16],
+    w: usize,
+    flows: &[u64],
+    names: &[u64],
+    letter_at: &[u16],
+    letters: &[u16],
+    branches: &[u16],
+    n: usize,
+) -> Leaks
+    requires { ⌜ Rule-tables (now ws) s (now afters) (now inners) (now «flow_at») w (now flows) (now names)
+        (now «letter_at») (now letters) (now branches) ⌝ }
+    requires { ⌜ Numbered (now ws) s n ⌝ }
+    ensures { λ l. ⌜ l .verdict ≡ answer (under-ceilings (now (ws .entry)) s n) ⌝ }
+    ensures { λ l. ⌜ (l .verdict ≡ Safe →
+        Totalled (program (now (ws .entry)) s) (tables (now (ws .entry)) s) (l .totals)) ⌝ }
+{
+    let mut limits = words16_131072();
+    let mut ceiling_at = words16_258();
+    let mut holders = words64_4096();
     let mut unbounded = words64_2048();
     let mut group = words64_2048();
     let mut short = words64_2048();
     let mut more = words64_2048();
-    leaks_on(
+    ceilings_on(
         ws,
         s,
         afters,
@@ -212,8 +346,8 @@ fn many_leaks(
         letters,
         branches,
         n,
-        limits,
-        ceiling_at,
+        &mut limits,
+        &mut ceiling_at,
         &mut holders,
         &mut unbounded,
         &mut group,
@@ -222,8 +356,10 @@ fn many_leaks(
     )
 }
 
-// Refusal 13.
-pub fn leak_verdict(
+// Refusals 11 to 13 over the least scratch that fits, which that for `most` counters or more may be. It calls itself
+// for the next size, as `open_verdict` does: each size has a frame of its own.
+pub fn ceilings_verdict(
+    most: usize,
     ws: &[u16],
     s: Sizes,
     afters: &[u16],
@@ -236,19 +372,17 @@ pub fn leak_verdict(
     letters: &[u16],
     branches: &[u16],
     n: usize,
-    limits: &[u16],
-    ceiling_at: &[u16],
 ) -> Leaks
+    requires { ⌜ 1 ≤ most ⌝ }
     requires { ⌜ Rule-tables (now ws) s (now afters) (now inners) (now «flow_at») w (now flows) (now names)
         (now «letter_at») (now letters) (now branches) ⌝ }
-    requires { ⌜ Limited (now ws) s n (now limits) (now «ceiling_at») ⌝ }
-    ensures { λ l. ⌜ l .verdict ≡
-        answer (leak-check (now (ws .entry)) s (ceilings-of (now (ws .entry)) s n)
-        (rules (program (now (ws .entry)) s) (tables (now (ws .entry)) s))) ⌝ }
-    ensures { λ l. ⌜ Totalled (program (now (ws .entry)) s) (tables (now (ws .entry)) s) (l .totals) ⌝ }
+    requires { ⌜ Numbered (now ws) s n ⌝ }
+    ensures { λ l. ⌜ l .verdict ≡ answer (under-ceilings (now (ws .entry)) s n) ⌝ }
+    ensures { λ l. ⌜ (l .verdict ≡ Safe →
+        Totalled (program (now (ws .entry)) s) (tables (now (ws .entry)) s) (l .totals)) ⌝ }
 {
-    if n <= 32 {
-        return few_leaks(
+    if most >= 512 {
+        return all_limits(
             ws,
             s,
             afters,
@@ -261,11 +395,49 @@ pub fn leak_verdict(
             letters,
             branches,
             n,
-            limits,
-            ceiling_at,
         );
     }
-    many_leaks(
+    if n <= most {
+        let cells = n * s.ceilings;
+        if most <= 32 {
+            if cells <= 2048 {
+                return few_limits(
+                    ws,
+                    s,
+                    afters,
+                    inners,
+                    flow_at,
+                    w,
+                    flows,
+                    names,
+                    letter_at,
+                    letters,
+                    branches,
+                    n,
+                );
+            }
+        }
+        if most <= 128 {
+            if cells <= 16384 {
+                return more_limits(
+                    ws,
+                    s,
+                    afters,
+                    inners,
+                    flow_at,
+                    w,
+                    flows,
+                    names,
+                    letter_at,
+                    letters,
+                    branches,
+                    n,
+                );
+            }
+        }
+    }
+    ceilings_verdict(
+        4 * most,
         ws,
         s,
         afters,
@@ -278,7 +450,5 @@ pub fn leak_verdict(
         letters,
         branches,
         n,
-        limits,
-        ceiling_at,
     )
 }

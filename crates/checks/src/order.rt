@@ -1,11 +1,8 @@
 // The order of the checks: refusals 3 to 14 of the words of a message whose parts are whole.
-use crate::leaks::leak_verdict;
+use crate::leaks::ceilings_verdict;
 use crate::listing::listing_verdict;
-use crate::stages::met_verdict;
-use crate::stages::start_verdict;
 use answers::is_safe;
 use bads::bad_check;
-use ceilings::fill_limits;
 use ceilings_form::entries::ceiling_check;
 use closure_sized::open_verdict;
 use evidence::entries::entry_check;
@@ -31,19 +28,11 @@ ghost use Rattle.evidence.specs.Whole.{Parts-whole};
 ghost use Rattle.system_space.specs.Space.{words-after};
 ghost use Rattle.checks.specs.Order.{taken};
 ghost use Rattle.closure_sized.specs.Flow.{Flow-room};
-ghost use Rattle.checks.specs.Scratch.{Limits-room};
 
 // Refusals 3 to 14, one after the other; after none the listing is written.
-pub fn words_verdict(
-    ws: &[u16],
-    s: Sizes,
-    flow: &mut [u64],
-    limits: &mut [u16],
-    lent: &mut [u32],
-) -> Verdict
+pub fn words_verdict(ws: &[u16], s: Sizes, flow: &mut [u64], lent: &mut [u32]) -> Verdict
     requires { ⌜ Parts-whole (now ws) s ⌝ }
     requires { ⌜ Flow-room s (now flow) ⌝ }
-    requires { ⌜ Limits-room s (now limits) ⌝ }
     ensures { λ v. ⌜ v ≡ answer (message-check (taken (now (ws .entry)) s) (length (now (lent .entry)))) ⌝ }
     ensures { λ v. ⌜ now (lent .exit) ≡ words-after v (now (ws .entry)) s (now (lent .entry)) ⌝ }
 {
@@ -71,7 +60,16 @@ pub fn words_verdict(
     let owners = inners(ws, s, &afters);
     let mut starts = words16_1056();
     let mut branches = words16_1056();
-    let open = open_verdict(ws, s, &afters, &owners, &mut starts, flow, &mut branches);
+    let open = open_verdict(
+        64,
+        ws,
+        s,
+        &afters,
+        &owners,
+        &mut starts,
+        flow,
+        &mut branches,
+    );
     if !is_safe(open) {
         return open;
     }
@@ -87,20 +85,11 @@ pub fn words_verdict(
     if !is_safe(form) {
         return form;
     }
-    let mut ceiling_at = words16_512();
-    fill_limits(ws, s, n, limits, &mut ceiling_at);
-    let begins = start_verdict(ws, s, &afters, n, limits);
-    if !is_safe(begins) {
-        return begins;
-    }
-    let met = met_verdict(ws, s, &letter_at, &letters, n, limits);
-    if !is_safe(met) {
-        return met;
-    }
     let mut names = words64_1024();
     fill_names(ws, s, &mut names);
     let w = width(s);
-    let leaks = leak_verdict(
+    let leaks = ceilings_verdict(
+        32,
         ws,
         s,
         &afters,
@@ -113,12 +102,10 @@ pub fn words_verdict(
         &letters,
         &branches,
         n,
-        limits,
-        &ceiling_at,
     );
-    let leak = leaks.verdict;
-    if !is_safe(leak) {
-        return leak;
+    let held = leaks.verdict;
+    if !is_safe(held) {
+        return held;
     }
     let totals = leaks.totals;
     listing_verdict(

@@ -4,6 +4,7 @@ use message::Parts;
 use message::parts_of;
 use model::Sizes;
 use model::Verdict;
+use rooms::words16_512;
 use rooms::words16_2048;
 use rooms::words16_29195;
 use words::decode;
@@ -22,7 +23,18 @@ fn decoded_verdict(bytes: &[u8], s: Sizes, words: &mut [u16], lent: &mut [u32]) 
 {
     decode(bytes, words);
     let count = bytes.len() / 2;
-    sized_verdict(&words[..count], s, lent)
+    sized_verdict(64, &words[..count], s, lent)
+}
+
+// Of the shortest messages.
+fn tiny_verdict(bytes: &[u8], s: Sizes, lent: &mut [u32]) -> Verdict
+    requires { ⌜ Whole-message (now bytes) s ⌝ }
+    requires { ⌜ length (now bytes) ≤ 1024 ⌝ }
+    ensures { λ v. ⌜ v ≡ verdict (now (bytes .entry)) (length (now (lent .entry))) ⌝ }
+    ensures { λ v. ⌜ now (lent .exit) ≡ lent-after (now (bytes .entry)) (now (lent .entry)) ⌝ }
+{
+    let mut words = words16_512();
+    decoded_verdict(bytes, s, &mut words, lent)
 }
 
 // Of a short message.
@@ -46,16 +58,26 @@ fn long_verdict(bytes: &[u8], s: Sizes, lent: &mut [u32]) -> Verdict
     decoded_verdict(bytes, s, &mut words, lent)
 }
 
-// The verdict on a message whose parts are whole.
-fn whole_verdict(bytes: &[u8], s: Sizes, lent: &mut [u32]) -> Verdict
+// The verdict on a message whose parts are whole, over the fewest words that fit, which `most` bytes or more may be.
+// It calls itself for the next size: each size has a frame of its own (DECISIONS 46).
+fn whole_verdict(most: usize, bytes: &[u8], s: Sizes, lent: &mut [u32]) -> Verdict
+    requires { ⌜ 1 ≤ most ⌝ }
     requires { ⌜ Whole-message (now bytes) s ⌝ }
     ensures { λ v. ⌜ v ≡ verdict (now (bytes .entry)) (length (now (lent .entry))) ⌝ }
     ensures { λ v. ⌜ now (lent .exit) ≡ lent-after (now (bytes .entry)) (now (lent .entry)) ⌝ }
 {
-    if bytes.len() <= 4096 {
-        return short_verdict(bytes, s, lent);
+    if most >= 65536 {
+        return long_verdict(bytes, s, lent);
     }
-    long_verdict(bytes, s, lent)
+    if bytes.len() <= most {
+        if most <= 1024 {
+            return tiny_verdict(bytes, s, lent);
+        }
+        if most <= 4096 {
+            return short_verdict(bytes, s, lent);
+        }
+    }
+    whole_verdict(4 * most, bytes, s, lent)
 }
 
 // The verdict on any bytes; after safe the lent words are those of the system, and else as they came.
@@ -65,6 +87,6 @@ pub fn verdict_of(bytes: &[u8], lent: &mut [u32]) -> Verdict
 {
     match parts_of(bytes) {
         Parts::Refused(v) => v,
-        Parts::Whole(s) => whole_verdict(bytes, s, lent),
+        Parts::Whole(s) => whole_verdict(1024, bytes, s, lent),
     }
 }

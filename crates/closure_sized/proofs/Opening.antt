@@ -1,16 +1,22 @@
 -- Cleared tables hold empty sets, with room for a message of these sizes.
-use Prim.Native.Nat.{ℕ, _+_, _*_, _/_, _%_, _≤_}
+use Prim.Native.Nat.{ℕ, _+_, _*_, _/_, _%_, _≤_, _<_}
 use native.Mathlib.Nat.{mul-le-mul-left, mul-le-mul-right}
 use native.Mathlib.Omega.{arith}
 use mathlib.Core.Path.{ap, _∙_}
 use mathlib.Core.List.{List}
 use lib.ListN.{length}
 use Rattle.model.specs.declared.Sizes.{Sizes}
+use Rattle.model.specs.Limits.{maxConstructors}
+use Rattle.model.specs.Rows.{program}
+use Rattle.lists.specs.Ready.{Ready}
+use Rattle.positions.specs.Positions.{Ends, Owners}
 use Rattle.bits.specs.Bits.{Row, bit, member}
 use Rattle.bits.proofs.Bits.{bit-zero}
 use Rattle.rooms.specs.Cleared.{Cleared}
 use Rattle.values.specs.Values.{width, Empty, Room}
-use Rattle.closure.specs.Lent.{Unsettled}
+use Rattle.closure.specs.Lent as lent
+use Rattle.closure.specs.Lent.{Indexed, Unsettled}
+use Rattle.closure_sized.specs.Flow.{Flow-room}
 
 -- a cleared table holds empty sets
 pub empty-sets : (n w : ℕ) (t : List ℕ) → Cleared n t → Empty w t
@@ -31,25 +37,38 @@ pub width-most : (r R : ℕ) → r ≤ R → width r ≤ width R
 unfolding width
 width-most r R h = omega arith
 
--- what refusal 8 is lent beside the tables that others read, of a message of no more than R rows and N names
-pub record Opens (s : Sizes) (mail firsts nexts may held codes here : List ℕ) : Type 0 where
-  pub mail-sets : Empty (width (s .rows)) mail × Room (width (s .rows)) (s .names + 1) mail
-  pub firsts-room : s .constructors ≤ length firsts
-  pub nexts-room : s .rows ≤ length nexts
-  pub may-sets : Empty (width (s .rows)) may × Room (width (s .rows)) (s .rows) may
-  pub held-sets : Empty (width (s .rows)) held × Room (width (s .rows)) (s .rows) held
-  pub codes-clear : Unsettled s codes
-  pub class-row : Row here (width (s .rows)) 0
-
-pub opens : (s : Sizes) (R N a b d e h : ℕ) (mail firsts nexts may held codes here : List ℕ) → s .rows ≤ R → s .names ≤ N → s .constructors ≤ b → Cleared a mail → Cleared b firsts → Cleared d nexts → Cleared e may → Cleared e held → Cleared d codes → Cleared h here → (N + 1) * width R ≤ a → R * width R ≤ e → R ≤ d → width R ≤ h → Opens s mail firsts nexts may held codes here
-opens s R N a b d e h mail firsts nexts may held codes here r n c m f x y z k l am er rd wh =
-    let w = width-most (s .rows) R r in
-    record {
-      mail-sets = (empty-sets a _ mail m, sets-fit (s .names + 1) _ (N + 1) (width R) a mail m (omega arith) w am);
-      firsts-room = let q = f .room in omega arith;
-      nexts-room = let q = x .room in omega arith;
-      may-sets = (empty-sets e _ may y, sets-fit (s .rows) _ R (width R) e may y r w er);
-      held-sets = (empty-sets e _ held z, sets-fit (s .rows) _ R (width R) e held z r w er);
-      codes-clear = record { room = let q = k .room in omega arith; none = k .zero };
-      class-row = record { room = let q = l .room in omega arith };
-    }
+-- what refusal 8 asks of cleared tables: room for a message of no more than R rows and N names
+pub lends : (ws : List ℕ) (s : Sizes) (afters inners starts flow : List ℕ) (k R N a b d e h : ℕ) (mail firsts nexts may held codes here : List ℕ) → Ready ws s → Ends (program ws s) afters → Owners (program ws s) inners → Flow-room s flow → (s .names < length starts) × (s .states ≤ k) → s .rows ≤ R → s .names ≤ N → Cleared a mail → Cleared b firsts → Cleared d nexts → Cleared e may → Cleared e held → Cleared d codes → Cleared h here → (N + 1) * width R ≤ a → maxConstructors ≤ b → R * width R ≤ e → R ≤ d → width R ≤ h → Ready ws s × (Ends (program ws s) afters × (Owners (program ws s) inners × (Indexed s starts firsts nexts × (lent.Cleared s flow mail may held × (Row here (width (s .rows)) 0 × ((s .states ≤ k) × Unsettled s codes))))))
+lends ws s afters inners starts flow k R N a b d e h mail firsts nexts may held codes here ready ends owners flows tables r n m f x y z o l am bc er rd wh =
+    let w = width-most (s .rows) R r in (
+      ready,
+      (
+        ends,
+        (
+          owners,
+          (
+            record {
+              names = tables .0;
+              constructors = let q = f .room in omega (arith, ready .limits .constructors);
+              rows = let q = x .room in omega arith;
+            },
+            (
+              record {
+                flow-empty = flows .empty;
+                flow-room = flows .room;
+                mail-empty = empty-sets a _ mail m;
+                mail-room = sets-fit (s .names + 1) _ (N + 1) (width R) a mail m (omega arith) w am;
+                may-empty = empty-sets e _ may y;
+                may-room = sets-fit (s .rows) _ R (width R) e may y r w er;
+                held-empty = empty-sets e _ held z;
+                held-room = sets-fit (s .rows) _ R (width R) e held z r w er;
+              },
+              (
+                record { room = let q = l .room in omega arith },
+                (tables .1, record { room = let q = o .room in omega arith; none = o .zero }),
+              ),
+            ),
+          ),
+        ),
+      ),
+    )

@@ -173,8 +173,11 @@ fn large_open(
     )
 }
 
-// Refusal 8; after none the tables that later checks read are filled.
+// Refusal 8 over the least tables that fit, which those for `most` rows and names or more may be; after none the
+// tables that later checks read are filled. It calls itself for the next size, so that LLVM keeps each size's tables in
+// a frame of their own (DECISIONS 46).
 pub fn open_verdict(
+    most: usize,
     ws: &[u16],
     s: Sizes,
     afters: &[u16],
@@ -183,6 +186,7 @@ pub fn open_verdict(
     flow: &mut [u64],
     branches: &mut [u16],
 ) -> Verdict
+    requires { ⌜ 1 ≤ most ⌝ }
     requires { ⌜ Ready (now ws) s ⌝ }
     requires { ⌜ Ends (program (now ws) s) (now afters) ⌝ }
     requires { ⌜ Owners (program (now ws) s) (now inners) ⌝ }
@@ -196,15 +200,18 @@ pub fn open_verdict(
     ensures { λ v. ⌜ (v ≡ Safe →
         Branch-bits (program (now (ws .entry)) s) (tables (now (ws .entry)) s) (now (branches .exit))) ⌝ }
 {
-    if s.rows <= 64 {
-        if s.names <= 64 {
-            return small_open(ws, s, afters, inners, starts, flow, branches);
+    if most >= 1024 {
+        return large_open(ws, s, afters, inners, starts, flow, branches);
+    }
+    if s.rows <= most {
+        if s.names <= most {
+            if most <= 64 {
+                return small_open(ws, s, afters, inners, starts, flow, branches);
+            }
+            if most <= 256 {
+                return middle_open(ws, s, afters, inners, starts, flow, branches);
+            }
         }
     }
-    if s.rows <= 256 {
-        if s.names <= 256 {
-            return middle_open(ws, s, afters, inners, starts, flow, branches);
-        }
-    }
-    large_open(ws, s, afters, inners, starts, flow, branches)
+    open_verdict(4 * most, ws, s, afters, inners, starts, flow, branches)
 }

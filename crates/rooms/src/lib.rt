@@ -74,6 +74,12 @@ pub fn words64_130() -> [u64; 130]
     [0; 130]
 }
 
+pub fn words64_512() -> [u64; 512]
+    ensures { λ r. ⌜ Cleared 512 r ⌝ }
+{
+    [0; 512]
+}
+
 pub fn words64_1024() -> [u64; 1024]
     ensures { λ r. ⌜ Cleared 1024 r ⌝ }
 {
@@ -90,6 +96,12 @@ pub fn words64_2048() -> [u64; 2048]
     ensures { λ r. ⌜ Cleared 2048 r ⌝ }
 {
     [0; 2048]
+}
+
+pub fn words64_4096() -> [u64; 4096]
+    ensures { λ r. ⌜ Cleared 4096 r ⌝ }
+{
+    [0; 4096]
 }
 
 pub fn words64_8721() -> [u64; 8721]

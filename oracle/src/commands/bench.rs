@@ -109,10 +109,10 @@ fn grown(family: &Family, lent: &mut [u32]) -> Text {
     Ok(text + "\n")
 }
 
-/// The stored messages of the examples, by name.
-fn examples() -> Result<Vec<Sample>, String> {
-    let folder = std::fs::read_dir(EXAMPLES).map_err(|e| format!("{EXAMPLES}: {e}"))?;
-    let mut paths: Vec<_> = folder.filter_map(|file| Some(file.ok()?.path())).collect();
+/// The stored messages of a folder, by name.
+fn stored(folder: &str) -> Result<Vec<Sample>, String> {
+    let files = std::fs::read_dir(folder).map_err(|e| format!("{folder}: {e}"))?;
+    let mut paths: Vec<_> = files.filter_map(|file| Some(file.ok()?.path())).collect();
     paths.retain(|path| path.extension().is_some_and(|e| e == "msg"));
     paths.sort();
     paths
@@ -124,6 +124,15 @@ fn examples() -> Result<Vec<Sample>, String> {
             Ok(Sample { name, about: "", verdict, message })
         })
         .collect()
+}
+
+/// The hostile messages that are made here, and those that are only stored.
+fn hostile() -> Result<Vec<Sample>, String> {
+    let mut samples = stress::hostile()?;
+    let kept = stored(&format!("{EXAMPLES}/hostile"))?;
+    let made: Vec<String> = samples.iter().map(|sample| sample.name.clone()).collect();
+    samples.extend(kept.into_iter().filter(|sample| !made.contains(&sample.name)));
+    Ok(samples)
 }
 
 fn machine() -> String {
@@ -143,9 +152,9 @@ fn report() -> Text {
         "{MARK}\n# Benchmark\n\nThe middle time of one call, the proved code and `oracle verify` in turn in one \
          process, on {processor} ({cores} cores).\n\n"
     );
-    text.push_str(&table("Examples", &examples()?, &mut lent)?);
+    text.push_str(&table("Examples", &stored(EXAMPLES)?, &mut lent)?);
     text.push_str(&table("Honest messages near the limits", &honest::honest()?, &mut lent)?);
-    text.push_str(&table("Hostile messages", &stress::hostile()?, &mut lent)?);
+    text.push_str(&table("Hostile messages", &hostile()?, &mut lent)?);
     text.push_str("## Growth\n\n`more`: the proved time against that of the line before.\n\n");
     for family in growth::families()? {
         text.push_str(&grown(&family, &mut lent)?);

@@ -3,6 +3,7 @@
 use super::generate::{self, Rows};
 use super::rng::Rng;
 use crate::bads::Bad;
+use crate::bounds;
 use crate::evidence;
 use crate::explore::Limits;
 use crate::least;
@@ -108,6 +109,47 @@ fn add_lower(rng: &mut Rng, limits: &mut Vec<Limits>) {
         }
         limits.push(lower);
     }
+}
+
+/// So many bounds are many.
+pub const MANY_BOUNDS: usize = 100;
+/// Limits about the unbounded one, where a step up or down is most easily wrong.
+const HIGH: [u16; 3] = [UNBOUNDED - 2, UNBOUNDED - 1, UNBOUNDED];
+
+/// A random station with many bounds: its own, and copies of these with one limit changed. None where there is no room.
+pub fn alike(rng: &mut Rng) -> Option<Station> {
+    let mut station = station(rng);
+    let own = bounds::read(&station.message, station.counters).ok()?.limits;
+    let width = own.iter().map(|l| 2 + l.iter().filter(|&&limit| limit > 0).count()).max()?;
+    let most = (limits::BOUNDS.1 as usize).min(limits::BOUND_ENTRIES.1 as usize / width);
+    if most < MANY_BOUNDS || own.len() >= most {
+        return None;
+    }
+    let count = rng.range(MANY_BOUNDS.max(own.len()), most);
+    let raised = rng.chance(1, 3);
+    let mut all = own.clone();
+    while all.len() < count {
+        let copied = rng.below(own.len());
+        all.push(changed(rng, &own[copied], raised));
+    }
+    if rng.chance(1, 2) {
+        rng.shuffle(&mut all);
+    }
+    evidence::put_bounds(&mut station.message, &all);
+    Some(station)
+}
+
+/// A copy with one limit changed: lower, about the unbounded where it is unbounded, or any of these where it may rise.
+fn changed(rng: &mut Rng, bound: &Limits, raised: bool) -> Limits {
+    let mut copy = bound.clone();
+    let i = rng.below(copy.len());
+    copy[i] = match rng.below(4) {
+        0..=1 if raised || copy[i] == UNBOUNDED => HIGH[rng.below(HIGH.len())],
+        2 if raised => copy[i].saturating_add(1),
+        3 => copy[i] / 2,
+        _ => copy[i].saturating_sub(1),
+    };
+    copy
 }
 
 /// Too many counters: some bound that no one reads.

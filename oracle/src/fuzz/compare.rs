@@ -81,6 +81,8 @@ pub struct Tally {
     pub largest: [usize; 6],
     pub runs: usize,
     pub steps: usize,
+    /// Messages that are not refused before their bounds are looked at and have many.
+    pub many_bounds: usize,
 }
 
 impl Tally {
@@ -92,8 +94,12 @@ impl Tally {
     pub fn count(&mut self, number: u32, message: &[u8]) -> bool {
         let Some(seen) = self.verdicts.get_mut(number as usize) else { return false };
         *seen += 1;
+        let sizes = sizes(message);
+        if (number == 0 || number >= 11) && sizes[4] >= build::MANY_BOUNDS {
+            self.many_bounds += 1;
+        }
         if number == 0 {
-            self.largest.iter_mut().zip(sizes(message)).for_each(|(largest, size)| *largest = size.max(*largest));
+            self.largest.iter_mut().zip(sizes).for_each(|(largest, size)| *largest = size.max(*largest));
         }
         true
     }
@@ -110,6 +116,7 @@ impl Tally {
             "the most in a safe message: {rows} rows, {flow} flow, {mail} mail, {states} states, {ceilings} ceilings, \
              {entries} entries\n"
         ));
+        text.push_str(&format!("with {} ceilings or more: {}\n", build::MANY_BOUNDS, self.many_bounds));
         text
     }
 }
@@ -152,10 +159,12 @@ impl Cases {
         }
     }
 
-    /// Mostly a random one, seldom a large one.
+    /// Mostly a random one, seldom one with many bounds alike or a large one.
     fn next_station(&mut self) -> build::Station {
-        if !self.rng.chance(1, 200) {
-            return build::station(&mut self.rng);
+        match self.rng.below(200) {
+            0 => {}
+            1..=2 => return build::alike(&mut self.rng).unwrap_or_else(|| build::station(&mut self.rng)),
+            _ => return build::station(&mut self.rng),
         }
         if self.large.is_empty() {
             self.large = build::large().unwrap_or_default();

@@ -8,12 +8,12 @@ use Rattle.checks_sized.proofs.large_flow.Tie as tie
 words64-8721-requires : tie.Need-words64-8721-requires
 words64-8721-requires c κs = search needs
 
-slice-aggregate-flow-verdict : tie.Need-slice-aggregate-flow-verdict
-slice-aggregate-flow-verdict c = search needs
+slice-aggregate-words-verdict : tie.Need-slice-aggregate-words-verdict
+slice-aggregate-words-verdict c = search needs
 
-flow-verdict-requires : tie.Need-flow-verdict-requires
+words-verdict-requires : tie.Need-words-verdict-requires
 unfolding width
-flow-verdict-requires c κs =
+words-verdict-requires c κs =
     (c .before .before .before .before .before .pre, record { empty = empty-sets _ _ _ (c .before .before .words64-8721 .ensures); room = sets-fit _ _ 512 (width 1024) _ _ (c .before .before .words64-8721 .ensures) (c .before .before .before .before .before .pre .limits .names .1) (width-most _ 1024 (c .before .before .before .before .before .pre .limits .rows .1)) (omega arith) })
 
 same-length : tie.Need-same-length
@@ -27,7 +27,7 @@ large-flow-spec =
     tie.close
     (tie.spec
     words64-8721-requires
-    slice-aggregate-flow-verdict
-    flow-verdict-requires
+    slice-aggregate-words-verdict
+    words-verdict-requires
     same-length
     returns)

@@ -8,12 +8,12 @@ use Rattle.checks_sized.proofs.small_flow.Tie as tie
 words64-130-requires : tie.Need-words64-130-requires
 words64-130-requires c κs = search needs
 
-slice-aggregate-flow-verdict : tie.Need-slice-aggregate-flow-verdict
-slice-aggregate-flow-verdict c = search needs
+slice-aggregate-words-verdict : tie.Need-slice-aggregate-words-verdict
+slice-aggregate-words-verdict c = search needs
 
-flow-verdict-requires : tie.Need-flow-verdict-requires
+words-verdict-requires : tie.Need-words-verdict-requires
 unfolding width
-flow-verdict-requires c κs =
+words-verdict-requires c κs =
     (c .before .before .before .before .before .pre .0, record { empty = empty-sets _ _ _ (c .before .before .words64-130 .ensures); room = sets-fit _ _ 64 (width 64) _ _ (c .before .before .words64-130 .ensures) (c .before .before .before .before .before .pre .1 .1) (width-most _ 64 (c .before .before .before .before .before .pre .1 .0)) (omega arith) })
 
 same-length : tie.Need-same-length
@@ -27,7 +27,7 @@ small-flow-spec =
     tie.close
     (tie.spec
     words64-130-requires
-    slice-aggregate-flow-verdict
-    flow-verdict-requires
+    slice-aggregate-words-verdict
+    words-verdict-requires
     same-length
     returns)

@@ -1,3 +1,4 @@
+use native.Mathlib.Omega.{arith}
 use mathlib.Core.Path.{sym, ap, _∙_}
 use lib.ListN.{length}
 use Rattle.words.proofs.Words.{words-length}
@@ -16,7 +17,7 @@ slice-aggregate-sized-verdict : tie.Need-slice-aggregate-sized-verdict
 slice-aggregate-sized-verdict c = sym (words-length _) ∙ sym (ap length (decoded _ _ _ (c .before .before .before .decode .ensures)))
 
 sized-verdict-requires : tie.Need-sized-verdict-requires
-sized-verdict-requires c κs = parts-whole _ _ _ (c .before .before .before .before .before .before .before .before .before .pre .0) (decoded _ _ _ (c .before .before .before .before .decode .ensures))
+sized-verdict-requires c κs = (omega arith, parts-whole _ _ _ (c .before .before .before .before .before .before .before .before .before .pre .0) (decoded _ _ _ (c .before .before .before .before .decode .ensures)))
 
 same-length : tie.Need-same-length
 same-length c = search needs

@@ -1,3 +1,4 @@
+use native.Mathlib.Omega.{arith}
 use mathlib.Core.Path.{sym, _∙_}
 use Rattle.message.proofs.Whole.{whole-message, refused-message}
 use Rattle.checks_sized.proofs.Decoding.{parts-refused}
@@ -16,7 +17,7 @@ enum-known-s c = search needs
 
 whole-verdict-requires : tie.Need-whole-verdict-requires
 whole-verdict-requires c κs =
-    whole-message _ _ (sym (c .before .before .before .before .parts-of .ensures) ∙ (c .before .before .s .given .1))
+    (omega arith, whole-message _ _ (sym (c .before .before .before .before .parts-of .ensures) ∙ (c .before .before .s .given .1)))
 
 returns : tie.Need-returns
 returns c =
