@@ -1,13 +1,20 @@
--- Refusal 9, over 512 counters, at the limit and one past it, on whole messages. They are long, so their parts are
--- made by functions. oracle/tests/cases.rs makes the same messages and holds the other implementation to the same
--- answers.
+-- Refusal 9, over 512 counters, at the limit and one past it, on whole messages, by the gate of the former limits:
+-- messages at the present ones are past what computes. They are long, so their parts are made by functions.
+-- oracle/tests/cases.rs makes the same messages and holds the other implementation to the same answers.
 use Prim.Native.Nat.{ℕ, _+_, _*_}
 use mathlib.Core.List.{List, [], _∷_, _++_, map}
 use lib.ListN.{drop}
+use Rattle.model.specs.Limits.{former}
 use Rattle.model.specs.Index.{gather}
+use Rattle.model.specs.Verdict.{number, place}
 use Rattle.model.specs.Rules.{from-all}
+use Rattle.model.specs.Verify.{verdict-within}
 use Rattle.model.specs.Cases.{Pairs, program-words, bad-words, table-words, bound-words, to-bytes}
 use Rattle.model.specs.VerdictCases.{Verdict-case, at}
+
+-- number and place by the former limits
+unfoldable pub told-formerly : Verdict-case → List ℕ
+told-formerly k = let v = verdict-within former (k .bytes) 100 in number v ∷ place v ∷ []
 
 -- receive { x -> 15 times p = spawn x; case x of { 15 times c0 -> x } }: 65 rows
 unfoldable pub crowd : Pairs
