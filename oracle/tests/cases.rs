@@ -25,17 +25,18 @@ fn the_table_of_verdicts() {
     stands(verdicts::table(&source("verdicts.txt")), "VerdictCases.antt");
 }
 
-/// The message of CounterCases.antt with these states.
+/// A message whose states want nothing, with these states: the start, which takes its own address and then tries to
+/// spawn it, 31 times.
 fn crowd(states: &[(u16, u16)]) -> Vec<u8> {
     let mut rows = vec![(10, 0), (9, 1), (30, 0)];
-    rows.extend((1..16).flat_map(|name| [(6, name), (21, 0)]));
+    rows.extend((1..32).flat_map(|name| [(6, name), (21, 0)]));
     rows.extend([(8, 0), (25, 15)]);
     rows.extend([(31, 0), (1, 0)].repeat(15));
-    let mut tables = vec![(0, 65), (65, 65)];
+    let mut tables = vec![(0, 97), (97, 97)];
     tables.extend(states);
-    let bads = [(40, 65), (41, 1), (43, 2), (44, 0)];
+    let bads = [(40, 97), (41, 1), (43, 2), (44, 0)];
     let parts: [(&[u16], &[(u16, u16)]); 4] =
-        [(&[65, 16, 1, 0], &rows), (&[1, 4], &bads), (&[1, 1, states.len() as u16], &tables), (&[0, 0], &[])];
+        [(&[97, 32, 1, 0], &rows), (&[1, 4], &bads), (&[1, 1, states.len() as u16], &tables), (&[0, 0], &[])];
     let columns = |pairs: &[(u16, u16)]| {
         [pairs.iter().map(|p| p.0).collect(), pairs.iter().map(|p| p.1).collect::<Vec<_>>()].concat()
     };
@@ -43,13 +44,13 @@ fn crowd(states: &[(u16, u16)]) -> Vec<u8> {
     bytes(&words)
 }
 
+/// Beside the 1,024 states there is a letter.
 #[test]
-fn over_512_counters() {
-    let classes = (0..15).map(|i| 3 + 2 * i).chain([65]);
-    let heads: Vec<u16> =
-        [1].into_iter().chain((0..16).map(|i| 3 + 2 * i)).chain((0..15).map(|i| 36 + 2 * i)).collect();
+fn over_1024_counters() {
+    let classes = (0..31).map(|i| 3 + 2 * i).chain([97]);
+    let heads: Vec<u16> = [1].into_iter().chain((0..31).map(|i| 3 + 2 * i)).collect();
     let states: Vec<(u16, u16)> = classes.flat_map(|class| heads.iter().map(move |&head| (class, head))).collect();
-    assert_eq!(states.len(), 512);
-    assert_eq!(verdict(&crowd(&states)), (9, 146));
-    assert_eq!(verdict(&crowd(&states[1..])), (11, 1173));
+    assert_eq!(states.len(), 1024);
+    assert_eq!(verdict(&crowd(&states)), (9, 210));
+    assert_eq!(verdict(&crowd(&states[1..])), (11, 2261));
 }

@@ -781,6 +781,8 @@ verdict-cases =
     at 2 0 (to-bytes (0 ∷ 1 ∷ 0 ∷ 0 ∷ [])) ∷
     -- R 1, its least: the sizes are within limits, and the rows are missing.
     at 1 0 (to-bytes (1 ∷ 1 ∷ 0 ∷ 0 ∷ [])) ∷
+    -- R 1,025, over the former most: within limits now, and the rows are missing.
+    at 1 0 (to-bytes (1025 ∷ 1 ∷ 0 ∷ 0 ∷ [])) ∷
     -- R 1,536, its most.
     at 1 0 (to-bytes (1536 ∷ 1 ∷ 0 ∷ 0 ∷ [])) ∷
     -- R 1,537.
@@ -835,6 +837,8 @@ verdict-cases =
     at 1 16 (to-bytes (tables-sizes-words ++ (0 ∷ 512 ∷ 0 ∷ []))) ∷
     -- M 513.
     at 2 17 (to-bytes (tables-sizes-words ++ (0 ∷ 513 ∷ 0 ∷ []))) ∷
+    -- S 513, over the former most: within limits now, and the lists are missing.
+    at 1 16 (to-bytes (tables-sizes-words ++ (0 ∷ 0 ∷ 513 ∷ []))) ∷
     -- S 1,024, its most.
     at 1 16 (to-bytes (tables-sizes-words ++ (0 ∷ 0 ∷ 1024 ∷ []))) ∷
     -- S 1,025.
