@@ -7,6 +7,7 @@ use evidence::ranges::is_head;
 use model::Sizes;
 use model::Verdict;
 ghost use mathlib.Core.Path.{_≡_};
+ghost use Rattle.model.specs.Limits.{present};
 ghost use Rattle.model.specs.Rows.{program};
 ghost use Rattle.model.specs.Bads.{bad-step, bad-check};
 ghost use Rattle.model.specs.Verify.{answer};
@@ -112,7 +113,7 @@ fn is_done(expected: Expected) -> bool
 
 // Where the rows of bads stand.
 fn bad_rows(s: Sizes) -> Arrays
-    requires { ⌜ Within-limits s ⌝ }
+    requires { ⌜ Within-limits present s ⌝ }
     ensures { λ a. ⌜ a ≡ bad-arrays s ⌝ }
 {
     let first = 6 + 2 * s.rows;

@@ -6,11 +6,12 @@ use mathlib.Core.List.{List}
 use mathlib.Core.Option.{Option, some, none}
 use lib.ListN.{length}
 use lib.Dec.{eqb}
+use Rattle.rooms.specs.Rooms.{row-room}
 use Rattle.model.specs.declared.Sizes.{Sizes}
 use Rattle.model.specs.Verdict.{_>>_}
 use Rattle.model.specs.Words.{Columns, columns}
 use Rattle.model.specs.Rows.{Program, size, tag, num, program, row-check}
-use Rattle.model.specs.Limits.{maxCounters}
+use Rattle.model.specs.Limits.{present, maxCounters}
 use Rattle.model.specs.Tables.{Tables, tables, entries, entry-check, has, state, state-index}
 use Rattle.model.specs.Index.{all, implies}
 use Rattle.model.specs.Scopes.{name-check, scope-check}
@@ -54,12 +55,12 @@ pub bounds-whole : (ws : List ℕ) (s : Sizes) → Parts-whole ws s → bounds.W
 bounds-whole ws s w = record { limits = w .limits; held = w .held }
 
 -- refusal 9 found nothing
-pub few : (s : Sizes) (p : Program) (t : Tables) → counter-check s p t ≡ none → counter-count p t ≤ maxCounters
+pub few : (s : Sizes) (p : Program) (t : Tables) → counter-check present s p t ≡ none → counter-count p t ≤ maxCounters
 unfolding counter-check
 few s p t h = leb-true _ _ (unless-none _ _ .0 h)
 
 -- a message has no more counters than states and mail
-pub countable : (ws : List ℕ) (s : Sizes) (n : ℕ) → Ready ws s → counter-check s (program ws s) (tables ws s) ≡ none → n ≡ counter-count (program ws s) (tables ws s) → Countable s n
+pub countable : (ws : List ℕ) (s : Sizes) (n : ℕ) → Ready ws s → counter-check present s (program ws s) (tables ws s) ≡ none → n ≡ counter-count (program ws s) (tables ws s) → Countable s n
 unfolding counter-count letter-count tables entries columns
 countable ws s n h c e =
     record { few = omega (arith, e, few _ _ _ c); listed = omega (arith, e, letters-few h (letter-keys (program ws s))) }
@@ -130,7 +131,7 @@ pub items-of : (p : Program) (t : Tables) (rows : Columns) (n k : ℕ) (items : 
 items-of p t rows n k items e h = subst (λ x. Items-counted p t rows x items) (sym e) h
 
 -- room for the rules of a state
-pub rule-room : (s : Sizes) (tos others : List ℕ) → Within-limits s → Cleared 1056 tos → Cleared 1056 others → Rule-room s tos others
+pub rule-room : (s : Sizes) (tos others : List ℕ) → Within-limits present s → Cleared row-room tos → Cleared row-room others → Rule-room s tos others
 rule-room s tos others l t o =
     let a = t .room in
     let b = o .room in

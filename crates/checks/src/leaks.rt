@@ -4,9 +4,9 @@ use ceilings_leaks::leak_check;
 use ceilings_masks::fill_holders;
 use model::Sizes;
 use model::Verdict;
-use rooms::words16_1056;
+use rooms::row_words16;
 use rooms::words64_130;
-use rooms::words64_2048;
+use rooms::counter_masks;
 use rules::no_class;
 use system_totals::Totals;
 ghost use mathlib.Core.Path.{_≡_};
@@ -58,9 +58,9 @@ fn leaks_on(
     ensures { λ l. ⌜ Totalled (program (now (ws .entry)) s) (tables (now (ws .entry)) s) (l .totals) ⌝ }
 {
     fill_holders(limits, s.bounds, n, holders, unbounded);
-    let mut at = words16_1056();
-    let mut tos = words16_1056();
-    let mut others = words16_1056();
+    let mut at = row_words16();
+    let mut tos = row_words16();
+    let mut others = row_words16();
     let none = no_class(ws, s, &mut at);
     let gathered = fill_groups(
         ws,
@@ -194,11 +194,11 @@ fn many_leaks(
         (rules (program (now (ws .entry)) s) (tables (now (ws .entry)) s))) ⌝ }
     ensures { λ l. ⌜ Totalled (program (now (ws .entry)) s) (tables (now (ws .entry)) s) (l .totals) ⌝ }
 {
-    let mut holders = words64_2048();
-    let mut unbounded = words64_2048();
-    let mut group = words64_2048();
-    let mut short = words64_2048();
-    let mut more = words64_2048();
+    let mut holders = counter_masks();
+    let mut unbounded = counter_masks();
+    let mut group = counter_masks();
+    let mut short = counter_masks();
+    let mut more = counter_masks();
     leaks_on(
         ws,
         s,

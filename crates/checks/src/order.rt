@@ -15,7 +15,7 @@ use layout::inner::inners;
 use model::Sizes;
 use model::Verdict;
 use rooms::words16_512;
-use rooms::words16_1056;
+use rooms::row_words16;
 use rooms::words64_1024;
 use scopes::names::name_check;
 use scopes::scope::scope_check;
@@ -26,6 +26,7 @@ use system_letters::fill_names;
 use values::width;
 ghost use mathlib.Core.Path.{_≡_};
 ghost use lib.ListN.{length};
+ghost use Rattle.model.specs.Limits.{present};
 ghost use Rattle.model.specs.Verify.{message-check, answer};
 ghost use Rattle.evidence.specs.Whole.{Parts-whole};
 ghost use Rattle.system_space.specs.Space.{words-after};
@@ -44,7 +45,7 @@ pub fn words_verdict(
     requires { ⌜ Parts-whole (now ws) s ⌝ }
     requires { ⌜ Flow-room s (now flow) ⌝ }
     requires { ⌜ Limits-room s (now limits) ⌝ }
-    ensures { λ v. ⌜ v ≡ answer (message-check (taken (now (ws .entry)) s) (length (now (lent .entry)))) ⌝ }
+    ensures { λ v. ⌜ v ≡ answer (message-check present (taken (now (ws .entry)) s) (length (now (lent .entry)))) ⌝ }
     ensures { λ v. ⌜ now (lent .exit) ≡ words-after v (now (ws .entry)) s (now (lent .entry)) ⌝ }
 {
     let rows = row_check(ws, s);
@@ -69,13 +70,13 @@ pub fn words_verdict(
         return entries;
     }
     let owners = inners(ws, s, &afters);
-    let mut starts = words16_1056();
-    let mut branches = words16_1056();
+    let mut starts = row_words16();
+    let mut branches = row_words16();
     let open = open_verdict(ws, s, &afters, &owners, &mut starts, flow, &mut branches);
     if !is_safe(open) {
         return open;
     }
-    let mut letter_at = words16_1056();
+    let mut letter_at = row_words16();
     let mut letters = words16_512();
     fill_letters(ws, s, &mut letter_at, &mut letters);
     let counters = counter_check(ws, s, &letter_at, &letters);

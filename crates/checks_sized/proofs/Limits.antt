@@ -4,6 +4,8 @@ use native.Mathlib.Nat.{mul-le-mul-right}
 use native.Mathlib.Omega.{arith}
 use mathlib.Core.List.{List}
 use lib.ListN.{length}
+use Rattle.rooms.specs.Rooms.{limit-room}
+use Rattle.model.specs.Limits.{present, maxBounds, maxMails, maxStates, maxCounters}
 use Rattle.model.specs.declared.Sizes.{Sizes}
 use Rattle.model.specs.Demands.{Within-limits}
 use Rattle.rooms.specs.Cleared.{Cleared}
@@ -17,12 +19,12 @@ few-cells s k limits m c n h =
     let q = c .room in
     omega arith
 
-pub all-cells : (s : Sizes) (limits : List ℕ) → Within-limits s → Cleared 131072 limits → (n : ℕ) → Countable s n → n * s .bounds ≤ length limits
+pub all-cells : (s : Sizes) (limits : List ℕ) → Within-limits present s → Cleared limit-room limits → (n : ℕ) → Countable s n → n * s .bounds ≤ length limits
 all-cells s limits l c n h =
-    let z = product-most n (s .bounds) 512 256 (let a = h .few in omega arith) (l .bounds) in
+    let z = product-most n (s .bounds) maxCounters maxBounds (let a = h .few in omega arith) (l .bounds) in
     let q = c .room in
     omega arith
 
 -- so many limits fit a word
-pub cells-small : (s : Sizes) → Within-limits s → (s .states + s .mails) * s .bounds ≤ 262144
-cells-small s l = product-most (s .states + s .mails) (s .bounds) 1024 256 (let a = l .states in let b = l .mails in omega arith) (l .bounds)
+pub cells-small : (s : Sizes) → Within-limits present s → (s .states + s .mails) * s .bounds ≤ (maxStates + maxMails) * maxBounds
+cells-small s l = product-most (s .states + s .mails) (s .bounds) (maxStates + maxMails) maxBounds (let a = l .states in let b = l .mails in omega arith) (l .bounds)

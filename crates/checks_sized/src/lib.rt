@@ -7,13 +7,14 @@ use model::Sizes;
 use model::Verdict;
 use rooms::words16_2048;
 use rooms::words16_16384;
-use rooms::words16_131072;
+use rooms::limit_words;
 use rooms::words64_130;
 use rooms::words64_1285;
-use rooms::words64_8721;
+use rooms::name_sets;
 ghost use mathlib.Core.Path.{_≡_};
 ghost use Prim.Native.Nat.{_+_, _*_, _≤_};
 ghost use lib.ListN.{length};
+ghost use Rattle.model.specs.Limits.{present};
 ghost use Rattle.model.specs.Verify.{message-check, answer};
 ghost use Rattle.evidence.specs.Whole.{Parts-whole};
 ghost use Rattle.system_space.specs.Space.{words-after};
@@ -25,7 +26,7 @@ fn few_limits(ws: &[u16], s: Sizes, flow: &mut [u64], lent: &mut [u32]) -> Verdi
     requires { ⌜ Parts-whole (now ws) s ⌝ }
     requires { ⌜ Flow-room s (now flow) ⌝ }
     requires { ⌜ (s .states + s .mails) * s .bounds ≤ 2048 ⌝ }
-    ensures { λ v. ⌜ v ≡ answer (message-check (taken (now (ws .entry)) s) (length (now (lent .entry)))) ⌝ }
+    ensures { λ v. ⌜ v ≡ answer (message-check present (taken (now (ws .entry)) s) (length (now (lent .entry)))) ⌝ }
     ensures { λ v. ⌜ now (lent .exit) ≡ words-after v (now (ws .entry)) s (now (lent .entry)) ⌝ }
 {
     let mut limits = words16_2048();
@@ -37,7 +38,7 @@ fn more_limits(ws: &[u16], s: Sizes, flow: &mut [u64], lent: &mut [u32]) -> Verd
     requires { ⌜ Parts-whole (now ws) s ⌝ }
     requires { ⌜ Flow-room s (now flow) ⌝ }
     requires { ⌜ (s .states + s .mails) * s .bounds ≤ 16384 ⌝ }
-    ensures { λ v. ⌜ v ≡ answer (message-check (taken (now (ws .entry)) s) (length (now (lent .entry)))) ⌝ }
+    ensures { λ v. ⌜ v ≡ answer (message-check present (taken (now (ws .entry)) s) (length (now (lent .entry)))) ⌝ }
     ensures { λ v. ⌜ now (lent .exit) ≡ words-after v (now (ws .entry)) s (now (lent .entry)) ⌝ }
 {
     let mut limits = words16_16384();
@@ -48,10 +49,10 @@ fn more_limits(ws: &[u16], s: Sizes, flow: &mut [u64], lent: &mut [u32]) -> Verd
 fn all_limits(ws: &[u16], s: Sizes, flow: &mut [u64], lent: &mut [u32]) -> Verdict
     requires { ⌜ Parts-whole (now ws) s ⌝ }
     requires { ⌜ Flow-room s (now flow) ⌝ }
-    ensures { λ v. ⌜ v ≡ answer (message-check (taken (now (ws .entry)) s) (length (now (lent .entry)))) ⌝ }
+    ensures { λ v. ⌜ v ≡ answer (message-check present (taken (now (ws .entry)) s) (length (now (lent .entry)))) ⌝ }
     ensures { λ v. ⌜ now (lent .exit) ≡ words-after v (now (ws .entry)) s (now (lent .entry)) ⌝ }
 {
-    let mut limits = words16_131072();
+    let mut limits = limit_words();
     words_verdict(ws, s, flow, &mut limits, lent)
 }
 
@@ -59,7 +60,7 @@ fn all_limits(ws: &[u16], s: Sizes, flow: &mut [u64], lent: &mut [u32]) -> Verdi
 fn flow_verdict(ws: &[u16], s: Sizes, flow: &mut [u64], lent: &mut [u32]) -> Verdict
     requires { ⌜ Parts-whole (now ws) s ⌝ }
     requires { ⌜ Flow-room s (now flow) ⌝ }
-    ensures { λ v. ⌜ v ≡ answer (message-check (taken (now (ws .entry)) s) (length (now (lent .entry)))) ⌝ }
+    ensures { λ v. ⌜ v ≡ answer (message-check present (taken (now (ws .entry)) s) (length (now (lent .entry)))) ⌝ }
     ensures { λ v. ⌜ now (lent .exit) ≡ words-after v (now (ws .entry)) s (now (lent .entry)) ⌝ }
 {
     let cells = (s.states + s.mails) * s.bounds;
@@ -76,7 +77,7 @@ fn flow_verdict(ws: &[u16], s: Sizes, flow: &mut [u64], lent: &mut [u32]) -> Ver
 fn small_flow(ws: &[u16], s: Sizes, lent: &mut [u32]) -> Verdict
     requires { ⌜ Parts-whole (now ws) s ⌝ }
     requires { ⌜ (s .rows ≤ 64) × (s .names ≤ 64) ⌝ }
-    ensures { λ v. ⌜ v ≡ answer (message-check (taken (now (ws .entry)) s) (length (now (lent .entry)))) ⌝ }
+    ensures { λ v. ⌜ v ≡ answer (message-check present (taken (now (ws .entry)) s) (length (now (lent .entry)))) ⌝ }
     ensures { λ v. ⌜ now (lent .exit) ≡ words-after v (now (ws .entry)) s (now (lent .entry)) ⌝ }
 {
     let mut flow = words64_130();
@@ -87,7 +88,7 @@ fn small_flow(ws: &[u16], s: Sizes, lent: &mut [u32]) -> Verdict
 fn middle_flow(ws: &[u16], s: Sizes, lent: &mut [u32]) -> Verdict
     requires { ⌜ Parts-whole (now ws) s ⌝ }
     requires { ⌜ (s .rows ≤ 256) × (s .names ≤ 256) ⌝ }
-    ensures { λ v. ⌜ v ≡ answer (message-check (taken (now (ws .entry)) s) (length (now (lent .entry)))) ⌝ }
+    ensures { λ v. ⌜ v ≡ answer (message-check present (taken (now (ws .entry)) s) (length (now (lent .entry)))) ⌝ }
     ensures { λ v. ⌜ now (lent .exit) ≡ words-after v (now (ws .entry)) s (now (lent .entry)) ⌝ }
 {
     let mut flow = words64_1285();
@@ -97,17 +98,17 @@ fn middle_flow(ws: &[u16], s: Sizes, lent: &mut [u32]) -> Verdict
 // Refusals 3 to 14 of any number.
 fn large_flow(ws: &[u16], s: Sizes, lent: &mut [u32]) -> Verdict
     requires { ⌜ Parts-whole (now ws) s ⌝ }
-    ensures { λ v. ⌜ v ≡ answer (message-check (taken (now (ws .entry)) s) (length (now (lent .entry)))) ⌝ }
+    ensures { λ v. ⌜ v ≡ answer (message-check present (taken (now (ws .entry)) s) (length (now (lent .entry)))) ⌝ }
     ensures { λ v. ⌜ now (lent .exit) ≡ words-after v (now (ws .entry)) s (now (lent .entry)) ⌝ }
 {
-    let mut flow = words64_8721();
+    let mut flow = name_sets();
     flow_verdict(ws, s, &mut flow, lent)
 }
 
 // Refusals 3 to 14, over as much scratch as the sizes ask for.
 pub fn sized_verdict(ws: &[u16], s: Sizes, lent: &mut [u32]) -> Verdict
     requires { ⌜ Parts-whole (now ws) s ⌝ }
-    ensures { λ v. ⌜ v ≡ answer (message-check (taken (now (ws .entry)) s) (length (now (lent .entry)))) ⌝ }
+    ensures { λ v. ⌜ v ≡ answer (message-check present (taken (now (ws .entry)) s) (length (now (lent .entry)))) ⌝ }
     ensures { λ v. ⌜ now (lent .exit) ≡ words-after v (now (ws .entry)) s (now (lent .entry)) ⌝ }
 {
     if s.rows <= 64 {

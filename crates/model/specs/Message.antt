@@ -9,7 +9,7 @@ use lib.Dec.{leb}
 use Rattle.model.specs.declared.Sizes.{Sizes}
 use Rattle.model.specs.declared.Verdict.the-variants.{Length, Size}
 use Rattle.model.specs.Limits.{Limits, maxNames, maxConstructors, maxFunctions, maxBads, minBadRows, maxBadRows}
-use Rattle.model.specs.Limits.{maxFlows, maxMails, maxBounds, maxBoundEntries}
+use Rattle.model.specs.Limits.{maxFlows, maxMails, maxBounds, maxBoundEntries, maxRows, maxStates}
 use Rattle.model.specs.Words.{words}
 use Rattle.model.specs.Verdict.{Check, _>>_, unless}
 
@@ -23,6 +23,11 @@ tables-from rows bad-rows = bads-from rows + 2 + 2 * bad-rows
 
 abbrev pub bounds-from : ℕ → ℕ → ℕ → ℕ
 bounds-from rows bad-rows entries = tables-from rows bad-rows + 3 + 2 * entries
+
+-- the words of the longest message, each part at the limits of its sizes. (Document 02's 32,269 count what (iv) and (v)
+-- add.)
+abbrev pub maxWords : ℕ
+maxWords = bounds-from maxRows maxBadRows (maxFlows + maxMails + maxStates) + 2 + 2 * maxBoundEntries
 
 unfoldable pub bads-at : Sizes → ℕ
 bads-at s = bads-from (s .rows)

@@ -72,3 +72,12 @@ pub const MAX_BRANCHES: usize = 16;
 pub const MAX_DEPTH: usize = 4;
 
 pub const OMEGA: usize = 65535;
+
+// The words of the longest message: specs/Message.antt has them as maxWords.
+pub const MAX_WORDS: usize = MAX_PROGRAM + MAX_EVIDENCE + MAX_CEILINGS;
+
+const MAX_PROGRAM: usize = 4 + 2 * MAX_ROWS;
+
+const MAX_EVIDENCE: usize = 2 + 2 * MAX_BAD_ROWS + 3 + 2 * (MAX_FLOWS + MAX_MAILS + MAX_STATES);
+
+const MAX_CEILINGS: usize = 2 + 2 * MAX_BOUND_ENTRIES;

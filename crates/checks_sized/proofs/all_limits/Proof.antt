@@ -3,14 +3,14 @@ use borrow.Author.Needs.{needs}
 use Rattle.checks_sized.proofs.all_limits.Statement.{statement}
 use Rattle.checks_sized.proofs.all_limits.Tie as tie
 
-words16-131072-requires : tie.Need-words16-131072-requires
-words16-131072-requires c κs = search needs
+limit-words-requires : tie.Need-limit-words-requires
+limit-words-requires c κs = search needs
 
 slice-aggregate-words-verdict : tie.Need-slice-aggregate-words-verdict
 slice-aggregate-words-verdict c = search needs
 
 words-verdict-requires : tie.Need-words-verdict-requires
-words-verdict-requires c κs = (c .before .before .before .before .before .before .before .pre .0, (c .before .before .before .before .before .before .before .pre .1, record { cells = all-cells _ _ (c .before .before .before .before .before .before .before .pre .0 .limits) (c .before .before .before .words16-131072 .ensures); blank = c .before .before .before .words16-131072 .ensures .zero }))
+words-verdict-requires c κs = (c .before .before .before .before .before .before .before .pre .0, (c .before .before .before .before .before .before .before .pre .1, record { cells = all-cells _ _ (c .before .before .before .before .before .before .before .pre .0 .limits) (c .before .before .before .limit-words .ensures); blank = c .before .before .before .limit-words .ensures .zero }))
 
 same-length : tie.Need-same-length
 same-length c = search needs
@@ -25,7 +25,7 @@ pub all-limits-spec : {M : Type 1} → statement M
 all-limits-spec =
     tie.close
     (tie.spec
-    words16-131072-requires
+    limit-words-requires
     slice-aggregate-words-verdict
     words-verdict-requires
     same-length

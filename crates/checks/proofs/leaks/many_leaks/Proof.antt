@@ -4,20 +4,20 @@ use borrow.Author.Needs.{needs}
 use Rattle.checks.proofs.leaks.many_leaks.Statement.{statement}
 use Rattle.checks.proofs.leaks.many_leaks.Tie as tie
 
-words64-2048-requires : tie.Need-words64-2048-requires
-words64-2048-requires c κs = search needs
+counter-masks-requires : tie.Need-counter-masks-requires
+counter-masks-requires c κs = search needs
 
-words64-2048-requires-2 : tie.Need-words64-2048-requires-2
-words64-2048-requires-2 c κs = search needs
+counter-masks-requires-2 : tie.Need-counter-masks-requires-2
+counter-masks-requires-2 c κs = search needs
 
-words64-2048-requires-3 : tie.Need-words64-2048-requires-3
-words64-2048-requires-3 c κs = search needs
+counter-masks-requires-3 : tie.Need-counter-masks-requires-3
+counter-masks-requires-3 c κs = search needs
 
-words64-2048-requires-4 : tie.Need-words64-2048-requires-4
-words64-2048-requires-4 c κs = search needs
+counter-masks-requires-4 : tie.Need-counter-masks-requires-4
+counter-masks-requires-4 c κs = search needs
 
-words64-2048-requires-5 : tie.Need-words64-2048-requires-5
-words64-2048-requires-5 c κs = search needs
+counter-masks-requires-5 : tie.Need-counter-masks-requires-5
+counter-masks-requires-5 c κs = search needs
 
 slice-aggregate-leaks-on : tie.Need-slice-aggregate-leaks-on
 slice-aggregate-leaks-on c = search needs
@@ -35,7 +35,7 @@ slice-aggregate-leaks-on-5 : tie.Need-slice-aggregate-leaks-on-5
 slice-aggregate-leaks-on-5 c = search needs
 
 leaks-on-requires : tie.Need-leaks-on-requires
-leaks-on-requires c κs = (c .before .before .before .before .before .before .before .before .before .before .before .before .before .before .before .before .before .before .before .before .before .pre .0, (c .before .before .before .before .before .before .before .before .before .before .before .before .before .before .before .before .before .before .before .before .before .pre .1, mask-room _ _ _ _ _ _ _ (omega (arith, c .before .before .before .before .before .before .before .before .before .before .before .before .before .before .before .before .before .before .before .before .before .pre .1 .counted, c .before .before .before .before .before .before .before .before .before .before .before .before .before .before .before .before .before .before .before .before .before .pre .0 .few)) (c .before .before .before .before .before .before .before .before .before .words64-2048 .ensures) (c .before .before .before .before .before .before .before .before .words64-20482 .ensures) (c .before .before .before .before .before .before .before .words64-20483 .ensures) (c .before .before .before .before .before .before .words64-20484 .ensures) (c .before .before .before .before .before .words64-20485 .ensures)))
+leaks-on-requires c κs = (c .before .before .before .before .before .before .before .before .before .before .before .before .before .before .before .before .before .before .before .before .before .pre .0, (c .before .before .before .before .before .before .before .before .before .before .before .before .before .before .before .before .before .before .before .before .before .pre .1, mask-room _ _ _ _ _ _ _ (omega (arith, c .before .before .before .before .before .before .before .before .before .before .before .before .before .before .before .before .before .before .before .before .before .pre .1 .counted, c .before .before .before .before .before .before .before .before .before .before .before .before .before .before .before .before .before .before .before .before .before .pre .0 .few)) (c .before .before .before .before .before .before .before .before .before .counter-masks .ensures) (c .before .before .before .before .before .before .before .before .counter-masks2 .ensures) (c .before .before .before .before .before .before .before .counter-masks3 .ensures) (c .before .before .before .before .before .before .counter-masks4 .ensures) (c .before .before .before .before .before .counter-masks5 .ensures)))
 
 returns : tie.Need-returns
 returns c = c .before .before .before .before .before .leaks-on .ensures
@@ -44,11 +44,11 @@ pub many-leaks-spec : {M : Type 1} → statement M
 many-leaks-spec =
     tie.close
     (tie.spec
-    words64-2048-requires
-    words64-2048-requires-2
-    words64-2048-requires-3
-    words64-2048-requires-4
-    words64-2048-requires-5
+    counter-masks-requires
+    counter-masks-requires-2
+    counter-masks-requires-3
+    counter-masks-requires-4
+    counter-masks-requires-5
     slice-aggregate-leaks-on
     slice-aggregate-leaks-on-2
     slice-aggregate-leaks-on-3
