@@ -43,7 +43,8 @@ Runs-are-followed told bytes after = told ≡ 0 → All-runs-followed (message b
 -- The table of refusals: a number other than 0 and its place are those of a line that holds, and each line that holds
 -- has them.
 pub record Refused-exactly-by-the-table (told at : ℕ) (bytes : List ℕ) (lent : ℕ) : Type 0 where
-  pub by-a-line : (told ≡ 0 → ⊥) → (v : Verdict) × Refused present bytes lent v × (number v ≡ told) × (place v ≡ at)
+  pub by-a-line :
+      (told ≡ 0 → ⊥) → (v : Verdict) × Refused present bytes lent v × (number v ≡ told) × (place v ≡ at)
   pub as-each-line : (v : Verdict) → Refused present bytes lent v → (number v ≡ told) × (place v ≡ at)
 
 -- Document 02, (vi), for whoever has messages on file: where a gate of the former limits, handed the same bytes and lent

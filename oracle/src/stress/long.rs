@@ -1,7 +1,7 @@
 //! Messages at the limits of (vi): 1,536 rows, 1,024 states, 1,024 counters, 256 ceilings of 8,192 entries.
 
 use super::bounds::{self, Bounds};
-use super::finish::{Rows, changed};
+use super::finish::{Rows, bytes, changed};
 use super::rows::{mail_of_start, nested_functions, nested_receives, set_last};
 use super::sends::{builds, classes_of, unused};
 use super::{Sample, sample};
@@ -27,6 +27,7 @@ pub fn hostile() -> Result<Vec<Sample>, String> {
             0,
             nested_functions(510).finish(|_, _| (), bounds::one),
         )?,
+        sample("long-selves", "1,535 heads on end that bind one name: the deepest stack", 4, Ok(selves()))?,
         sample("long-states", "1,024 states and 256 ceilings of 8,192 entries", 0, states(bounds::alike))?,
         sample(
             "long-states-apart",
@@ -65,6 +66,16 @@ pub fn hostile() -> Result<Vec<Sample>, String> {
         )?,
         sample("long-counters-wide", "seven ceilings of all 1,024 counters", 0, counters(bounds::wide))?,
     ])
+}
+
+/// As many heads as rows allow, one the rest of the other.
+fn selves() -> Vec<u8> {
+    let mut list = RowList::default();
+    let name = list.bind(7, &[]);
+    (0..1534).for_each(|_| list.row(7, name));
+    list.row(1, name);
+    let rows = Rows { list, constructors: 0, functions: 0 };
+    bytes(&rows.bare(&rows.any_bad()))
 }
 
 /// 1,024 states: three classes in one body of 340 heads, and the start that spawns them.
