@@ -22,7 +22,7 @@ enum delungkaw_verdict {
     DELUNGKAW_BAD = 6,      /* The rows of the bads do not fit. */
     DELUNGKAW_ENTRY = 7,    /* A table entry is out of range, or not above the one before it. */
     DELUNGKAW_OPEN = 8,     /* The tables miss an entry that they want. */
-    DELUNGKAW_COUNTERS = 9, /* There are more than 512 counters. */
+    DELUNGKAW_COUNTERS = 9, /* There are more than 1,024 counters. */
     DELUNGKAW_CEILING = 10, /* The ceilings do not fit. */
     DELUNGKAW_START = 11,   /* No ceiling holds the start. */
     DELUNGKAW_MET = 12,     /* A ceiling allows a bad. */

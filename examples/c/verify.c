@@ -8,7 +8,7 @@
 
 enum { SAFE, REFUSED, NO_VERDICT };
 
-/* The longest message has 58,390 bytes. What is longer than this room is settled by its beginning. */
+/* The longest message has 62,486 bytes. What is longer than this room is settled by its beginning. */
 static uint8_t message[65536];
 
 /* Says in words why there is no verdict. */

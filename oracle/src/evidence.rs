@@ -77,7 +77,7 @@ pub fn put_tables(m: &mut Message, program: &Program, tables: &Tables) -> Result
 /// The system of a message's tables; a word if it has too many counters.
 pub fn derive(m: &Message, program: &Program, tables: &Tables) -> Result<System, String> {
     let refused = |_: Refusal| format!("more than {} counters would be needed", limits::COUNTERS);
-    system::derive(m, &Analysis::new(program, tables)).map_err(refused)
+    system::derive(m, &Analysis::new(program, tables), limits::COUNTERS).map_err(refused)
 }
 
 /// Looks for bounds of a system.

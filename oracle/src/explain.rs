@@ -121,8 +121,7 @@ impl Explainer<'_> {
 
     fn size(&self) -> (String, String, String) {
         let what = format!("the size at word {} is {}", self.refusal.position, self.word_at(self.refusal.position));
-        let limits = "R 1 to 1024, V 1 to 512, C and G to 64; B 1 to 16, bad rows 4 to 256; F to 4096, M and S to 512; \
-                      K to 256, ceiling entries to 8192";
+        let limits = limits_in_words();
         (what, format!("{} ({limits})", self.wanted()), "make the station smaller, or correct the size".to_string())
     }
 
@@ -376,4 +375,24 @@ fn after(limits: &[u16], rule: &Rule) -> Vec<u32> {
 
 fn told(limit: u16) -> String {
     if limit == limits::UNBOUNDED { "any".to_string() } else { limit.to_string() }
+}
+
+/// The limits of all sizes.
+fn limits_in_words() -> String {
+    use limits::*;
+    let size = |name: &str, (least, most): Limit| format!("{name} {least} to {most}");
+    let sizes = [
+        size("R", ROWS),
+        size("V", NAMES),
+        size("C", CONSTRUCTORS),
+        size("G", FUNCTIONS),
+        size("B", BADS),
+        size("bad rows", BAD_ROWS),
+        size("F", FLOW),
+        size("M", MAIL),
+        size("S", STATES),
+        size("K", BOUNDS),
+        size("ceiling entries", BOUND_ENTRIES),
+    ];
+    sizes.join(", ")
 }

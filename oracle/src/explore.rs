@@ -43,7 +43,12 @@ struct Tree<'a> {
     exact: &'a [bool],
     nodes: Vec<Node>,
     maximal: Vec<usize>,
+    /// Uses of rules that were tried, most of which lead to no new node.
+    tried: usize,
 }
+
+/// Uses of rules that may be tried for each node of the budget.
+const TRIED_EACH: usize = 16;
 
 enum Grown {
     Closed(Vec<Limits>),
@@ -92,9 +97,9 @@ fn from(net: &Net, budget: usize, all_exact: bool) -> Result<Vec<Limits>, Failur
     let mut exact = vec![all_exact; net.system.counters()];
     let mut left = budget;
     loop {
-        let mut tree = Tree { net, ranges: &ranges, exact: &exact, nodes: Vec::new(), maximal: Vec::new() };
+        let mut tree = Tree { net, ranges: &ranges, exact: &exact, nodes: Vec::new(), maximal: Vec::new(), tried: 0 };
         let grown = tree.grow(left, !all_exact);
-        left = left.saturating_sub(tree.nodes.len());
+        left = left.saturating_sub(tree.nodes.len().max(tree.tried / TRIED_EACH));
         match grown {
             Grown::Closed(limits) => {
                 let limits = if all_exact { limits } else { coarsen(net, &ranges, exact, limits) };
@@ -151,7 +156,8 @@ impl Tree<'_> {
             if !self.maximal.contains(&node) {
                 continue;
             }
-            if self.nodes.len() > budget || self.maximal.len() > MOST_MAXIMAL {
+            let used = self.nodes.len().max(self.tried / TRIED_EACH);
+            if used > budget || self.maximal.len() > MOST_MAXIMAL {
                 return Grown::Exhausted;
             }
             self.expand(node, &mut waiting);
@@ -193,6 +199,7 @@ impl Tree<'_> {
     }
 
     fn follow(&mut self, node: usize, rule: usize, waiting: &mut VecDeque<usize>) {
+        self.tried += 1;
         let used = self.net.system.rules[rule];
         let Some(mut limits) = self.after(node, &used) else { return };
         if self.maximal.iter().any(|&m| covers(&self.nodes[m].limits, &limits)) {
@@ -346,7 +353,7 @@ fn coarsen(net: &Net, ranges: &[std::ops::Range<usize>], mut exact: Vec<bool>, m
         if !std::mem::replace(&mut exact[counter], false) {
             continue;
         }
-        let mut tree = Tree { net, ranges, exact: &exact, nodes: Vec::new(), maximal: Vec::new() };
+        let mut tree = Tree { net, ranges, exact: &exact, nodes: Vec::new(), maximal: Vec::new(), tried: 0 };
         match tree.grow(4 * limits.len() + 100, true) {
             Grown::Closed(fewer) if fewer.len() <= limits.len() => limits = fewer,
             _ => exact[counter] = true,

@@ -1,8 +1,22 @@
-//! The limits of 01, each as (least, most), both included.
+//! The limits of 01 and of (vi) in 02, each as (least, most), both included.
 
 pub type Limit = (u16, u16);
 
-pub const ROWS: Limit = (1, 1024);
+/// The limits that (vi) moved.
+#[derive(Clone, Copy, Debug, PartialEq, Eq)]
+pub struct Limits {
+    pub rows: Limit,
+    pub states: Limit,
+    /// Most counters of a derived system.
+    pub counters: usize,
+}
+
+/// Those of 01. They are kept to show that longer programs change no other message's verdict.
+pub const FORMER: Limits = Limits { rows: (1, 1024), states: (0, 512), counters: 512 };
+/// Those in force.
+pub const PRESENT: Limits = Limits { rows: (1, 1536), states: (0, 1024), counters: 1024 };
+
+pub const ROWS: Limit = PRESENT.rows;
 pub const NAMES: Limit = (1, 512);
 pub const CONSTRUCTORS: Limit = (0, 64);
 pub const FUNCTIONS: Limit = (0, 64);
@@ -10,13 +24,13 @@ pub const BADS: Limit = (1, 16);
 pub const BAD_ROWS: Limit = (4, 256);
 pub const FLOW: Limit = (0, 4096);
 pub const MAIL: Limit = (0, 512);
-pub const STATES: Limit = (0, 512);
+pub const STATES: Limit = PRESENT.states;
 pub const BOUNDS: Limit = (0, 256);
 pub const BOUND_ENTRIES: Limit = (0, 8192);
 pub const BRANCHES: Limit = (1, 16);
 
 /// Most counters of a derived system.
-pub const COUNTERS: usize = 512;
+pub const COUNTERS: usize = PRESENT.counters;
 /// Most arguments of a constructor, parameters of a function, arguments of a call.
 pub const ARITY: usize = 8;
 /// Deepest level of a pattern; the top pattern stands at level 1.
@@ -25,5 +39,18 @@ pub const DEPTH: usize = 4;
 pub const UNBOUNDED: u16 = 65_535;
 /// Words that the program lends by default.
 pub const LENT: usize = 16_384;
-/// Bytes of the longest legal message.
-pub const LONGEST: usize = 2 * (4 + 2 * 1024 + 2 + 2 * 256 + 3 + 2 * (4096 + 512 + 512) + 2 + 2 * 8192);
+/// More words than the largest system here needs.
+pub const PLENTY: usize = 1 << 21;
+/// Bytes of the longest legal message: the four parts at their largest.
+pub const LONGEST: usize = 2
+    * (4 + 2 * most(ROWS)
+        + 2
+        + 2 * most(BAD_ROWS)
+        + 3
+        + 2 * (most(FLOW) + most(MAIL) + most(STATES))
+        + 2
+        + 2 * most(BOUND_ENTRIES));
+
+const fn most(limit: Limit) -> usize {
+    limit.1 as usize
+}

@@ -1,6 +1,6 @@
 //! The four parts of a message: sizes and two parallel columns each (refusals 1 and 2).
 
-use crate::limits::{self, Limit};
+use crate::limits::{self, Limit, Limits};
 use crate::refusal::{self, Refusal};
 
 /// Two parallel columns of one part, with the word where the first begins.
@@ -101,10 +101,15 @@ impl PartReader<'_> {
 
 /// Refusals 1 and 2, part by part.
 pub fn read(bytes: &[u8]) -> Result<Message, Refusal> {
+    read_within(bytes, &limits::PRESENT)
+}
+
+/// The same under these limits.
+pub fn read_within(bytes: &[u8], within: &Limits) -> Result<Message, Refusal> {
     use limits::*;
     let mut reader = PartReader { bytes, words: bytes.len() / 2, at: 0 };
     let mut m = Message::default();
-    let (sizes, columns) = reader.part(&[ROWS, NAMES, CONSTRUCTORS, FUNCTIONS], |s| s[0])?;
+    let (sizes, columns) = reader.part(&[within.rows, NAMES, CONSTRUCTORS, FUNCTIONS], |s| s[0])?;
     (m.rows, m.names, m.constructors, m.functions) = (sizes[0], sizes[1], sizes[2], sizes[3]);
     m.program = columns;
     m.bads_at = reader.at;
@@ -112,7 +117,7 @@ pub fn read(bytes: &[u8]) -> Result<Message, Refusal> {
     m.bads = sizes[0];
     m.bad_rows = columns;
     m.tables_at = reader.at;
-    let (sizes, columns) = reader.part(&[FLOW, MAIL, STATES], |s| s[0] + s[1] + s[2])?;
+    let (sizes, columns) = reader.part(&[FLOW, MAIL, within.states], |s| s[0] + s[1] + s[2])?;
     (m.flow, m.mail, m.states) = (sizes[0], sizes[1], sizes[2]);
     m.tables = columns;
     m.bounds_at = reader.at;

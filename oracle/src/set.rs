@@ -1,6 +1,8 @@
 //! A set of values: one bit for each row of a program and one for R.
 
-const WORDS: usize = 17;
+use crate::limits;
+
+const WORDS: usize = limits::ROWS.1 as usize / 64 + 1;
 
 #[derive(Clone, Copy, Debug, PartialEq, Eq)]
 pub struct Set {

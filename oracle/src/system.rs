@@ -1,7 +1,6 @@
 //! The derived system: counters and rules (refusal 9), and its words (refusal 14).
 
 use crate::analysis::Analysis;
-use crate::limits;
 use crate::message::Message;
 use crate::program::{Branch, Head, Name, Row};
 use crate::refusal::{self, Detail, Refusal};
@@ -121,10 +120,10 @@ fn letter_counters(a: &Analysis) -> Vec<(usize, usize)> {
     mails.flat_map(|(class, mail)| a.letters(mail).map(move |letter| (class, letter)).collect::<Vec<_>>()).collect()
 }
 
-/// Refusal 9, or the system of closed tables.
-pub fn derive(message: &Message, a: &Analysis) -> Result<System, Refusal> {
+/// Refusal 9 where there are more than the `most` counters, or the system of closed tables.
+pub fn derive(message: &Message, a: &Analysis, most: usize) -> Result<System, Refusal> {
     let mut system = System { states: a.tables.states.len(), letters: letter_counters(a), rules: Vec::new() };
-    if system.counters() > limits::COUNTERS {
+    if system.counters() > most {
         let detail = Detail::Counted(system.counters());
         return Err(Refusal::new(refusal::COUNTERS, message.tables_at + 2, detail));
     }

@@ -4,6 +4,7 @@ use crate::analysis::Analysis;
 use crate::bads::{self, Bad};
 use crate::bounds::{self, Bounds};
 use crate::leak;
+use crate::limits::{self, Limits};
 use crate::message::{self, Message};
 use crate::names;
 use crate::program::Program;
@@ -34,14 +35,18 @@ pub struct Read {
 
 /// Checks 1 to 13, keeping what was read.
 pub fn inspect(bytes: &[u8], read: &mut Read) -> Result<(), Refusal> {
-    let message = &*read.message.insert(message::read(bytes)?);
+    inspect_within(bytes, read, &limits::PRESENT)
+}
+
+fn inspect_within(bytes: &[u8], read: &mut Read, within: &Limits) -> Result<(), Refusal> {
+    let message = &*read.message.insert(message::read_within(bytes, within)?);
     let program = &*read.program.insert(reader::read(message)?);
     names::check(program)?;
     let bads = &*read.bads.insert(bads::read(message, program)?);
     let tables = &*read.tables.insert(tables::read(message, program)?);
     let analysis = Analysis::new(program, tables);
     crate::closed::check(message, &analysis)?;
-    let system = &*read.system.insert(system::derive(message, &analysis)?);
+    let system = &*read.system.insert(system::derive(message, &analysis, within.counters)?);
     let bounds = &*read.bounds.insert(bounds::read(message, system.counters())?);
     let start = tables.state(program.rows, program.start).unwrap_or(0);
     bounds::check_start(message, bounds, start)?;
@@ -50,8 +55,13 @@ pub fn inspect(bytes: &[u8], read: &mut Read) -> Result<(), Refusal> {
     leak::check(message, system, bounds)
 }
 
-fn inspect_and_write(bytes: &[u8], read: &mut Read, lent: &mut [u32]) -> Result<Range<usize>, Refusal> {
-    inspect(bytes, read)?;
+fn inspect_and_write(
+    bytes: &[u8],
+    read: &mut Read,
+    lent: &mut [u32],
+    within: &Limits,
+) -> Result<Range<usize>, Refusal> {
+    inspect_within(bytes, read, within)?;
     if let Some(system) = &read.system {
         system.write(lent)?;
     }
@@ -60,7 +70,12 @@ fn inspect_and_write(bytes: &[u8], read: &mut Read, lent: &mut [u32]) -> Result<
 
 /// Verdict of a message. Only on 0 are lent words written, and only as many as are needed.
 pub fn verify(message: &[u8], system: &mut [u32]) -> Outcome {
-    match inspect_and_write(message, &mut Read::default(), system) {
+    verify_within(message, system, &limits::PRESENT)
+}
+
+/// The same under these limits.
+pub fn verify_within(message: &[u8], system: &mut [u32], within: &Limits) -> Outcome {
+    match inspect_and_write(message, &mut Read::default(), system, within) {
         Ok(part) => Outcome { number: 0, place: 0, part },
         Err(refusal) => Outcome { number: refusal.number, place: refusal.position, part: 0..0 },
     }
@@ -69,6 +84,6 @@ pub fn verify(message: &[u8], system: &mut [u32]) -> Outcome {
 /// As `verify`, with all that was read and the refusal's detail.
 pub fn verify_in_detail(message: &[u8], system: &mut [u32]) -> (Read, Result<Range<usize>, Refusal>) {
     let mut read = Read::default();
-    let result = inspect_and_write(message, &mut read, system);
+    let result = inspect_and_write(message, &mut read, system, &limits::PRESENT);
     (read, result)
 }

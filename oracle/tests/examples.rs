@@ -1,6 +1,7 @@
 //! The examples: each has its message, its verdict and its way back to text.
 
 use common::{examples, files, listed, path};
+use oracle::limits::PLENTY;
 use oracle::listing::verified;
 use oracle::stress;
 use oracle::text::assemble::assemble;
@@ -35,7 +36,7 @@ fn each_has_the_verdict_of_the_list() {
     for (name, verdict) in listed() {
         let folders = ["examples", "examples/hostile"].map(|folder| path(folder).join(format!("{name}.msg")));
         let stored = folders.iter().find_map(|file| std::fs::read(file).ok()).expect(&name);
-        assert_eq!(verify(&stored, &mut vec![0; 1 << 20]).number, verdict, "{name}");
+        assert_eq!(verify(&stored, &mut vec![0; PLENTY]).number, verdict, "{name}");
     }
 }
 

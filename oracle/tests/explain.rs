@@ -22,7 +22,7 @@ fn a_safe_message() {
 #[test]
 fn each_refusal_names_its_place_and_what_was_wanted() {
     assert!(explain(&[], 0, None).1.contains("1 (length) at 0"));
-    assert!(words(&[(0, 1025)]).contains("the size at word 0 is 1025"));
+    assert!(words(&[(0, 1537)]).contains("the size at word 0 is 1537"));
     assert!(words(&[(5, 24)]).contains("row 1, which is (24, 0)"));
     assert!(words(&[(16, 0)]).contains("row 2, which is (2, 0)"));
     assert!(words(&[(1, 4)]).contains("some name below V is bound by no row"));

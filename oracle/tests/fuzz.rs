@@ -3,6 +3,7 @@
 mod common;
 
 use oracle::fuzz::{compare, corpus};
+use oracle::limits::PLENTY;
 use oracle::verify::Outcome;
 use oracle::{naive, stress, verify};
 
@@ -72,7 +73,7 @@ fn the_corpus_of_the_proved_program_is_as_verify_says() {
 fn hostile_messages_are_settled_in_time() {
     for hostile in stress::hostile().unwrap() {
         let begin = std::time::Instant::now();
-        let outcome = verify::verify(&hostile.message, &mut vec![0; 1 << 20]);
+        let outcome = verify::verify(&hostile.message, &mut vec![0; PLENTY]);
         assert!(begin.elapsed().as_secs() < 5, "{}", hostile.name);
         assert_eq!(outcome.number, hostile.verdict, "{}", hostile.name);
     }
@@ -84,7 +85,7 @@ fn random_programs_come_back_from_their_text() {
     let mut tried = 0;
     for _ in 0..300 {
         let case = cases.next_case();
-        let outcome = verify::verify(&case.message, &mut vec![0; 1 << 20]);
+        let outcome = verify::verify(&case.message, &mut vec![0; PLENTY]);
         if outcome.number == 0 && case.message.len() < 2000 {
             let text = oracle::text::disassemble::disassemble(&case.message).unwrap();
             let again = oracle::text::assemble::assemble(&text).map_err(|e| format!("{e}\n{text}")).unwrap();
@@ -95,12 +96,12 @@ fn random_programs_come_back_from_their_text() {
     assert!(tried > 30, "{tried}");
 }
 
-const DEEP: [&str; 2] = ["rows-receives", "rows-functions"];
+const DEEP: [&str; 4] = ["rows-receives", "rows-functions", "long-receives", "long-functions"];
 
 #[test]
 fn the_deepest_programs_come_back_from_their_text() {
     for hostile in stress::hostile().unwrap().into_iter().filter(|h| DEEP.contains(&h.name.as_str())) {
-        let outcome = verify::verify(&hostile.message, &mut vec![0; 1 << 20]);
+        let outcome = verify::verify(&hostile.message, &mut vec![0; PLENTY]);
         let text = oracle::text::disassemble::disassemble(&hostile.message).unwrap();
         let again = oracle::text::assemble::assemble(&text).unwrap().message;
         assert_eq!(again[..outcome.part.end], hostile.message[outcome.part], "{}", hostile.name);

@@ -10,7 +10,7 @@ use oracle::stack::with_stack;
 use oracle::{proved, stress, verify};
 
 /// Words lent for any message: what a program lends, and more than any system needs.
-const LENT: [usize; 2] = [16_384, 1 << 20];
+const LENT: [usize; 2] = [16_384, oracle::limits::PLENTY];
 /// Words lent for station A, which needs 24.
 const LENT_A: [usize; 5] = [0, 3, 23, 24, 40];
 

@@ -31,11 +31,11 @@ fn sizes_come_part_by_part() {
     assert_eq!(changed(&[(24, 17), (25, 3)]), (2, 24));
     assert_eq!(changed(&[(25, 3)]), (2, 25));
     assert_eq!(changed(&[(34, 4097)]), (2, 34));
-    assert_eq!(changed(&[(36, 513)]), (2, 36));
+    assert_eq!(changed(&[(36, 1025)]), (2, 36));
     assert_eq!(changed(&[(55, 257)]), (2, 55));
     assert_eq!(changed(&[(56, 8193)]), (2, 56));
     assert_eq!(changed(&[(56, 12)]), (1, 55));
-    assert_eq!(changed(&[(0, 1024)]), (1, 0));
+    assert_eq!(changed(&[(0, 1536)]), (1, 0));
     assert_eq!(verdict(&[0]), (1, 0));
     assert_eq!(verdict(&bytes(&[2000])), (1, 0));
 }
@@ -137,7 +137,7 @@ fn leaks() {
 
 #[test]
 fn an_earlier_part_comes_first() {
-    assert_eq!(changed(&[(0, 1024), (55, 257)]), (1, 0));
+    assert_eq!(changed(&[(0, 1536), (55, 257)]), (1, 0));
     let mut a = station_a();
     a[tag(0)] = 99;
     let mut longer = bytes(&a);

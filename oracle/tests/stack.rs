@@ -14,9 +14,9 @@ use std::thread::Builder;
 const SMALL: usize = 192 << 10;
 const SMALL_ROWS: usize = 64;
 /// For any message.
-const LARGE: usize = 768 << 10;
+const LARGE: usize = 1280 << 10;
 /// Words lent: more than any system needs.
-const LENT: usize = 1 << 20;
+const LENT: usize = oracle::limits::PLENTY;
 
 /// The proved code's answer, from a thread with so much stack.
 fn on_stack(bytes: usize, message: &[u8]) -> Outcome {

@@ -29,7 +29,7 @@ fn a_hands_on_its_program_part() {
 #[test]
 fn too_many_rows() {
     let mut a = station_a();
-    a[0] = 1025;
+    a[0] = 1537;
     assert_eq!(verdict(&bytes(&a)), (2, 0));
 }
 

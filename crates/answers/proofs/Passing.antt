@@ -30,22 +30,8 @@ safe-only (Space at) h = true-false h refl
 
 -- what is so after a refusal
 pub else-is : {A : Type 0} (v : Verdict) (a b : A) → is-safe v ≡ false → if-safe v a b ≡ b
-unfolding is-safe number if-safe
-else-is Safe a b h = true-false refl h
-else-is (Length at) a b h = refl
-else-is (Size at) a b h = refl
-else-is (Row at) a b h = refl
-else-is (Name at) a b h = refl
-else-is (Scope at) a b h = refl
-else-is (Bad at) a b h = refl
-else-is (Entry at) a b h = refl
-else-is (Open at) a b h = refl
-else-is (Counters at) a b h = refl
-else-is (Ceiling at) a b h = refl
-else-is (Start at) a b h = refl
-else-is (Met at) a b h = refl
-else-is (Leak at) a b h = refl
-else-is (Space at) a b h = refl
+unfolding is-safe if-safe
+else-is v a b h = rw (h, if-safe)
 
 -- the check found nothing
 pub passed : (c : Check) (v : Verdict) (f : Bool) → Refuses c → v ≡ answer c → f ≡ is-safe v → f ≡ true → c ≡ none

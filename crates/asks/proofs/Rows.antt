@@ -8,6 +8,7 @@ use mathlib.Core.Bool.{Bool, true, false, not, _&&_}
 use mathlib.Core.List.{List}
 use lib.Dec.{eqb, leb}
 use borrow.Author.Tests.{eqb-true, le-leb, not-false}
+use Rattle.model.specs.Limits.{maxRows}
 use Rattle.model.specs.declared.Sizes.{Sizes}
 use Rattle.model.specs.Words.{columns}
 use Rattle.model.specs.Rows.{Program, program, size, tag, num, kind, call, send, spawn, is-head}
@@ -32,7 +33,7 @@ module _ {ws : List ℕ} {s : Sizes} (h : Ready ws s) where
   unfolding is-head
   head-here r lo hi = row-location (rows-fit h) (columns-whole h) r (and-intro (leb 1 (tag (program ws s) r)) (leb (tag (program ws s) r) 9) (le-leb 1 (tag (program ws s) r) lo) (le-leb (tag (program ws s) r) 9 hi))
 
-  pub row-below : (r : ℕ) → 1 ≤ tag (program ws s) r → (r < s .rows) × (r < 1024)
+  pub row-below : (r : ℕ) → 1 ≤ tag (program ws s) r → (r < s .rows) × (r < maxRows)
   unfolding program columns
   row-below r lo = let a = row-within (columns-whole h) r lo in let b = rows-most h in (omega arith, omega arith)
 
@@ -61,11 +62,11 @@ module _ {ws : List ℕ} {s : Sizes} (h : Ready ws s) where
       let y = function-names (program ws s) (rows-fit h) (columns-whole h) f (k .0) i (omega arith) in
       omega arith
 
-  pub count-below : (r n : ℕ) → tag (program ws s) r ≡ 4 → n ≡ num (program ws s) (r + 2) → n < 1024
+  pub count-below : (r n : ℕ) → tag (program ws s) r ≡ 4 → n ≡ num (program ws s) (r + 2) → n < maxRows
   unfolding kind
   count-below r n t e = let (a, b) = rest-call (head-here r (omega arith) (omega arith)) (rw t) in let c = rows-most h in omega arith
 
-  pub function-below : (f n : ℕ) → takes (program ws s) f n ≡ true → f < 1024
+  pub function-below : (f n : ℕ) → takes (program ws s) f n ≡ true → f < maxRows
   function-below f n t = let a = function-within (columns-whole h) f (takes-count (program ws s) f n t .0) in let b = rows-most h in omega arith
 
   -- the name and the message of a send, the name of a spawn

@@ -13,6 +13,7 @@ use model::TAG_LETTER;
 use model::TAG_MINIMUM;
 use model::Verdict;
 ghost use mathlib.Core.Path.{_≡_};
+ghost use Rattle.model.specs.Limits.{present};
 ghost use Rattle.model.specs.Rows.{program};
 ghost use Rattle.model.specs.Bads.{bad-step, bad-check};
 ghost use Rattle.model.specs.Verify.{answer};
@@ -118,7 +119,7 @@ fn is_done(expected: Expected) -> bool
 
 // Where the rows of bads stand.
 fn bad_rows(s: Sizes) -> Arrays
-    requires { ⌜ Within-limits s ⌝ }
+    requires { ⌜ Within-limits present s ⌝ }
     ensures { λ a. ⌜ a ≡ bad-arrays s ⌝ }
 {
     let first = 6 + 2 * s.rows;

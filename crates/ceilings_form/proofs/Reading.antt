@@ -7,6 +7,7 @@ use mathlib.Core.List.{List, [], _∷_}
 use mathlib.Core.Option.{Option, some, none}
 use lib.Dec.{leb, ltb}
 use borrow.Author.Tests.{eq-eqb, ne-eqb, le-leb, lt-leb, lt-ltb, le-ltb, leb-true, ltb-true}
+use Rattle.model.specs.Limits.{present}
 use Rattle.model.specs.declared.Sizes.{Sizes}
 use Rattle.model.specs.declared.Verdict.the-variants.{Safe, Ceiling}
 use Rattle.model.specs.Words.{Columns, left, right, columns}
@@ -74,7 +75,7 @@ unfolding complete
 at-end n = rw (eq-eqb n n refl, complete)
 
 -- the part of ceilings stands low among the numbers
-pub begins-low : (s : Sizes) → Within-limits s → ceilings-at s + 2 + s .entries < 2 ^ 32
+pub begins-low : (s : Sizes) → Within-limits present s → ceilings-at s + 2 + s .entries < 2 ^ 32
 unfolding ceilings-at
 begins-low s h = omega arith
 

@@ -4,7 +4,7 @@ use model::Verdict;
 ghost use mathlib.Core.Path.{_≡_};
 ghost use Prim.Native.Nat.{_+_, _≤_, _<_};
 ghost use lib.ListN.{length, getD, take, drop};
-ghost use Rattle.model.specs.Limits.{maxCounters};
+ghost use Rattle.model.specs.Limits.{present, maxCounters};
 ghost use Rattle.model.specs.Words.{left, right};
 ghost use Rattle.model.specs.Message.{ceilings-at};
 ghost use Rattle.model.specs.Ceilings.{ceiling-entries, ceiling-check, ceilings-of};
@@ -22,7 +22,7 @@ pub fn column(ws: &[u16], n: usize, at: usize, i: usize) -> u16
 
 // The word at which the ceilings part begins.
 pub fn ceilings_at(s: Sizes) -> usize
-    requires { ⌜ Within-limits s ⌝ }
+    requires { ⌜ Within-limits present s ⌝ }
     ensures { λ r. ⌜ r ≡ ceilings-at s ⌝ }
 {
     9 + 2 * (s.rows + s.badrows + s.flows + s.mails + s.states)

@@ -4,6 +4,7 @@ use mathlib.Core.Path.{_≡_, refl, sym, ap, subst, _∙_}
 use mathlib.Core.Bool.{Bool, false}
 use mathlib.Core.List.{List, []}
 use mathlib.Core.Option.{some, none}
+use Rattle.model.specs.Limits.{present}
 use Rattle.model.specs.declared.Sizes.{Sizes}
 use Rattle.model.specs.declared.Verdict.{Verdict}
 use Rattle.model.specs.declared.Verdict.the-variants.{Safe}
@@ -37,7 +38,7 @@ in-threes : (a b c d e f g h i l : Check) → (a >> (b >> c)) >> ((d >> (e >> (f
 in-threes a b c d e f g h i l =
     three a b c _ ∙ ap (λ x. a >> (b >> (c >> x))) (four d e f g _ ∙ ap (λ x. d >> (e >> (f >> (g >> x)))) (assoc h i l))
 
-pub in-order : (ws : List ℕ) (s : Sizes) (n : ℕ) → message-check (taken ws s) n ≡ from-3 ws s n
+pub in-order : (ws : List ℕ) (s : Sizes) (n : ℕ) → message-check present (taken ws s) n ≡ from-3 ws s n
 unfolding message-check taken program-check evidence-check ceilings-check under-ceilings from-3 from-4 from-5 from-6 from-7 from-8 from-9 from-10 from-11 from-14
 in-order ws s n = in-threes _ _ _ _ _ _ _ _ _ _
 

@@ -6,11 +6,12 @@ use mathlib.Core.List.{List}
 use mathlib.Core.Option.{Option, some, none}
 use lib.ListN.{length}
 use lib.Dec.{eqb}
+use Rattle.rooms.specs.Rooms.{row-room, limit-room}
 use Rattle.model.specs.declared.Sizes.{Sizes}
 use Rattle.model.specs.Verdict.{_>>_}
 use Rattle.model.specs.Words.{Columns, columns}
 use Rattle.model.specs.Rows.{Program, size, tag, num, program, row-check}
-use Rattle.model.specs.Limits.{maxCounters}
+use Rattle.model.specs.Limits.{present, maxCounters, maxCeilings}
 use Rattle.model.specs.Tables.{Tables, tables, entries, entry-check, has, state, state-index}
 use Rattle.model.specs.Index.{all, implies}
 use Rattle.model.specs.Scopes.{name-check, scope-check}
@@ -49,7 +50,7 @@ pub ceilings-whole : (ws : List ℕ) (s : Sizes) → Parts-whole ws s → ceilin
 ceilings-whole ws s w = record { limits = w .limits; held = w .held }
 
 -- refusal 9 found nothing
-pub few : (s : Sizes) (p : Program) (t : Tables) → counter-check s p t ≡ none → counter-count p t ≤ maxCounters
+pub few : (s : Sizes) (p : Program) (t : Tables) → counter-check present s p t ≡ none → counter-count p t ≤ maxCounters
 unfolding counter-check
 few s p t h = leb-true _ _ (unless-none _ _ .0 h)
 
@@ -95,7 +96,7 @@ pub items-of : (p : Program) (t : Tables) (rows : Columns) (n k : ℕ) (items : 
 items-of p t rows n k items e h = subst (λ x. Items-counted p t rows x items) (sym e) h
 
 -- room for the rules of a state
-pub rule-room : (s : Sizes) (tos others : List ℕ) → Within-limits s → Cleared 1056 tos → Cleared 1056 others → Rule-room s tos others
+pub rule-room : (s : Sizes) (tos others : List ℕ) → Within-limits present s → Cleared row-room tos → Cleared row-room others → Rule-room s tos others
 rule-room s tos others l t o =
     let a = t .room in
     let b = o .room in
@@ -120,8 +121,8 @@ pub few-counters : (ws : List ℕ) (s : Sizes) (n : ℕ) → n ≡ counter-count
 few-counters ws s n e h = omega (arith, e)
 
 -- no message has more limits
-pub all-cells : (s : Sizes) (n : ℕ) → n ≤ maxCounters → Within-limits s → n * s .ceilings ≤ 131072
-all-cells s n h l = product-most n (s .ceilings) 512 256 (omega arith) (l .ceilings)
+pub all-cells : (s : Sizes) (n : ℕ) → n ≤ maxCounters → Within-limits present s → n * s .ceilings ≤ limit-room
+all-cells s n h l = product-most n (s .ceilings) maxCounters maxCeilings (omega arith) (l .ceilings)
 
 -- sets of ceilings for n counters
 pub mask-room : (j k n : ℕ) (holders unbounded group short more : List ℕ) → n * 8 ≤ j → n * 4 ≤ k → Cleared j holders → Cleared k unbounded → Cleared k group → Cleared k short → Cleared k more → Mask-room n holders unbounded group short more

@@ -1,6 +1,7 @@
 -- The checks of a message whose parts are whole, in their order: each with all that come behind it.
 use Prim.Native.Nat.{ℕ}
 use mathlib.Core.List.{List}
+use Rattle.model.specs.Limits.{present}
 use Rattle.model.specs.declared.Sizes.{Sizes}
 use Rattle.model.specs.Verdict.{Check, _>>_}
 use Rattle.model.specs.Rows.{program, row-check}
@@ -44,7 +45,7 @@ module _ (ws : List ℕ) (s : Sizes) (lent : ℕ) where
   from-10 = ceiling-check ws s (counter-count (program ws s) (tables ws s)) >> from-11
 
   unfoldable pub from-9 : Check
-  from-9 = counter-check s (program ws s) (tables ws s) >> from-10
+  from-9 = counter-check present s (program ws s) (tables ws s) >> from-10
 
   unfoldable pub from-8 : Check
   from-8 = open-check s (program ws s) (tables ws s) >> from-9

@@ -8,16 +8,16 @@ use ceilings_leaks::leak_check;
 use ceilings_masks::fill_holders;
 use model::Sizes;
 use model::Verdict;
+use rooms::counter_masks;
+use rooms::holder_masks;
+use rooms::limit_words;
+use rooms::row_words16;
 use rooms::words16_258;
-use rooms::words16_1056;
 use rooms::words16_2048;
 use rooms::words16_16384;
-use rooms::words16_131072;
 use rooms::words64_130;
 use rooms::words64_512;
 use rooms::words64_1024;
-use rooms::words64_2048;
-use rooms::words64_4096;
 use rules::no_class;
 use system_totals::Totals;
 ghost use mathlib.Core.Path.{_≡_};
@@ -71,9 +71,9 @@ fn leaks_on(
     ensures { λ l. ⌜ Totalled (program (now (ws .entry)) s) (tables (now (ws .entry)) s) (l .totals) ⌝ }
 {
     fill_holders(limits, s.ceilings, n, holders, unbounded);
-    let mut at = words16_1056();
-    let mut tos = words16_1056();
-    let mut others = words16_1056();
+    let mut at = row_words16();
+    let mut tos = row_words16();
+    let mut others = row_words16();
     let none = no_class(ws, s, &mut at);
     let gathered = fill_groups(
         ws,
@@ -326,13 +326,13 @@ fn all_limits(
     ensures { λ l. ⌜ (l .verdict ≡ Safe →
         Totalled (program (now (ws .entry)) s) (tables (now (ws .entry)) s) (l .totals)) ⌝ }
 {
-    let mut limits = words16_131072();
+    let mut limits = limit_words();
     let mut ceiling_at = words16_258();
-    let mut holders = words64_4096();
-    let mut unbounded = words64_2048();
-    let mut group = words64_2048();
-    let mut short = words64_2048();
-    let mut more = words64_2048();
+    let mut holders = holder_masks();
+    let mut unbounded = counter_masks();
+    let mut group = counter_masks();
+    let mut short = counter_masks();
+    let mut more = counter_masks();
     ceilings_on(
         ws,
         s,

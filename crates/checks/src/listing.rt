@@ -1,7 +1,7 @@
 // Refusal 14, and the listing written after none.
 use model::Sizes;
 use model::Verdict;
-use rooms::words16_1056;
+use rooms::row_words16;
 use system_space::space_verdict;
 use system_totals::Totals;
 ghost use mathlib.Core.Path.{_≡_};
@@ -38,9 +38,9 @@ pub fn listing_verdict(
         (length (now (lent .entry)))) ⌝ }
     ensures { λ v. ⌜ now (lent .exit) ≡ words-after v (now (ws .entry)) s (now (lent .entry)) ⌝ }
 {
-    let mut at = words16_1056();
-    let mut tos = words16_1056();
-    let mut others = words16_1056();
+    let mut at = row_words16();
+    let mut tos = row_words16();
+    let mut others = row_words16();
     space_verdict(
         ws,
         s,

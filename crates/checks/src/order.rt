@@ -11,8 +11,8 @@ use layout::ends::ends;
 use layout::inner::inners;
 use model::Sizes;
 use model::Verdict;
+use rooms::row_words16;
 use rooms::words16_512;
-use rooms::words16_1056;
 use rooms::words64_1024;
 use scopes::names::name_check;
 use scopes::scope::scope_check;
@@ -23,6 +23,7 @@ use system_letters::fill_names;
 use values::width;
 ghost use mathlib.Core.Path.{_≡_};
 ghost use lib.ListN.{length};
+ghost use Rattle.model.specs.Limits.{present};
 ghost use Rattle.model.specs.Verify.{message-check, answer};
 ghost use Rattle.evidence.specs.Whole.{Parts-whole};
 ghost use Rattle.system_space.specs.Space.{words-after};
@@ -33,7 +34,7 @@ ghost use Rattle.closure_sized.specs.Flow.{Flow-room};
 pub fn words_verdict(ws: &[u16], s: Sizes, flow: &mut [u64], lent: &mut [u32]) -> Verdict
     requires { ⌜ Parts-whole (now ws) s ⌝ }
     requires { ⌜ Flow-room s (now flow) ⌝ }
-    ensures { λ v. ⌜ v ≡ answer (message-check (taken (now (ws .entry)) s) (length (now (lent .entry)))) ⌝ }
+    ensures { λ v. ⌜ v ≡ answer (message-check present (taken (now (ws .entry)) s) (length (now (lent .entry)))) ⌝ }
     ensures { λ v. ⌜ now (lent .exit) ≡ words-after v (now (ws .entry)) s (now (lent .entry)) ⌝ }
 {
     let rows = row_check(ws, s);
@@ -58,8 +59,8 @@ pub fn words_verdict(ws: &[u16], s: Sizes, flow: &mut [u64], lent: &mut [u32]) -
         return entries;
     }
     let owners = inners(ws, s, &afters);
-    let mut starts = words16_1056();
-    let mut branches = words16_1056();
+    let mut starts = row_words16();
+    let mut branches = row_words16();
     let open = open_verdict(
         64,
         ws,
@@ -73,7 +74,7 @@ pub fn words_verdict(ws: &[u16], s: Sizes, flow: &mut [u64], lent: &mut [u32]) -
     if !is_safe(open) {
         return open;
     }
-    let mut letter_at = words16_1056();
+    let mut letter_at = row_words16();
     let mut letters = words16_512();
     fill_letters(ws, s, &mut letter_at, &mut letters);
     let counters = counter_check(ws, s, &letter_at, &letters);

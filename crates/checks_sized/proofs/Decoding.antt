@@ -5,6 +5,7 @@ use mathlib.Core.Path.{_≡_, refl, sym, ap, subst, _∙_}
 use mathlib.Core.List.{List, [], _∷_, _++_}
 use mathlib.Core.Option.{some}
 use lib.ListN.{length, take}
+use Rattle.model.specs.Limits.{present}
 use Rattle.model.specs.declared.Sizes.{Sizes}
 use Rattle.model.specs.declared.Verdict.{Verdict}
 use Rattle.model.specs.Verdict.{_>>_}
@@ -13,7 +14,7 @@ use Rattle.model.specs.Message.{sizes, parts-check, ceilings-at, end-at}
 use Rattle.model.specs.Rows.{program}
 use Rattle.model.specs.Tables.{tables}
 use Rattle.model.specs.Listing.{system-words, written}
-use Rattle.model.specs.Verify.{message, message-check, check, answer, verdict, if-safe, lent-after}
+use Rattle.model.specs.Verify.{message, message-check, check, answer, verdict, verdict-within, if-safe, lent-after, lent-after-within}
 use Rattle.model.proofs.Logic.{test}
 use Rattle.model.proofs.Exact.Answer.{check-refuses}
 use Rattle.words.proofs.Words.{words-length}
@@ -53,23 +54,23 @@ module _ (bytes : List ℕ) (s : Sizes) (ws : List ℕ) (w : Whole-message bytes
         held = omega (arith, w .words-end);
       }
 
-  whole-checked : (n : ℕ) → answer (message-check (taken (words bytes) (sizes (words bytes))) n) ≡ verdict bytes n
-  unfolding verdict check message taken _>>_
+  whole-checked : (n : ℕ) → answer (message-check present (taken (words bytes) (sizes (words bytes))) n) ≡ verdict bytes n
+  unfolding verdict-within check message taken _>>_
   whole-checked n = rw (w .passes)
 
-  pub whole-told : (n : ℕ) (v : Verdict) → v ≡ answer (message-check (taken ws s) n) → v ≡ verdict bytes n
+  pub whole-told : (n : ℕ) (v : Verdict) → v ≡ answer (message-check present (taken ws s) n) → v ≡ verdict bytes n
   whole-told n v h =
-      h ∙ ap (λ x. answer (message-check (taken x s) n)) e ∙ ap (λ x. answer (message-check (taken (words bytes) x) n)) (w .of-message) ∙ whole-checked n
+      h ∙ ap (λ x. answer (message-check present (taken x s) n)) e ∙ ap (λ x. answer (message-check present (taken (words bytes) x) n)) (w .of-message) ∙ whole-checked n
 
-  pub whole-written : (lent out : List ℕ) (v : Verdict) → v ≡ answer (message-check (taken ws s) (length lent)) → out ≡ words-after v ws s lent → out ≡ lent-after bytes lent
-  unfolding lent-after words-after message
+  pub whole-written : (lent out : List ℕ) (v : Verdict) → v ≡ answer (message-check present (taken ws s) (length lent)) → out ≡ words-after v ws s lent → out ≡ lent-after bytes lent
+  unfolding lent-after-within words-after message
   whole-written lent out v h g =
       g ∙ ap (λ x. words-after v x s lent) e ∙ ap (λ x. words-after v (words bytes) x lent) (w .of-message) ∙ ap (λ x. words-after x (words bytes) (sizes (words bytes)) lent) (whole-told (length lent) v h)
 
 -- refusals 1 and 2
-pub parts-refused : (bytes lent : List ℕ) (v : Verdict) → parts-check bytes ≡ some v → (v ≡ verdict bytes (length lent)) × (lent ≡ lent-after bytes lent)
-unfolding verdict check answer _>>_ lent-after
+pub parts-refused : (bytes lent : List ℕ) (v : Verdict) → parts-check present bytes ≡ some v → (v ≡ verdict bytes (length lent)) × (lent ≡ lent-after bytes lent)
+unfolding verdict-within check answer _>>_ lent-after-within
 parts-refused bytes lent v h =
-    let told : check bytes (length lent) ≡ some v = rw h in
-    let no = test (is-safe v) (λ y. absurd (check-refuses bytes (length lent) (told ∙ ap some (safe-only v y)))) (λ y. y) in
+    let told : check present bytes (length lent) ≡ some v = rw h in
+    let no = test (is-safe v) (λ y. absurd (check-refuses present bytes (length lent) (told ∙ ap some (safe-only v y)))) (λ y. y) in
     (rw h, sym (ap (λ x. if-safe x (written (system-words (message bytes .program) (message bytes .tables)) lent) lent) (ap answer told) ∙ else-is v _ lent no))

@@ -4,12 +4,13 @@ pub mod verdict;
 use checks::order::words_verdict;
 use model::Sizes;
 use model::Verdict;
+use rooms::name_sets;
 use rooms::words64_130;
 use rooms::words64_1285;
-use rooms::words64_8721;
 ghost use mathlib.Core.Path.{_≡_};
 ghost use Prim.Native.Nat.{_≤_};
 ghost use lib.ListN.{length};
+ghost use Rattle.model.specs.Limits.{present};
 ghost use Rattle.model.specs.Verify.{message-check, answer};
 ghost use Rattle.evidence.specs.Whole.{Parts-whole};
 ghost use Rattle.system_space.specs.Space.{words-after};
@@ -19,7 +20,7 @@ ghost use Rattle.checks.specs.Order.{taken};
 fn small_flow(ws: &[u16], s: Sizes, lent: &mut [u32]) -> Verdict
     requires { ⌜ Parts-whole (now ws) s ⌝ }
     requires { ⌜ (s .rows ≤ 64) × (s .names ≤ 64) ⌝ }
-    ensures { λ v. ⌜ v ≡ answer (message-check (taken (now (ws .entry)) s) (length (now (lent .entry)))) ⌝ }
+    ensures { λ v. ⌜ v ≡ answer (message-check present (taken (now (ws .entry)) s) (length (now (lent .entry)))) ⌝ }
     ensures { λ v. ⌜ now (lent .exit) ≡ words-after v (now (ws .entry)) s (now (lent .entry)) ⌝ }
 {
     let mut flow = words64_130();
@@ -30,7 +31,7 @@ fn small_flow(ws: &[u16], s: Sizes, lent: &mut [u32]) -> Verdict
 fn middle_flow(ws: &[u16], s: Sizes, lent: &mut [u32]) -> Verdict
     requires { ⌜ Parts-whole (now ws) s ⌝ }
     requires { ⌜ (s .rows ≤ 256) × (s .names ≤ 256) ⌝ }
-    ensures { λ v. ⌜ v ≡ answer (message-check (taken (now (ws .entry)) s) (length (now (lent .entry)))) ⌝ }
+    ensures { λ v. ⌜ v ≡ answer (message-check present (taken (now (ws .entry)) s) (length (now (lent .entry)))) ⌝ }
     ensures { λ v. ⌜ now (lent .exit) ≡ words-after v (now (ws .entry)) s (now (lent .entry)) ⌝ }
 {
     let mut flow = words64_1285();
@@ -40,10 +41,10 @@ fn middle_flow(ws: &[u16], s: Sizes, lent: &mut [u32]) -> Verdict
 // Refusals 3 to 14 of any number.
 fn large_flow(ws: &[u16], s: Sizes, lent: &mut [u32]) -> Verdict
     requires { ⌜ Parts-whole (now ws) s ⌝ }
-    ensures { λ v. ⌜ v ≡ answer (message-check (taken (now (ws .entry)) s) (length (now (lent .entry)))) ⌝ }
+    ensures { λ v. ⌜ v ≡ answer (message-check present (taken (now (ws .entry)) s) (length (now (lent .entry)))) ⌝ }
     ensures { λ v. ⌜ now (lent .exit) ≡ words-after v (now (ws .entry)) s (now (lent .entry)) ⌝ }
 {
-    let mut flow = words64_8721();
+    let mut flow = name_sets();
     words_verdict(ws, s, &mut flow, lent)
 }
 
@@ -52,7 +53,7 @@ fn large_flow(ws: &[u16], s: Sizes, lent: &mut [u32]) -> Verdict
 pub fn sized_verdict(most: usize, ws: &[u16], s: Sizes, lent: &mut [u32]) -> Verdict
     requires { ⌜ 1 ≤ most ⌝ }
     requires { ⌜ Parts-whole (now ws) s ⌝ }
-    ensures { λ v. ⌜ v ≡ answer (message-check (taken (now (ws .entry)) s) (length (now (lent .entry)))) ⌝ }
+    ensures { λ v. ⌜ v ≡ answer (message-check present (taken (now (ws .entry)) s) (length (now (lent .entry)))) ⌝ }
     ensures { λ v. ⌜ now (lent .exit) ≡ words-after v (now (ws .entry)) s (now (lent .entry)) ⌝ }
 {
     if most >= 1024 {

@@ -4,9 +4,9 @@ use message::Parts;
 use message::parts_of;
 use model::Sizes;
 use model::Verdict;
+use rooms::message_words;
 use rooms::words16_512;
 use rooms::words16_2048;
-use rooms::words16_29195;
 use words::decode;
 ghost use mathlib.Core.Path.{_≡_};
 ghost use Prim.Native.Nat.{_*_, _≤_};
@@ -54,7 +54,7 @@ fn long_verdict(bytes: &[u8], s: Sizes, lent: &mut [u32]) -> Verdict
     ensures { λ v. ⌜ v ≡ verdict (now (bytes .entry)) (length (now (lent .entry))) ⌝ }
     ensures { λ v. ⌜ now (lent .exit) ≡ lent-after (now (bytes .entry)) (now (lent .entry)) ⌝ }
 {
-    let mut words = words16_29195();
+    let mut words = message_words();
     decoded_verdict(bytes, s, &mut words, lent)
 }
 

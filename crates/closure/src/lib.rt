@@ -20,6 +20,7 @@ ghost use mathlib.Core.Path.{_≡_};
 ghost use mathlib.Core.Bool.{true};
 ghost use Prim.Native.Nat.{_≤_, _<_};
 ghost use lib.ListN.{length};
+ghost use Rattle.model.specs.Limits.{present};
 ghost use Rattle.model.specs.Words.{left};
 ghost use Rattle.model.specs.Rows.{program, tag, is-head};
 ghost use Rattle.model.specs.Heads.{is-class};
@@ -220,7 +221,7 @@ fn first_open(
 
 // The verdict where the opening entries are there, and state i is the first that lacks something.
 fn states_verdict(s: Sizes, i: usize) -> Verdict
-    requires { ⌜ Within-limits s ⌝ }
+    requires { ⌜ Within-limits present s ⌝ }
     requires { ⌜ i ≤ s .states ⌝ }
     ensures { λ v. ⌜ v ≡ states-verdict s i ⌝ }
 {

@@ -2,16 +2,16 @@
 use closure::open_check;
 use model::Sizes;
 use model::Verdict;
+use rooms::name_sets;
+use rooms::row_sets;
+use rooms::row_words16;
+use rooms::row_words32;
 use rooms::words16_66;
 use rooms::words16_258;
-use rooms::words16_1056;
 use rooms::words32_66;
 use rooms::words32_258;
-use rooms::words32_1056;
 use rooms::words64_130;
 use rooms::words64_1285;
-use rooms::words64_8721;
-use rooms::words64_17408;
 ghost use mathlib.Core.Path.{_≡_};
 ghost use Prim.Native.Nat.{_≤_, _<_};
 ghost use lib.ListN.{length};
@@ -148,12 +148,12 @@ fn large_open(
     ensures { λ v. ⌜ (v ≡ Safe →
         Branch-bits (program (now (ws .entry)) s) (tables (now (ws .entry)) s) (now (branches .exit))) ⌝ }
 {
-    let mut mail = words64_8721();
+    let mut mail = name_sets();
     let mut firsts = words16_66();
-    let mut nexts = words16_1056();
-    let mut may = words64_17408();
-    let mut held = words64_17408();
-    let mut codes = words32_1056();
+    let mut nexts = row_words16();
+    let mut may = row_sets();
+    let mut held = row_sets();
+    let mut codes = row_words32();
     let mut here = words64_130();
     open_check(
         ws,

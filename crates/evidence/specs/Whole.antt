@@ -2,6 +2,7 @@
 use Prim.Native.Nat.{ℕ, _≤_}
 use mathlib.Core.List.{List}
 use lib.ListN.{length}
+use Rattle.model.specs.Limits.{present}
 use Rattle.model.specs.declared.Sizes.{Sizes}
 use Rattle.model.specs.Message.{end-at}
 use Rattle.model.specs.Demands.{Within-limits}
@@ -9,5 +10,5 @@ use Rattle.program.specs.Rows.{Whole}
 
 pub record Parts-whole (ws : List ℕ) (s : Sizes) : Type 0 where
   pub program : Whole ws s
-  pub limits : Within-limits s
+  pub limits : Within-limits present s
   pub held : end-at s ≤ length ws

@@ -9,6 +9,7 @@ use model::Sizes;
 use model::Verdict;
 ghost use mathlib.Core.Path.{_≡_};
 ghost use Prim.Native.Nat.{_+_, _<_, _≤_};
+ghost use Rattle.model.specs.Limits.{present};
 ghost use Rattle.model.specs.Rows.{program};
 ghost use Rattle.model.specs.Tables.{tables, ascends, entry-check};
 ghost use Rattle.model.specs.Verify.{answer};
@@ -84,7 +85,7 @@ fn first_misplaced(ws: &[u16], s: Sizes, table: Table, list: Arrays) -> usize
 
 // The list of n entries behind k others.
 fn list(s: Sizes, n: usize, k: usize) -> Arrays
-    requires { ⌜ Within-limits s ⌝ }
+    requires { ⌜ Within-limits present s ⌝ }
     requires { ⌜ k ≤ s .flows + s .mails ⌝ }
     ensures { λ a. ⌜ a ≡ list-arrays s n k ⌝ }
 {

@@ -7,9 +7,11 @@ use mathlib.Core.List.{List}
 use lib.ListN.{length, take, length-take}
 use Rattle.model.specs.declared.Verdict.{Verdict}
 use Rattle.model.specs.declared.Verdict.the-variants.{Safe}
+use Rattle.model.specs.Verdict.{number}
 use Rattle.model.specs.Words.{words}
 use Rattle.model.specs.Message.{sizes, bads-at, ceilings-at, end-at}
-use Rattle.model.specs.Verify.{message, check, verdict, if-safe, part-handed}
+use Rattle.model.specs.Limits.{present}
+use Rattle.model.specs.Verify.{message, check, verdict, if-safe, part-handed, part-handed-within}
 use Rattle.model.proofs.Exact.Checks.{then-none}
 use Rattle.model.proofs.Exact.Answer.{verdict-safe}
 use Rattle.message.proofs.Whole.{whole-check}
@@ -18,7 +20,7 @@ use Rattle.answers.proofs.Passing.{safe-only, else-is}
 
 module _ (bytes : List ℕ) (n : ℕ) (w : Verdict) (told : w ≡ verdict bytes n) (f : Bool) (tested : f ≡ is-safe w) where
   pub empty-part : f ≡ false → take 0 bytes ≡ part-handed bytes n
-  unfolding part-handed
+  unfolding part-handed-within
   empty-part h =
       ap (λ k. take k bytes)
       (sym (subst (λ x. if-safe x (2 * bads-at (message bytes .sizes)) 0 ≡ 0) told (else-is w _ 0 (sym tested ∙ h))))
@@ -27,14 +29,14 @@ module _ (bytes : List ℕ) (n : ℕ) (w : Verdict) (told : w ≡ verdict bytes 
   safe-told h = sym told ∙ safe-only w (sym tested ∙ h)
 
   pub program-part : f ≡ true → (k : ℕ) → k ≡ bads-at (sizes (words bytes)) → take (2 * k) bytes ≡ part-handed bytes n
-  unfolding part-handed message if-safe
+  unfolding part-handed-within message if-safe number
   program-part h k e = rw (safe-told h, e)
 
   -- it lies within the message
   part-fits : f ≡ true → (k : ℕ) → k ≡ bads-at (sizes (words bytes)) → 2 * k ≤ length bytes
   unfolding bads-at end-at ceilings-at message check
   part-fits h k e =
-      let passes = then-none _ _ .0 (verdict-safe bytes n .0 (safe-told h)) .0 in
+      let passes = then-none _ _ .0 (verdict-safe present bytes n .0 (safe-told h)) .0 in
       let whole = whole-check bytes passes in
       omega (arith, whole .bytes-end)
 

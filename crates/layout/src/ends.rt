@@ -1,5 +1,6 @@
 // Where expressions and patterns end: one table, filled from the last row to the first.
 use crate::tables::entry;
+use model::MAX_ROWS;
 use model::Sizes;
 use model::TAG_BUILD;
 use model::TAG_CALL;
@@ -91,11 +92,11 @@ fn end_row(ws: &[u16], s: Sizes, table: &[u16], r: usize) -> usize
 }
 
 // For each row where an expression or a pattern stands, the row after it.
-pub fn ends(ws: &[u16], s: Sizes) -> [u16; 1024]
+pub fn ends(ws: &[u16], s: Sizes) -> [u16; MAX_ROWS]
     requires { ⌜ Whole (now ws) s ⌝ }
     ensures { λ t. ⌜ After-table (program (now (ws .entry)) s) t ⌝ }
 {
-    let mut table = [0u16; 1024];
+    let mut table = [0u16; MAX_ROWS];
     let mut r = s.rows;
     while r > 0 {
         r -= 1;

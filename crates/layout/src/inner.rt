@@ -1,5 +1,6 @@
 // The innermost function around each row.
 use crate::tables::entry;
+use model::MAX_ROWS;
 use model::Sizes;
 use model::TAG_FUNCTION;
 use model::TAG_GLOBAL;
@@ -55,13 +56,13 @@ fn around(ws: &[u16], s: Sizes, ends: &[u16], inner: &[u16], f: usize, r: usize)
 }
 
 // For each row the innermost function around it; the number of rows where there is none.
-pub fn inners(ws: &[u16], s: Sizes, ends: &[u16]) -> [u16; 1024]
+pub fn inners(ws: &[u16], s: Sizes, ends: &[u16]) -> [u16; MAX_ROWS]
     requires { ⌜ Whole (now ws) s ⌝ }
     requires { ⌜ row-check (program (now ws) s) ≡ none ⌝ }
     requires { ⌜ After-table (program (now ws) s) (now ends) ⌝ }
     ensures { λ t. ⌜ Inner-upto (program (now (ws .entry)) s) (s .rows) t ⌝ }
 {
-    let mut table = [s.rows as u16; 1024];
+    let mut table = [s.rows as u16; MAX_ROWS];
     let mut before = s.rows;
     let mut r = 0;
     while r < s.rows {

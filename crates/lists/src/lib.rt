@@ -4,6 +4,7 @@ ghost use mathlib.Core.Path.{_≡_};
 ghost use mathlib.Core.Bool.{Bool};
 ghost use Prim.Native.Nat.{_+_, _≤_, _<_};
 ghost use lib.ListN.{length, getD};
+ghost use Rattle.model.specs.Limits.{present};
 ghost use Rattle.model.specs.Words.{left, right};
 ghost use Rattle.model.specs.Message.{tables-at};
 ghost use Rattle.model.specs.Rows.{program};
@@ -30,7 +31,7 @@ pub fn word(table: &[u16], k: usize) -> usize
 
 // The word at which the tables begin.
 pub fn tables_at(s: Sizes) -> usize
-    requires { ⌜ Within-limits s ⌝ }
+    requires { ⌜ Within-limits present s ⌝ }
     ensures { λ r. ⌜ r ≡ tables-at s ⌝ }
 {
     4 + 2 * s.rows + 2 + 2 * s.badrows
@@ -38,7 +39,7 @@ pub fn tables_at(s: Sizes) -> usize
 
 // The list of n entries behind k others.
 fn entries(s: Sizes, n: usize, k: usize) -> Span
-    requires { ⌜ Within-limits s ⌝ }
+    requires { ⌜ Within-limits present s ⌝ }
     requires { ⌜ k ≤ s .flows + s .mails ⌝ }
     ensures { λ r. ⌜ r ≡ span-at s n k ⌝ }
 {
@@ -51,21 +52,21 @@ fn entries(s: Sizes, n: usize, k: usize) -> Span
 }
 
 pub fn flow(s: Sizes) -> Span
-    requires { ⌜ Within-limits s ⌝ }
+    requires { ⌜ Within-limits present s ⌝ }
     ensures { λ r. ⌜ r ≡ flow-span s ⌝ }
 {
     entries(s, s.flows, 0)
 }
 
 pub fn mail(s: Sizes) -> Span
-    requires { ⌜ Within-limits s ⌝ }
+    requires { ⌜ Within-limits present s ⌝ }
     ensures { λ r. ⌜ r ≡ mail-span s ⌝ }
 {
     entries(s, s.mails, s.flows)
 }
 
 pub fn states(s: Sizes) -> Span
-    requires { ⌜ Within-limits s ⌝ }
+    requires { ⌜ Within-limits present s ⌝ }
     ensures { λ r. ⌜ r ≡ state-span s ⌝ }
 {
     entries(s, s.states, s.flows + s.mails)

@@ -7,6 +7,7 @@ use mathlib.Core.List.{List}
 use lib.ListN.{length, getD}
 use lib.Dec.{eqb, leb}
 use borrow.Author.Tests.{eqb-true, eq-eqb}
+use Rattle.model.specs.Limits.{maxRows}
 use Rattle.model.specs.declared.Sizes.{Sizes}
 use Rattle.model.specs.Index.{all}
 use Rattle.model.specs.Words.{columns}
@@ -89,7 +90,7 @@ module _ {p : Program} {t : Tables} where
       deep (λ d k. let b = a .before d k in rest-end n (may-at p t d q v) (held-at p t d q v) worst i h (b .least) (b .most) ∙ sym (b .says))
 
 -- a row that builds
-pub built-row : {ws : List ℕ} {s : Sizes} → Ready ws s → (q v : ℕ) → same-constructor (program ws s) q v ≡ true → (tag (program ws s) v ≡ 2) × (num (program ws s) (v + 1) ≡ num (program ws s) q) × (v < 1024)
+pub built-row : {ws : List ℕ} {s : Sizes} → Ready ws s → (q v : ℕ) → same-constructor (program ws s) q v ≡ true → (tag (program ws s) v ≡ 2) × (num (program ws s) (v + 1) ≡ num (program ws s) q) × (v < maxRows)
 unfolding same-constructor
 built-row {ws} {s} ready q v e =
     let two = eqb-true (tag (program ws s) v) 2 (and-left (eqb (tag (program ws s) v) 2) _ e) in
@@ -98,7 +99,7 @@ built-row {ws} {s} ready q v e =
     (two, eqb-true _ _ (and-right (eqb (tag (program ws s) v) 2) _ e), omega arith)
 
 -- few arguments
-pub count-low : {ws : List ℕ} {s : Sizes} → Ready ws s → {q v n worst sub i : ℕ} → Arguments (program ws s) (tables ws s) q v n worst sub i → n < 1024
+pub count-low : {ws : List ℕ} {s : Sizes} → Ready ws s → {q v n worst sub i : ℕ} → Arguments (program ws s) (tables ws s) q v n worst sub i → n < maxRows
 unfolding is-head arity kind program columns
 count-low {ws} {s} ready {q} {v} {n} a =
     let (two, same, low) = built-row ready q v (a .built) in

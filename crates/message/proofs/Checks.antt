@@ -7,6 +7,7 @@ use mathlib.Core.List.{List, [], _∷_}
 use mathlib.Core.Option.{some, none}
 use lib.ListN.{length}
 use borrow.Author.Tests.{le-leb, lt-leb}
+use Rattle.model.specs.Limits.{present}
 use Rattle.model.specs.declared.Sizes.{Sizes}
 use Rattle.model.specs.declared.Verdict.{Verdict}
 use Rattle.model.specs.declared.Verdict.the-variants.{Length, Size}
@@ -99,7 +100,7 @@ pub no-bytes-left : (bytes : List ℕ) (s : Sizes) (n : ℕ) → n ≡ end-at s 
 unfolding nothing-left unless answered
 no-bytes-left bytes s n e h = rw (← e, le-leb (length bytes) (2 * n) h)
 
-pub parts-by : (bytes : List ℕ) (s : Sizes) (x : Parts) → s ≡ sizes (words bytes) → x ≡ answered (program-part (words bytes) s >> (bads-part (words bytes) s >> (tables-part (words bytes) s >> (ceilings-part (words bytes) s >> nothing-left bytes s)))) s → x ≡ parts-of bytes
+pub parts-by : (bytes : List ℕ) (s : Sizes) (x : Parts) → s ≡ sizes (words bytes) → x ≡ answered (program-part present (words bytes) s >> (bads-part (words bytes) s >> (tables-part present (words bytes) s >> (ceilings-part (words bytes) s >> nothing-left bytes s)))) s → x ≡ parts-of bytes
 unfolding parts-of parts-check
 parts-by bytes s x e t = rw (← e) t
 

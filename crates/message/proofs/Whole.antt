@@ -8,6 +8,7 @@ use mathlib.Core.Option.{some, none}
 use lib.ListN.{length}
 use lib.Dec.{leb}
 use borrow.Author.Tests.{leb-true}
+use Rattle.model.specs.Limits.{present}
 use Rattle.model.specs.declared.Sizes.{Sizes}
 use Rattle.model.specs.declared.Verdict.{Verdict}
 use Rattle.model.specs.declared.Verdict.the-variants.{Size}
@@ -73,7 +74,7 @@ part-whole-is ws at ls elements h =
     (sizes-inside at ls (then-left _ _ behind), leb-true _ _ (unless-passes _ _ (then-right _ _ behind)))
 
 -- the four parts refuse nothing, and nothing is left
-pub whole-check : (bytes : List ℕ) → parts-check bytes ≡ none → Whole-message bytes (sizes (words bytes))
+pub whole-check : (bytes : List ℕ) → parts-check present bytes ≡ none → Whole-message bytes (sizes (words bytes))
 unfolding parts-check program-part bads-part tables-part ceilings-part nothing-left ceilings-at end-at
 whole-check bytes h =
     let behind-program = then-right _ _ h in
@@ -111,10 +112,10 @@ whole-check bytes h =
 pub whole-message : (bytes : List ℕ) (s : Sizes) → parts-of bytes ≡ Whole s → Whole-message bytes s
 unfolding parts-of
 whole-message bytes s h =
-    let (e, z) = answered-whole (parts-check bytes) (sizes (words bytes)) s h in
+    let (e, z) = answered-whole (parts-check present bytes) (sizes (words bytes)) s h in
     subst (Whole-message bytes) z (whole-check bytes e)
 
 -- what `Refused v` says
-pub refused-message : (bytes : List ℕ) (v : Verdict) → parts-of bytes ≡ Refused v → parts-check bytes ≡ some v
+pub refused-message : (bytes : List ℕ) (v : Verdict) → parts-of bytes ≡ Refused v → parts-check present bytes ≡ some v
 unfolding parts-of
-refused-message bytes v h = answered-refused (parts-check bytes) (sizes (words bytes)) v h
+refused-message bytes v h = answered-refused (parts-check present bytes) (sizes (words bytes)) v h

@@ -4,17 +4,17 @@ use mathlib.Core.Path.{_≡_}
 use mathlib.Core.List.{List}
 use mathlib.Core.Option.{none}
 use lib.ListN.{length}
+use Rattle.model.specs.Limits.{present}
 use Rattle.model.specs.declared.Sizes.{Sizes}
 use Rattle.model.specs.Words.{words}
-use Rattle.model.specs.Message.{end-at, sizes, parts-check}
+use Rattle.model.specs.Message.{maxWords, end-at, sizes, parts-check}
 use Rattle.model.specs.Demands.{Within-limits}
 use Rattle.sizes.specs.Sizes.{Placed}
-use Rattle.message.specs.Parts.{maxWords}
 
 pub record Whole-message (bytes : List ℕ) (s : Sizes) : Type 0 where
-  pub passes : parts-check bytes ≡ none
+  pub passes : parts-check present bytes ≡ none
   pub of-message : s ≡ sizes (words bytes)
-  pub limits : Within-limits s
+  pub limits : Within-limits present s
   pub words-end : length (words bytes) ≡ end-at s
   pub bytes-end : length bytes ≡ 2 * end-at s
   pub longest : end-at s ≤ maxWords

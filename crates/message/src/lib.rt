@@ -3,6 +3,7 @@ ghost use mathlib.Core.Path.{_≡_};
 ghost use mathlib.Core.List.{List};
 ghost use Prim.Native.Nat.{_+_, _*_, _^_, _<_};
 ghost use lib.ListN.{length};
+ghost use Rattle.model.specs.Limits.{present};
 ghost use Rattle.model.specs.Words.{words};
 ghost use Rattle.model.specs.Message.{Limited, part-check, program-part, bads-part, tables-part, ceilings-part};
 ghost use Rattle.sizes.specs.Sizes.{Placed, first-outside};
@@ -55,7 +56,7 @@ fn part(bytes: &[u8], at: usize, count: usize, wrong: usize, elements: usize) ->
 // The program part: rows, names, constructors, functions; tags and numbers of the rows.
 fn program_part(bytes: &[u8], s: Sizes) -> Checked
     requires { ⌜ Placed s ⌝ }
-    ensures { λ r. ⌜ r ≡ checked (program-part (words (now (bytes .entry))) s) ⌝ }
+    ensures { λ r. ⌜ r ≡ checked (program-part present (words (now (bytes .entry))) s) ⌝ }
 {
     part(bytes, 0, 4, program_outside(s), s.rows)
 }
@@ -71,7 +72,7 @@ fn bads_part(bytes: &[u8], s: Sizes) -> Checked
 // The tables part: flow, mail and state entries; first and second columns.
 fn tables_part(bytes: &[u8], s: Sizes) -> Checked
     requires { ⌜ Placed s ⌝ }
-    ensures { λ r. ⌜ r ≡ checked (tables-part (words (now (bytes .entry))) s) ⌝ }
+    ensures { λ r. ⌜ r ≡ checked (tables-part present (words (now (bytes .entry))) s) ⌝ }
 {
     part(
         bytes,

@@ -1,8 +1,9 @@
--- The cases of specs/Cases.antt, by computation: one theorem for the paper's table, one for our own.
+-- The cases of specs/Cases.antt and specs/LongerCases.antt, by computation: one theorem a table.
 use mathlib.Core.Path.{_≡_, refl}
 use mathlib.Core.List.{map}
 use Rattle.model.proofs.Opens.{model-opens}
 use Rattle.model.specs.Cases.{obtained, proved-cases, own-cases}
+use Rattle.model.specs.LongerCases.{obtained-each, expected-each, limit-cases}
 
 pub proved-cases-hold : map obtained proved-cases ≡ map (λ k. k .expected) proved-cases
 unfolding model-opens
@@ -11,3 +12,7 @@ proved-cases-hold = refl
 pub own-cases-hold : map obtained own-cases ≡ map (λ k. k .expected) own-cases
 unfolding model-opens
 own-cases-hold = refl
+
+pub limit-cases-hold : obtained-each limit-cases ≡ expected-each limit-cases
+unfolding model-opens
+limit-cases-hold = refl

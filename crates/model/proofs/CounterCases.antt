@@ -2,9 +2,14 @@
 use mathlib.Core.Path.{_≡_, refl}
 use mathlib.Core.List.{map}
 use Rattle.model.proofs.Opens.{model-opens}
-use Rattle.model.specs.VerdictCases.{at, told}
-use Rattle.model.specs.CounterCases.{crowd, crowd-classes, crowd-heads, crowd-states, crowd-with, counter-cases}
+use Rattle.model.specs.VerdictCases.{at}
+use Rattle.model.specs.CounterCases.{told-formerly, crowd, crowd-classes, crowd-heads, crowd-states, crowd-with, counter-cases}
+use Rattle.model.specs.CounterCases.{counted-by-present, present-counters, present-counters-told}
 
-pub counter-cases-hold : map told counter-cases ≡ map (λ k. k .expected) counter-cases
-unfolding model-opens at told crowd crowd-classes crowd-heads crowd-states crowd-with counter-cases
+pub counter-cases-hold : map told-formerly counter-cases ≡ map (λ k. k .expected) counter-cases
+unfolding model-opens at told-formerly crowd crowd-classes crowd-heads crowd-states crowd-with counter-cases
 counter-cases-hold = refl
+
+pub present-counters-hold : map counted-by-present present-counters ≡ present-counters-told
+unfolding model-opens counted-by-present present-counters present-counters-told
+present-counters-hold = refl

@@ -4,14 +4,17 @@ use native.Mathlib.Omega.{arith}
 use mathlib.Core.Path.{_≡_, refl, sym, _∙_, ap, subst}
 use mathlib.Core.List.{List}
 use lib.ListN.{length, take, drop, length-take, length-drop}
+use lib.Dec.{eqb}
 use Rattle.model.specs.declared.Verdict.{Verdict}
 use Rattle.model.specs.declared.Verdict.the-variants.{Safe, Length, Size, Row, Name, Scope, Bad, Entry, Open, Counters, Ceiling, Start, Met, Leak, Space}
+use Rattle.model.specs.Verdict.{number}
 use Rattle.model.specs.Message.{sizes, ceilings-at, end-at}
 use Rattle.model.specs.Words.{words, columns}
 use Rattle.model.specs.Rows.{size, tag, program}
 use Rattle.model.specs.Listing.{listed-rules}
-use Rattle.model.specs.Verify.{message, verdict, if-safe, lent-after, part-handed}
+use Rattle.model.specs.Verify.{message, verdict-within, if-safe, lent-after-within, part-handed-within}
 use Rattle.model.specs.Demands.{All-runs-followed, Refusal-changes-nothing, Safe-exactly, System-written, Runs-stay-counted}
+use Rattle.model.proofs.Exact.Tests.{fails-iff, eqb-iff}
 use Rattle.model.proofs.Exact.Parts.{words-length}
 use Rattle.model.proofs.Exact.Sound.{Ceilings-exactly}
 use Rattle.model.proofs.Exact.Sound
@@ -22,45 +25,50 @@ use Rattle.model.proofs.Rows.{program-end}
 use Rattle.model.proofs.Numbering.Counters.{row-letter-low}
 use Rattle.model.proofs.Bounded.Exact.{message-built, message-keys, tests-exact}
 
+-- number 0 is safe's alone
+safe-number : (v : Verdict) → number v ≡ 0 → v ≡ Safe
+unfolding number
+safe-number Safe h = refl
+safe-number (Length at) h = absurd (omega (arith, h))
+safe-number (Size at) h = absurd (omega (arith, h))
+safe-number (Row at) h = absurd (omega (arith, h))
+safe-number (Name at) h = absurd (omega (arith, h))
+safe-number (Scope at) h = absurd (omega (arith, h))
+safe-number (Bad at) h = absurd (omega (arith, h))
+safe-number (Entry at) h = absurd (omega (arith, h))
+safe-number (Open at) h = absurd (omega (arith, h))
+safe-number (Counters at) h = absurd (omega (arith, h))
+safe-number (Ceiling at) h = absurd (omega (arith, h))
+safe-number (Start at) h = absurd (omega (arith, h))
+safe-number (Met at) h = absurd (omega (arith, h))
+safe-number (Leak at) h = absurd (omega (arith, h))
+safe-number (Space at) h = absurd (omega (arith, h))
+
 -- what an answer other than safe gives
 not-safe : {A : Type 0} (v : Verdict) (a b : A) → (v ≡ Safe → ⊥) → if-safe v a b ≡ b
 unfolding if-safe
-not-safe Safe a b h = absurd (h refl)
-not-safe (Length at) a b h = refl
-not-safe (Size at) a b h = refl
-not-safe (Row at) a b h = refl
-not-safe (Name at) a b h = refl
-not-safe (Scope at) a b h = refl
-not-safe (Bad at) a b h = refl
-not-safe (Entry at) a b h = refl
-not-safe (Open at) a b h = refl
-not-safe (Counters at) a b h = refl
-not-safe (Ceiling at) a b h = refl
-not-safe (Start at) a b h = refl
-not-safe (Met at) a b h = refl
-not-safe (Leak at) a b h = refl
-not-safe (Space at) a b h = refl
+not-safe v a b h = rw (fails-iff (eqb (number v) 0) (eqb-iff (number v) 0) .1 (λ z. h (safe-number v z)), if-safe)
 
 -- Demand 1
 pub refusal-changes-nothing : Refusal-changes-nothing
-unfolding lent-after part-handed
+unfolding lent-after-within part-handed-within
 refusal-changes-nothing =
     record {
-      lent-unchanged = λ bytes lent h. not-safe (verdict bytes (length lent)) _ lent h;
-      nothing-handed = λ bytes lent h. ap (λ (n : ℕ). take n bytes) (not-safe (verdict bytes lent) _ 0 h);
+      lent-unchanged = λ most bytes lent h. not-safe (verdict-within most bytes (length lent)) _ lent h;
+      nothing-handed = λ most bytes lent h. ap (λ (n : ℕ). take n bytes) (not-safe (verdict-within most bytes lent) _ 0 h);
     }
 
 -- refusals 11 to 13 are exact
 ceilings-exactly : Ceilings-exactly
-ceilings-exactly bytes short formed = tests-exact bytes short (message-keys bytes (formed .program .rows-fit) (formed .form .mail)) (formed .form .bads)
+ceilings-exactly most bytes short formed = tests-exact bytes short (message-keys bytes (formed .program .rows-fit) (formed .form .mail)) (formed .form .bads)
 
 -- Demand 2
 pub safe-exactly : Safe-exactly
 safe-exactly = Sound.safe-exactly ceilings-exactly
 
 pub system-written : System-written
-unfolding lent-after if-safe
-system-written bytes lent safe = rw safe
+unfolding lent-after-within if-safe number
+system-written most bytes lent safe = rw safe
 
 -- the rows of a message that is whole are as many as its sizes say
 column-whole : (ws : List ℕ) (n at : ℕ) → at + n ≤ length ws → length (take n (drop at ws)) ≡ n
@@ -80,11 +88,11 @@ past-the-end bytes = program-end (words bytes) (sizes (words bytes)) _ (omega ar
 
 -- Demand 3
 pub runs-stay-counted : Runs-stay-counted
-runs-stay-counted bytes lent short safe =
+runs-stay-counted most bytes lent short safe =
     let m = message bytes in
-    let sound = safe-exactly bytes (length lent) short .0 safe in
+    let sound = safe-exactly most bytes (length lent) short .0 safe in
     let w = rows-whole bytes (sound .whole) in
     subst (All-runs-followed m)
-    (sym (ap listed-rules (system-written bytes lent safe) ∙ listed-system (m .program) (m .tables) lent))
+    (sym (ap listed-rules (system-written most bytes lent safe) ∙ listed-system (m .program) (m .tables) lent))
     (all-runs-followed m (sound .program .rows-fit) w (past-the-end bytes)
     (row-letter-low (m .program) (message-built bytes (sound .program .rows-fit))) (sound .closed) (sound .bounded))

@@ -28,5 +28,6 @@ pub mod Stepped
 pub mod Runs
 pub mod Demands
 pub mod Refusals
+pub mod Longer
 pub mod Controls
 pub mod Transitions

@@ -12,7 +12,7 @@ use lib.Dec.{leb}
 use Rattle.model.specs.declared.Sizes.{Sizes}
 use Rattle.model.specs.declared.Verdict.{Verdict}
 use Rattle.model.specs.declared.Verdict.the-variants.{Safe, Row, Name, Scope, Bad, Entry, Open, Counters, Ceiling, Start, Met, Space}
-use Rattle.model.specs.Limits.{maxCounters}
+use Rattle.model.specs.Limits.{Limits}
 use Rattle.model.specs.Words.{Columns, left, right}
 use Rattle.model.specs.Verdict.{Check, _>>_}
 use Rattle.model.specs.Message.{bads-at, tables-at, ceilings-at, parts-check}
@@ -28,7 +28,7 @@ use Rattle.model.specs.Rules.{rules}
 use Rattle.model.specs.Listing.{system-words, space-check}
 use Rattle.model.specs.Markings.{initial}
 use Rattle.model.specs.Ceilings.{Ceilings, ceiling-entries, ceiling-step, ceilings-ahead, ceilings-of, ceiling-check, start-check, met-check, leak-check}
-use Rattle.model.specs.Verify.{Message, message, program-check, evidence-check, ceilings-check, message-check, check, answer, verdict}
+use Rattle.model.specs.Verify.{Message, message, program-check, evidence-check, ceilings-check, message-check, check, answer, verdict-within}
 use Rattle.model.specs.Wanted.{Present, Wanted-first}
 use Rattle.model.specs.Wanted.{Entry as Table-entry}
 use Rattle.model.specs.Demands.{Bytes, Listed, Under-one}
@@ -82,7 +82,7 @@ skip b e = rw e
 stop : {a : Check} {v : Verdict} (b : Check) → a ≡ some v → (a >> b) ≡ some v
 stop {a} {v} b e = then-some a b v .1 (inl e)
 
-module _ (bytes : List ℕ) (short : Bytes bytes) (lent : ℕ) where
+module _ (most : Limits) (bytes : List ℕ) (short : Bytes bytes) (lent : ℕ) where
   abbrev m : Message
   m = message bytes
 
@@ -113,14 +113,14 @@ module _ (bytes : List ℕ) (short : Bytes bytes) (lent : ℕ) where
       then-some-iff _ _ v (again-none p _) (first-some (size p) (bound-again p) (λ r b. again-iff p r) (λ r. Name (4 + r)) v)
       (Iff·trans (unless-some _ (Name 1) v) (Iff·and (all-refuted (p .names) _ (binder-iff p)) Iff·rfl))
 
-  outside : Passed bytes 5 → (r : ℕ) → r < size p → (out-of-scope p r ≡ true) ↔ Reads-outside p r
+  outside : Passed most bytes 5 → (r : ℕ) → r < size p → (out-of-scope p r ≡ true) ↔ Reads-outside p r
   outside (names-passed (rows-passed x fit) again bound) r b = outside-iff p (reads-name p fit) (once-iff p .0 again) bound r b
 
-  scope-some : Passed bytes 5 → (v : Verdict) → (scope-check p ≡ some v) ↔ ((r : ℕ) × First-such (size p) (Reads-outside p) r × (Scope (4 + r) ≡ v))
+  scope-some : Passed most bytes 5 → (v : Verdict) → (scope-check p ≡ some v) ↔ ((r : ℕ) × First-such (size p) (Reads-outside p) r × (Scope (4 + r) ≡ v))
   unfolding scope-check
   scope-some x v = first-some (size p) (out-of-scope p) (outside x) (λ r. Scope (4 + r)) v
 
-  scope-none : Passed bytes 5 → (scope-check p ≡ none) ↔ ((r : ℕ) → r < size p → Reads-outside p r → ⊥)
+  scope-none : Passed most bytes 5 → (scope-check p ≡ none) ↔ ((r : ℕ) → r < size p → Reads-outside p r → ⊥)
   unfolding scope-check
   scope-none x = first-none (size p) (out-of-scope p) _ (λ r b. fails-iff _ (outside x r b))
 
@@ -151,13 +151,13 @@ module _ (bytes : List ℕ) (short : Bytes bytes) (lent : ℕ) where
       then-some-iff _ _ v (unless-iff _ _ (found-iff t opening)) (Iff·trans (unless-some _ _ v) (Iff·and (missing-iff t opening) Iff·rfl))
       (first-some (t .states .size) _ (λ i b. lacks-iff p t i) (λ i. Open (tables-at s + 3 + s .flows + s .mails + i)) v)
 
-  counter-some : (v : Verdict) → (counter-check s p t ≡ some v) ↔ ((counter-count p t ≤ maxCounters → ⊥) × (Counters (tables-at s + 2) ≡ v))
+  counter-some : (v : Verdict) → (counter-check most s p t ≡ some v) ↔ ((counter-count p t ≤ most .counters → ⊥) × (Counters (tables-at s + 2) ≡ v))
   unfolding counter-check
-  counter-some v = unless-refutes _ _ v (leb-iff (counter-count p t) maxCounters)
+  counter-some v = unless-refutes _ _ v (leb-iff (counter-count p t) (most .counters))
 
-  counter-none : (counter-check s p t ≡ none) ↔ (counter-count p t ≤ maxCounters)
+  counter-none : (counter-check most s p t ≡ none) ↔ (counter-count p t ≤ most .counters)
   unfolding counter-check
-  counter-none = unless-iff _ _ (leb-iff (counter-count p t) maxCounters)
+  counter-none = unless-iff _ _ (leb-iff (counter-count p t) (most .counters))
 
   ceiling-some : (v : Verdict) → (ceiling-check (m .words) s (counter-count p t) ≡ some v) ↔ ((e : ℕ) × Wrong (ceiling-step (bs .counters)) (ceiling-entries (m .words) s) (ceilings-ahead (s .ceilings)) e × (Ceiling (ceilings-at s + 2 + e) ≡ v))
   unfolding ceiling-check message ceilings-of
@@ -167,19 +167,19 @@ module _ (bytes : List ℕ) (short : Bytes bytes) (lent : ℕ) where
   unfolding start-check
   start-some v = unless-refutes _ _ v (under-some-exact bs (initial p t))
 
-  keys : Passed bytes 12 → Keys p t
+  keys : Passed most bytes 12 → Keys p t
   keys (start-passed (ceilings-passed (counters-passed (closed-passed (entries-passed (bads-passed (scopes-passed (names-passed (rows-passed x fit) again bound) within) bads) flow mail states) closed) few) form) under) = message-keys bytes fit mail
 
-  bads-known : Passed bytes 12 → first-wrong (bad-step p) (m .bads) (replicate (s .bads) bad) ≡ none
+  bads-known : Passed most bytes 12 → first-wrong (bad-step p) (m .bads) (replicate (s .bads) bad) ≡ none
   bads-known (start-passed (ceilings-passed (counters-passed (closed-passed (entries-passed (bads-passed x bads) flow mail states) closed) few) form) under) = bads
 
-  met-none : Passed bytes 12 → (met-check s p t bs (m .bads) ≡ none) ↔ ((j : ℕ) → j < s .bads → Allowed m j → ⊥)
+  met-none : Passed most bytes 12 → (met-check s p t bs (m .bads) ≡ none) ↔ ((j : ℕ) → j < s .bads → Allowed m j → ⊥)
   met-none x = met-exact bytes short (keys x) (bads-known x)
 
-  met-some : Passed bytes 12 → (v : Verdict) → (met-check s p t bs (m .bads) ≡ some v) ↔ ((j : ℕ) × First-such (s .bads) (Allowed m) j × (Met (bads-at s + 2 + bad-row p (m .bads) j) ≡ v))
+  met-some : Passed most bytes 12 → (v : Verdict) → (met-check s p t bs (m .bads) ≡ some v) ↔ ((j : ℕ) × First-such (s .bads) (Allowed m) j × (Met (bads-at s + 2 + bad-row p (m .bads) j) ≡ v))
   met-some x = met-refuses bytes short (keys x) (bads-known x)
 
-  keys-met : Passed bytes 13 → Keys p t
+  keys-met : Passed most bytes 13 → Keys p t
   keys-met (bad-passed x n) = keys x
 
   space-some : (v : Verdict) → (space-check p t lent ≡ some v) ↔ ((length (system-words p t) ≤ lent → ⊥) × (Space (length (system-words p t)) ≡ v))
@@ -188,7 +188,7 @@ module _ (bytes : List ℕ) (short : Bytes bytes) (lent : ℕ) where
 
   -- a check, what is known before it, and after it where it refuses nothing
   record Stage (c : Check) (Before After : Type 0) : Type 0 where
-    refuses : Before → (v : Verdict) → c ≡ some v → Refused bytes lent v
+    refuses : Before → (v : Verdict) → c ≡ some v → Refused most bytes lent v
     passes : Before → c ≡ none → After
 
   infixr 20 _then_
@@ -200,10 +200,10 @@ module _ (bytes : List ℕ) (short : Bytes bytes) (lent : ℕ) where
       }
 
   -- the verdict that a way to be refused gives
-  told : {v w : Verdict} → Refused bytes lent w → w ≡ v → Refused bytes lent v
-  told r q = subst (Refused bytes lent) q r
+  told : {v w : Verdict} → Refused most bytes lent w → w ≡ v → Refused most bytes lent v
+  told r q = subst (Refused most bytes lent) q r
 
-  parts-stage : Stage (parts-check bytes) (Unit {0}) (Passed bytes 3)
+  parts-stage : Stage (parts-check most bytes) (Unit {0}) (Passed most bytes 3)
   unfolding message
   parts-stage =
       record {
@@ -215,18 +215,18 @@ module _ (bytes : List ℕ) (short : Bytes bytes) (lent : ℕ) where
             (z .1))
             w)
             (λ y. let (w, l, q) = y in told (bytes-remain w l) q)
-            (parts-some bytes v .0 h);
-        passes = λ x h. let (a, b) = parts-none bytes .0 h in parts-passed a b;
+            (parts-some most bytes v .0 h);
+        passes = λ x h. let (a, b) = parts-none most bytes .0 h in parts-passed a b;
       }
 
-  row-stage : Stage (row-check p) (Passed bytes 3) (Passed bytes 4)
+  row-stage : Stage (row-check p) (Passed most bytes 3) (Passed most bytes 4)
   row-stage =
       record {
         refuses = λ x v h. let (r, w, q) = row-some v .0 h in told (row-wrong r x w) q;
         passes = λ x h. rows-passed x (row-none p .0 h);
       }
 
-  name-stage : Stage (name-check p) (Passed bytes 4) (Passed bytes 5)
+  name-stage : Stage (name-check p) (Passed most bytes 4) (Passed most bytes 5)
   name-stage =
       record {
         refuses = λ x v h. ⊎-elim (λ y. let (r, f, q) = y in told (name-again r x f) q)
@@ -235,14 +235,14 @@ module _ (bytes : List ℕ) (short : Bytes bytes) (lent : ℕ) where
         passes = λ x h. let (once, bound) = name-none p .0 h in names-passed x (once-iff p .1 once) bound;
       }
 
-  scope-stage : Stage (scope-check p) (Passed bytes 5) (Passed bytes 6)
+  scope-stage : Stage (scope-check p) (Passed most bytes 5) (Passed most bytes 6)
   scope-stage =
       record {
         refuses = λ x v h. let (r, f, q) = scope-some x v .0 h in told (scope-left r x f) q;
         passes = λ x h. scopes-passed x (scope-none x .0 h);
       }
 
-  bad-stage : Stage (bad-check (m .words) s p) (Passed bytes 6) (Passed bytes 7)
+  bad-stage : Stage (bad-check (m .words) s p) (Passed most bytes 6) (Passed most bytes 7)
   unfolding message
   bad-stage =
       record {
@@ -250,7 +250,7 @@ module _ (bytes : List ℕ) (short : Bytes bytes) (lent : ℕ) where
         passes = λ x h. bads-passed x (bad-none (m .words) s p .0 h);
       }
 
-  entry-stage : Stage (entry-check s p t) (Passed bytes 7) (Passed bytes 8)
+  entry-stage : Stage (entry-check s p t) (Passed most bytes 7) (Passed most bytes 8)
   entry-stage =
       record {
         refuses = λ x v h. ⊎-elim (λ y. let (i, f, q) = y in told (flow-misplaced i x f) q)
@@ -261,7 +261,7 @@ module _ (bytes : List ℕ) (short : Bytes bytes) (lent : ℕ) where
         passes = λ x h. let (flow, (mail, states)) = entry-none s p t .0 h in entries-passed x flow mail states;
       }
 
-  open-stage : Stage (open-check s p t) (Passed bytes 8) (Passed bytes 9)
+  open-stage : Stage (open-check s p t) (Passed most bytes 8) (Passed most bytes 9)
   unfolding message
   open-stage =
       record {
@@ -271,14 +271,14 @@ module _ (bytes : List ℕ) (short : Bytes bytes) (lent : ℕ) where
         passes = λ x h. closed-passed x (open-none (m .words) s t .0 h);
       }
 
-  counter-stage : Stage (counter-check s p t) (Passed bytes 9) (Passed bytes 10)
+  counter-stage : Stage (counter-check most s p t) (Passed most bytes 9) (Passed most bytes 10)
   counter-stage =
       record {
         refuses = λ x v h. let (n, q) = counter-some v .0 h in told (counters-over x (omega arith)) q;
         passes = λ x h. counters-passed x (counter-none .0 h);
       }
 
-  ceiling-stage : Stage (ceiling-check (m .words) s (counter-count p t)) (Passed bytes 10) (Passed bytes 11)
+  ceiling-stage : Stage (ceiling-check (m .words) s (counter-count p t)) (Passed most bytes 10) (Passed most bytes 11)
   unfolding message ceilings-of
   ceiling-stage =
       record {
@@ -286,28 +286,28 @@ module _ (bytes : List ℕ) (short : Bytes bytes) (lent : ℕ) where
         passes = λ x h. ceilings-passed x (ceiling-none (m .words) s (bs .counters) .0 h);
       }
 
-  start-stage : Stage (start-check s p t bs) (Passed bytes 11) (Passed bytes 12)
+  start-stage : Stage (start-check s p t bs) (Passed most bytes 11) (Passed most bytes 12)
   start-stage =
       record {
         refuses = λ x v h. let (n, q) = start-some v .0 h in told (start-outside x n) q;
         passes = λ x h. start-passed x (start-check-exact s p t bs .0 h);
       }
 
-  met-stage : Stage (met-check s p t bs (m .bads)) (Passed bytes 12) (Passed bytes 13)
+  met-stage : Stage (met-check s p t bs (m .bads)) (Passed most bytes 12) (Passed most bytes 13)
   met-stage =
       record {
         refuses = λ x v h. let (j, f, q) = met-some x v .0 h in told (bad-met j x f) q;
         passes = λ x h. bad-passed x (met-none x .0 h);
       }
 
-  leak-stage : Stage (leak-check (m .words) s bs (rules p t)) (Passed bytes 13) (Passed bytes 14)
+  leak-stage : Stage (leak-check (m .words) s bs (rules p t)) (Passed most bytes 13) (Passed most bytes 14)
   leak-stage =
       record {
         refuses = λ x v h. let (k, f, q) = leak-refuses bytes short (keys-met x) v .0 h in told (ceiling-left k x f) q;
         passes = λ x h. kept-passed x (leak-none bytes short (keys-met x) .0 h);
       }
 
-  space-stage : Stage (space-check p t lent) (Passed bytes 14) (Unit {0})
+  space-stage : Stage (space-check p t lent) (Passed most bytes 14) (Unit {0})
   space-stage =
       record {
         refuses = λ x v h. let (n, q) = space-some v .0 h in told (no-space x (omega arith)) q;
@@ -317,27 +317,27 @@ module _ (bytes : List ℕ) (short : Bytes bytes) (lent : ℕ) where
   -- "Checked in that order"
   abbrev checks : List Check
   checks =
-      row-check p ∷ name-check p ∷ scope-check p ∷ bad-check (m .words) s p ∷ entry-check s p t ∷ open-check s p t ∷ counter-check s p t ∷
+      row-check p ∷ name-check p ∷ scope-check p ∷ bad-check (m .words) s p ∷ entry-check s p t ∷ open-check s p t ∷ counter-check most s p t ∷
       ceiling-check (m .words) s (counter-count p t) ∷ start-check s p t bs ∷ met-check s p t bs (m .bads) ∷ leak-check (m .words) s bs (rules p t) ∷ []
 
   abbrev from : List Check → Check
   from [] = space-check p t lent
   from (c ∷ cs) = c >> from cs
 
-  in-order : check bytes lent ≡ (parts-check bytes >> from checks)
+  in-order : check most bytes lent ≡ (parts-check most bytes >> from checks)
   unfolding check message-check program-check evidence-check ceilings-check
   in-order = simp (program-check, evidence-check, ceilings-check, then-assoc)
 
-  refuses-as-said : (v : Verdict) → check bytes lent ≡ some v → Refused bytes lent v
+  refuses-as-said : (v : Verdict) → check most bytes lent ≡ some v → Refused most bytes lent v
   refuses-as-said v h =
       (parts-stage then row-stage then name-stage then scope-stage then bad-stage then entry-stage then open-stage then counter-stage then
       ceiling-stage then start-stage then met-stage then leak-stage then space-stage)
       .refuses tt v (sym in-order ∙ h)
 
   -- Where checks have passed, the answer is that of the others.
-  others : {k : ℕ} → Passed bytes k → check bytes lent ≡ from (drop (k - 3) checks)
+  others : {k : ℕ} → Passed most bytes k → check most bytes lent ≡ from (drop (k - 3) checks)
   unfolding message ceilings-of
-  others (parts-passed a b) = in-order ∙ skip _ (parts-none bytes .1 (a, b))
+  others (parts-passed a b) = in-order ∙ skip _ (parts-none most bytes .1 (a, b))
   others (rows-passed x fit) = others x ∙ skip _ (row-none p .1 fit)
   others (names-passed x again bound) = others x ∙ skip _ (name-none p .1 (once-iff p .0 again, bound))
   others (scopes-passed x within) = others x ∙ skip _ (scope-none x .1 within)
@@ -351,18 +351,18 @@ module _ (bytes : List ℕ) (short : Bytes bytes) (lent : ℕ) where
   others (kept-passed x none-left) = others x ∙ skip _ (leak-none bytes short (keys-met x) .1 none-left)
 
   -- A line that holds is the answer.
-  part-told : {v : Verdict} (k : ℕ) (part : Message-part) → Behind (Whole (m .words)) (parts s) k part → Part-wrong (m .words) part v → check bytes lent ≡ some v
+  part-told : {v : Verdict} (k : ℕ) (part : Message-part) → Behind (Whole (m .words)) (parts most s) k part → Part-wrong (m .words) part v → check most bytes lent ≡ some v
   unfolding message
-  part-told {v} k part b w = in-order ∙ stop _ (parts-some bytes v .1 (inl (k, part, b, w)))
+  part-told {v} k part b w = in-order ∙ stop _ (parts-some most bytes v .1 (inl (k, part, b, w)))
 
-  said-refuses : (v : Verdict) → Refused bytes lent v → check bytes lent ≡ some v
+  said-refuses : (v : Verdict) → Refused most bytes lent v → check most bytes lent ≡ some v
   unfolding message
   said-refuses v (sizes-short k part b n) = part-told k part b (inl (n, refl))
   said-refuses v (arrays-short k part b w n) =
       test (leb (part .first + length (part .sizes)) (length (m .words)))
       (λ e. part-told k part b (inr (leb-iff _ _ .0 e, inr (w, (n, refl)))))
       (λ e. part-told k part b (inl (fails-iff _ (leb-iff _ _) .0 e, refl)))
-  said-refuses v (bytes-remain w l) = in-order ∙ stop _ (parts-some bytes v .1 (inr (w, l, refl)))
+  said-refuses v (bytes-remain w l) = in-order ∙ stop _ (parts-some most bytes v .1 (inr (w, l, refl)))
   said-refuses v (size-outside k i part l b whole c n) = part-told k part b (inr (whole, inl (i, l, c, n, refl)))
   said-refuses v (row-wrong r x w) = others x ∙ stop _ (row-some v .1 (r, w, refl))
   said-refuses v (name-again r x f) = others x ∙ stop _ (name-some v .1 (inl (r, f, refl)))
@@ -388,20 +388,20 @@ answer-iff (some w) v r = (λ h. ap some (h .0), λ h. (Option·some-injective w
 
 -- The table is exact
 pub refused-exactly : Refused-exactly
-unfolding verdict
-refused-exactly bytes lent short v =
-    Iff·trans (answer-iff (check bytes lent) v (check-refuses bytes lent)) (refuses-as-said bytes short lent v, said-refuses bytes short lent v)
+unfolding verdict-within
+refused-exactly most bytes lent short v =
+    Iff·trans (answer-iff (check most bytes lent) v (check-refuses most bytes lent)) (refuses-as-said most bytes short lent v, said-refuses most bytes short lent v)
 
 -- The verdict is what is said of it: safe of a sound message, or a line of the table
 pub verdict-exactly : Verdict-exactly
-verdict-exactly bytes lent short v = (said, given v)
+verdict-exactly most bytes lent short v = (said, given v)
   where
-    given : (w : Verdict) → Said bytes lent w → verdict bytes lent ≡ w
-    given w (of-sound x) = safe-exactly bytes lent short .1 x
-    given w (of-refused u x) = refused-exactly bytes lent short u .1 x .0
+    given : (w : Verdict) → Said most bytes lent w → verdict-within most bytes lent ≡ w
+    given w (of-sound x) = safe-exactly most bytes lent short .1 x
+    given w (of-refused u x) = refused-exactly most bytes lent short u .1 x .0
 
-    said : verdict bytes lent ≡ v → Said bytes lent v
+    said : verdict-within most bytes lent ≡ v → Said most bytes lent v
     said h =
-        by-option (check bytes lent)
-        (λ e. let safe = verdict-safe bytes lent .1 e in subst (Said bytes lent) (sym safe ∙ h) (of-sound (safe-exactly bytes lent short .0 safe)))
-        (λ w e. of-refused v (refused-exactly bytes lent short v .0 (h, λ q. Option·none-ne-some w (sym (verdict-safe bytes lent .0 (h ∙ q)) ∙ e))))
+        by-option (check most bytes lent)
+        (λ e. let safe = verdict-safe most bytes lent .1 e in subst (Said most bytes lent) (sym safe ∙ h) (of-sound (safe-exactly most bytes lent short .0 safe)))
+        (λ w e. of-refused v (refused-exactly most bytes lent short v .0 (h, λ q. Option·none-ne-some w (sym (verdict-safe most bytes lent .0 (h ∙ q)) ∙ e))))

@@ -4,9 +4,10 @@
 use Prim.Native.Nat.{ℕ, _+_, _/_, _%_}
 use mathlib.Core.List.{List, [], _∷_, _++_, map}
 use lib.ListN.{length, take, set, replicate}
+use Rattle.model.specs.Limits.{Limits, present}
 use Rattle.model.specs.Rules.{from-all}
 use Rattle.model.specs.Verdict.{number, place}
-use Rattle.model.specs.Verify.{verdict, lent-after, part-handed}
+use Rattle.model.specs.Verify.{verdict-within, lent-after-within, part-handed-within}
 
 -- The parts of a message, from their rows or entries
 
@@ -43,10 +44,14 @@ pub record Case : Type 0 where
 unfoldable pub outcome : ℕ → ℕ → List ℕ → List ℕ → List ℕ
 outcome n at part after = (n ∷ at ∷ length part ∷ part) ++ after
 
-unfoldable pub obtained : Case → List ℕ
-obtained k =
-    let v = verdict (k .bytes) (length (k .lent)) in
-    outcome (number v) (place v) (part-handed (k .bytes) (length (k .lent))) (lent-after (k .bytes) (k .lent))
+unfoldable pub obtained-within : Limits → Case → List ℕ
+obtained-within most k =
+    let v = verdict-within most (k .bytes) (length (k .lent)) in
+    outcome (number v) (place v) (part-handed-within most (k .bytes) (length (k .lent)))
+    (lent-after-within most (k .bytes) (k .lent))
+
+abbrev pub obtained : Case → List ℕ
+obtained = obtained-within present
 
 -- n lent words, each 9
 unfoldable pub lend : ℕ → List ℕ
@@ -113,8 +118,8 @@ proved-cases =
     refused 30 [] 1 0 ∷
     -- A: 0 at 0
     safe 6 a-program (to-bytes a-words) a-listing ∷
-    -- R 1,025: 2 at 0
-    refused 30 (with-word 0 1025) 2 0 ∷
+    -- R 1,025: 2 at 0, which document 02, (vi), makes R 1,537
+    refused 30 (with-word 0 1537) 2 0 ∷
     -- a byte more: 1 at 79
     refused 30 (to-bytes a-words ++ (0 ∷ [])) 1 79 ∷
     -- row 4 (5,1): 4 at 8 (the number of row r is word 14 + r)

@@ -1,13 +1,25 @@
--- Refusal 9, over 512 counters, at the limit and one past it, on whole messages. They are long, so their parts are
--- made by functions. oracle/tests/cases.rs makes the same messages and holds the other implementation to the same
--- answers.
+-- Refusal 9, over 512 counters, at the limit and one past it, on whole messages, by the gate of the former limits:
+-- messages at the present ones are past what computes. They are long, so their parts are made by functions.
+-- oracle/tests/cases.rs makes the same messages and holds the other implementation to the same answers. By the present
+-- limits the check alone is computed, at 1,024 counters and one past them.
 use Prim.Native.Nat.{ℕ, _+_, _*_}
 use mathlib.Core.List.{List, [], _∷_, _++_, map}
 use lib.ListN.{drop}
+use Rattle.model.specs.declared.Sizes.{Sizes}
+use Rattle.model.specs.Limits.{former, present}
 use Rattle.model.specs.Index.{gather}
+use Rattle.model.specs.Verdict.{number, place}
+use Rattle.model.specs.Rows.{Program}
+use Rattle.model.specs.Tables.{Tables}
+use Rattle.model.specs.Counters.{counter-check}
 use Rattle.model.specs.Rules.{from-all}
+use Rattle.model.specs.Verify.{verdict-within, answer}
 use Rattle.model.specs.Cases.{Pairs, program-words, bad-words, table-words, ceiling-words, to-bytes}
 use Rattle.model.specs.VerdictCases.{Verdict-case, at}
+
+-- number and place by the former limits
+unfoldable pub told-formerly : Verdict-case → List ℕ
+told-formerly k = let v = verdict-within former (k .bytes) 100 in number v ∷ place v ∷ []
 
 -- receive { x -> 15 times p = spawn x; case x of { 15 times c0 -> x } }: 65 rows
 unfoldable pub crowd : Pairs
@@ -47,3 +59,40 @@ counter-cases =
     -- words.
     at 11 1173 (crowd-with (drop 1 crowd-states)) ∷
     []
+
+-- Refusal 9 of a program of one row with so many states and mail entries: it asks only how many states there are. The
+-- mail is the start's own address, one letter. Size S is word 18.
+unfoldable pub counted-by-present : ℕ × ℕ → List ℕ
+counted-by-present k =
+    let s : Sizes = record {
+      rows = 1;
+      names = 1;
+      constructors = 0;
+      functions = 0;
+      bads = 1;
+      badrows = 4;
+      flows = 0;
+      mails = k .1;
+      states = k .0;
+      ceilings = 0;
+      entries = 0;
+    } in
+    let p : Program = record {
+      names = 1;
+      constructors = 0;
+      functions = 0;
+      rows = record { size = 1; lefts = 1 ∷ []; rights = 0 ∷ [] };
+    } in
+    let t : Tables = record {
+      flow = record { size = 0; lefts = []; rights = [] };
+      mail = record { size = k .1; lefts = 1 ∷ []; rights = 1 ∷ [] };
+      states = record { size = k .0; lefts = []; rights = [] };
+    } in
+    let v = answer (counter-check present s p t) in number v ∷ place v ∷ []
+
+-- states and mail entries
+unfoldable pub present-counters : List (ℕ × ℕ)
+present-counters = (1024, 0) ∷ (1023, 1) ∷ (1024, 1) ∷ (1025, 0) ∷ []
+
+unfoldable pub present-counters-told : List (List ℕ)
+present-counters-told = (0 ∷ 0 ∷ []) ∷ (0 ∷ 0 ∷ []) ∷ (9 ∷ 18 ∷ []) ∷ (9 ∷ 18 ∷ []) ∷ []

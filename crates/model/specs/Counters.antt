@@ -5,7 +5,7 @@ use mathlib.Core.Option.{Option, some, none}
 use lib.Dec.{leb, ltb, eqb}
 use Rattle.model.specs.declared.Sizes.{Sizes}
 use Rattle.model.specs.declared.Verdict.the-variants.{Counters}
-use Rattle.model.specs.Limits.{maxCounters}
+use Rattle.model.specs.Limits.{Limits}
 use Rattle.model.specs.Index.{any, count}
 use Rattle.model.specs.Words.{left, right}
 use Rattle.model.specs.Verdict.{Check, unless}
@@ -47,6 +47,6 @@ counter-of p t (state-of c r) = elim
 counter-of p t (letter-of c l) =
     elim (ltb l (letters p) && has-letter p t (letter-key p c l)) [ true ↦ some (letter-index p t c l) | false ↦ none ]
 
--- 9: "over 512: size S"
-unfoldable pub counter-check : Sizes → Program → Tables → Check
-counter-check s p t = unless (leb (counter-count p t) maxCounters) (Counters (tables-at s + 2))
+-- 9: "over 512: size S", by the limits in force
+unfoldable pub counter-check : Limits → Sizes → Program → Tables → Check
+counter-check most s p t = unless (leb (counter-count p t) (most .counters)) (Counters (tables-at s + 2))

@@ -1,5 +1,5 @@
--- The three demands on a verifier, as types over the definitions: what is to be proved of `verdict`, `lent-after` and
--- `part-handed`.
+-- The three demands on a verifier of any limits, as types over the definitions: what is to be proved of
+-- `verdict-within`, `lent-after-within` and `part-handed-within`, and so of the gate's own.
 use Prim.Native.Nat.{ℕ, _+_, _*_, _≤_, _<_}
 use mathlib.Core.Logic.{_↔_, _⊎_}
 use mathlib.Core.Path.{_≡_}
@@ -9,9 +9,8 @@ use mathlib.Core.Option.{Option, some, none}
 use lib.ListN.{length, take, getD, replicate}
 use Rattle.model.specs.declared.Sizes.{Sizes}
 use Rattle.model.specs.declared.Verdict.the-variants.{Safe}
-use Rattle.model.specs.Limits.{maxRows, maxNames, maxConstructors, maxFunctions, maxBads, minBadRows, maxBadRows}
-use Rattle.model.specs.Limits.{maxFlows, maxMails, maxStates, maxCeilings, maxCeilingEntries, maxCounters}
-use Rattle.model.specs.Limits.{omega-limit}
+use Rattle.model.specs.Limits.{Limits, maxNames, maxConstructors, maxFunctions, maxBads, minBadRows, maxBadRows}
+use Rattle.model.specs.Limits.{maxFlows, maxMails, maxCeilings, maxCeilingEntries, omega-limit}
 use Rattle.model.specs.Words.{Columns, left, right}
 use Rattle.model.specs.Message.{end-at}
 use Rattle.model.specs.Reader.{first-wrong}
@@ -30,7 +29,7 @@ use Rattle.model.specs.Rules.{Rule, rules}
 use Rattle.model.specs.Listing.{system-words, written, listed-rules}
 use Rattle.model.specs.Markings.{Marking, usable, fire, initial, fire-all, count-in}
 use Rattle.model.specs.Ceilings.{Ceilings, ceiling-entries, ceiling-step, ceilings-ahead}
-use Rattle.model.specs.Verify.{Message, message, verdict, lent-after, part-handed}
+use Rattle.model.specs.Verify.{Message, message, verdict-within, lent-after-within, part-handed-within}
 
 -- the bytes of a message are bytes: every list that a slice of bytes holds is so
 abbrev pub Bytes : List ℕ → Type 0
@@ -39,8 +38,12 @@ Bytes bytes = (i : ℕ) → getD bytes i 0 < 256
 -- Demand 1: every message gets a verdict (`verdict` is a function of any bytes), and a refusal leaves the lent words
 -- unchanged and hands on nothing.
 pub record Refusal-changes-nothing : Type 0 where
-  pub lent-unchanged : (bytes lent : List ℕ) → (verdict bytes (length lent) ≡ Safe → ⊥) → lent-after bytes lent ≡ lent
-  pub nothing-handed : (bytes : List ℕ) (lent : ℕ) → (verdict bytes lent ≡ Safe → ⊥) → part-handed bytes lent ≡ []
+  pub lent-unchanged :
+      (most : Limits) (bytes lent : List ℕ) → (verdict-within most bytes (length lent) ≡ Safe → ⊥) →
+      lent-after-within most bytes lent ≡ lent
+  pub nothing-handed :
+      (most : Limits) (bytes : List ℕ) (lent : ℕ) → (verdict-within most bytes lent ≡ Safe → ⊥) →
+      part-handed-within most bytes lent ≡ []
 
 -- Demand 2: "The verdict is safe exactly when ..."
 
@@ -48,8 +51,8 @@ abbrev pub Between : ℕ → ℕ → ℕ → Type 0
 Between least most n = (least ≤ n) × (n ≤ most)
 
 -- "the limits ... suffice"
-pub record Within-limits (s : Sizes) : Type 0 where
-  pub rows : Between 1 maxRows (s .rows)
+pub record Within-limits (most : Limits) (s : Sizes) : Type 0 where
+  pub rows : Between 1 (most .rows) (s .rows)
   pub names : Between 1 maxNames (s .names)
   pub constructors : s .constructors ≤ maxConstructors
   pub functions : s .functions ≤ maxFunctions
@@ -57,7 +60,7 @@ pub record Within-limits (s : Sizes) : Type 0 where
   pub badrows : Between minBadRows maxBadRows (s .badrows)
   pub flows : s .flows ≤ maxFlows
   pub mails : s .mails ≤ maxMails
-  pub states : s .states ≤ maxStates
+  pub states : s .states ≤ most .states
   pub ceilings : s .ceilings ≤ maxCeilings
   pub entries : s .entries ≤ maxCeilingEntries
 
@@ -113,24 +116,26 @@ pub record Inductive (m : Message) : Type 0 where
       (counts : Marking) (j : ℕ) → Under-one (m .ceilings) counts → j < m .sizes .bads → Met m counts j → ⊥
 
 -- everything that a safe message has
-pub record Sound (bytes : List ℕ) (lent : ℕ) : Type 0 where
+pub record Sound (most : Limits) (bytes : List ℕ) (lent : ℕ) : Type 0 where
   pub whole : length bytes ≡ 2 * end-at (message bytes .sizes)
-  pub limits : Within-limits (message bytes .sizes)
+  pub limits : Within-limits most (message bytes .sizes)
   pub program : Well-formed (message bytes .program)
   pub form : In-form (message bytes)
   pub closed : Closed (message bytes .program) (message bytes .tables)
-  pub counters : counter-count (message bytes .program) (message bytes .tables) ≤ maxCounters
+  pub counters : counter-count (message bytes .program) (message bytes .tables) ≤ most .counters
   pub bounded : Inductive (message bytes)
   pub space : length (system-words (message bytes .program) (message bytes .tables)) ≤ lent
 
 abbrev pub Safe-exactly : Type 0
-Safe-exactly = (bytes : List ℕ) (lent : ℕ) → Bytes bytes → (verdict bytes lent ≡ Safe) ↔ Sound bytes lent
+Safe-exactly =
+    (most : Limits) (bytes : List ℕ) (lent : ℕ) → Bytes bytes →
+    (verdict-within most bytes lent ≡ Safe) ↔ Sound most bytes lent
 
 -- "The system written is then the one that the analysis defines": its words, and behind them those that were there
 abbrev pub System-written : Type 0
 System-written =
-    (bytes lent : List ℕ) → verdict bytes (length lent) ≡ Safe →
-    lent-after bytes lent ≡ written (system-words (message bytes .program) (message bytes .tables)) lent
+    (most : Limits) (bytes lent : List ℕ) → verdict-within most bytes (length lent) ≡ Safe →
+    lent-after-within most bytes lent ≡ written (system-words (message bytes .program) (message bytes .tables)) lent
 
 -- Demand 3: "the station's run and the counters' run"
 
@@ -177,5 +182,5 @@ pub record All-runs-followed (m : Message) (system : List Rule) : Type 0 where
 
 abbrev pub Runs-stay-counted : Type 0
 Runs-stay-counted =
-    (bytes lent : List ℕ) → Bytes bytes → verdict bytes (length lent) ≡ Safe →
-    All-runs-followed (message bytes) (listed-rules (lent-after bytes lent))
+    (most : Limits) (bytes lent : List ℕ) → Bytes bytes → verdict-within most bytes (length lent) ≡ Safe →
+    All-runs-followed (message bytes) (listed-rules (lent-after-within most bytes lent))

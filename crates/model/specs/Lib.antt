@@ -32,3 +32,5 @@ pub mod Wanted
 pub mod Met
 pub mod Demands
 pub mod Refusals
+pub mod Longer
+pub mod LongerCases

@@ -1,11 +1,31 @@
--- Document 01, "The message", Limits: each limit by its name, once. (src/lib.rt has the same numbers as constants for
--- the code; antt can't cite a constant of Rattle, and a contract of the code that reads one is refused where the two
--- differ.)
+-- Document 01, "The message", Limits, and document 02, (vi): each limit by its name, once. (src/lib.rt has the same
+-- numbers as constants for the code; antt can't cite a constant of Rattle, and a contract of the code that reads one is
+-- refused where the two differ.)
 use Prim.Native.Nat.{ℕ}
 
--- R 1 to 1,024
+-- The limits that request (vi) of document 02 raises: of R, of S and of the counters. A verdict is a function of them.
+pub record Limits : Type 0 where
+  pub rows : ℕ
+  pub states : ℕ
+  pub counters : ℕ
+
+-- Document 01: "R 1 to 1,024", "M and S to 512", "counters to 512"
+abbrev pub former : Limits
+former = record { rows = 1024; states = 512; counters = 512 }
+
+-- Document 02, (vi): "R to 1,536, and S and counters to 1,024"
+abbrev pub present : Limits
+present = record { rows = 1536; states = 1024; counters = 1024 }
+
+-- the present ones, each by its name
 abbrev pub maxRows : ℕ
-maxRows = 1024
+maxRows = present .rows
+
+abbrev pub maxStates : ℕ
+maxStates = present .states
+
+abbrev pub maxCounters : ℕ
+maxCounters = present .counters
 
 -- V 1 to 512
 abbrev pub maxNames : ℕ
@@ -33,12 +53,9 @@ maxBadRows = 256
 abbrev pub maxFlows : ℕ
 maxFlows = 4096
 
--- M and S to 512
+-- M to 512
 abbrev pub maxMails : ℕ
 maxMails = 512
-
-abbrev pub maxStates : ℕ
-maxStates = 512
 
 -- K to 256
 abbrev pub maxCeilings : ℕ
@@ -47,10 +64,6 @@ maxCeilings = 256
 -- ceiling entries to 8,192
 abbrev pub maxCeilingEntries : ℕ
 maxCeilingEntries = 8192
-
--- counters to 512
-abbrev pub maxCounters : ℕ
-maxCounters = 512
 
 -- Arity, parameters and a call's count to 8
 abbrev pub maxArity : ℕ

@@ -8,8 +8,8 @@ use lib.ListN.{length, getD}
 use lib.Dec.{leb}
 use Rattle.model.specs.declared.Sizes.{Sizes}
 use Rattle.model.specs.declared.Verdict.the-variants.{Length, Size}
-use Rattle.model.specs.Limits.{maxRows, maxNames, maxConstructors, maxFunctions, maxBads, minBadRows, maxBadRows}
-use Rattle.model.specs.Limits.{maxFlows, maxMails, maxStates, maxCeilings, maxCeilingEntries}
+use Rattle.model.specs.Limits.{Limits, maxNames, maxConstructors, maxFunctions, maxBads, minBadRows, maxBadRows}
+use Rattle.model.specs.Limits.{maxFlows, maxMails, maxCeilings, maxCeilingEntries, maxRows, maxStates}
 use Rattle.model.specs.Words.{words}
 use Rattle.model.specs.Verdict.{Check, _>>_, unless}
 
@@ -23,6 +23,11 @@ tables-from rows bad-rows = bads-from rows + 2 + 2 * bad-rows
 
 abbrev pub ceilings-from : ℕ → ℕ → ℕ → ℕ
 ceilings-from rows bad-rows entries = tables-from rows bad-rows + 3 + 2 * entries
+
+-- the words of the longest message, each part at the limits of its sizes. (Document 02's 32,269 count what (iv) and (v)
+-- add.)
+abbrev pub maxWords : ℕ
+maxWords = ceilings-from maxRows maxBadRows (maxFlows + maxMails + maxStates) + 2 + 2 * maxCeilingEntries
 
 unfoldable pub bads-at : Sizes → ℕ
 bads-at s = bads-from (s .rows)
@@ -81,31 +86,33 @@ sizes-check at (l ∷ ls) =
 unfoldable pub part-check : List ℕ → ℕ → List Limited → ℕ → Check
 part-check ws at ls elements =
     unless (leb (at + length ls) (length ws)) (Length at) >>
-    (sizes-check at ls >> unless (leb (at + length ls + 2 * elements) (length ws)) (Length at))
+    sizes-check at ls >>
+    unless (leb (at + length ls + 2 * elements) (length ws)) (Length at)
 
--- the sizes of each part, with their limits
-abbrev pub program-sizes : Sizes → List Limited
-program-sizes s =
-    limited (s .rows) 1 maxRows ∷ limited (s .names) 1 maxNames ∷ limited (s .constructors) 0 maxConstructors ∷
-    limited (s .functions) 0 maxFunctions ∷ []
+-- the sizes of each part, with their limits; three limits are those in force
+abbrev pub program-sizes : Limits → Sizes → List Limited
+program-sizes most s =
+    limited (s .rows) 1 (most .rows) ∷ limited (s .names) 1 maxNames ∷
+    limited (s .constructors) 0 maxConstructors ∷ limited (s .functions) 0 maxFunctions ∷ []
 
 abbrev pub bads-sizes : Sizes → List Limited
 bads-sizes s = limited (s .bads) 1 maxBads ∷ limited (s .badrows) minBadRows maxBadRows ∷ []
 
-abbrev pub tables-sizes : Sizes → List Limited
-tables-sizes s = limited (s .flows) 0 maxFlows ∷ limited (s .mails) 0 maxMails ∷ limited (s .states) 0 maxStates ∷ []
+abbrev pub tables-sizes : Limits → Sizes → List Limited
+tables-sizes most s =
+    limited (s .flows) 0 maxFlows ∷ limited (s .mails) 0 maxMails ∷ limited (s .states) 0 (most .states) ∷ []
 
 abbrev pub ceilings-sizes : Sizes → List Limited
 ceilings-sizes s = limited (s .ceilings) 0 maxCeilings ∷ limited (s .entries) 0 maxCeilingEntries ∷ []
 
-unfoldable pub program-part : List ℕ → Sizes → Check
-program-part ws s = part-check ws 0 (program-sizes s) (s .rows)
+unfoldable pub program-part : Limits → List ℕ → Sizes → Check
+program-part most ws s = part-check ws 0 (program-sizes most s) (s .rows)
 
 unfoldable pub bads-part : List ℕ → Sizes → Check
 bads-part ws s = part-check ws (bads-at s) (bads-sizes s) (s .badrows)
 
-unfoldable pub tables-part : List ℕ → Sizes → Check
-tables-part ws s = part-check ws (tables-at s) (tables-sizes s) (s .flows + s .mails + s .states)
+unfoldable pub tables-part : Limits → List ℕ → Sizes → Check
+tables-part most ws s = part-check ws (tables-at s) (tables-sizes most s) (s .flows + s .mails + s .states)
 
 unfoldable pub ceilings-part : List ℕ → Sizes → Check
 ceilings-part ws s = part-check ws (ceilings-at s) (ceilings-sizes s) (s .entries)
@@ -115,8 +122,8 @@ unfoldable pub nothing-left : List ℕ → Sizes → Check
 nothing-left bytes s = unless (leb (length bytes) (2 * end-at s)) (Length (end-at s))
 
 -- refusals 1 and 2 of a message
-unfoldable pub parts-check : List ℕ → Check
-parts-check bytes =
+unfoldable pub parts-check : Limits → List ℕ → Check
+parts-check most bytes =
     let ws : List ℕ = words bytes in
     let s : Sizes = sizes ws in
-    program-part ws s >> (bads-part ws s >> (tables-part ws s >> (ceilings-part ws s >> nothing-left bytes s)))
+    program-part most ws s >> bads-part ws s >> tables-part most ws s >> ceilings-part ws s >> nothing-left bytes s

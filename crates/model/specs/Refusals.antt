@@ -11,7 +11,7 @@ use Rattle.model.specs.declared.Sizes.{Sizes}
 use Rattle.model.specs.declared.Verdict.{Verdict}
 use Rattle.model.specs.declared.Verdict.the-variants.{Safe, Length, Size, Row, Name, Scope, Bad, Entry, Open}
 use Rattle.model.specs.declared.Verdict.the-variants.{Counters, Ceiling, Start, Met, Leak, Space}
-use Rattle.model.specs.Limits.{maxCounters}
+use Rattle.model.specs.Limits.{Limits}
 use Rattle.model.specs.Words.{Columns, left, right}
 use Rattle.model.specs.Message.{bads-at, tables-at, ceilings-at, end-at, Limited, program-sizes, bads-sizes}
 use Rattle.model.specs.Message.{tables-sizes, ceilings-sizes}
@@ -26,7 +26,7 @@ use Rattle.model.specs.Rules.{Rule, rules}
 use Rattle.model.specs.Listing.{system-words}
 use Rattle.model.specs.Markings.{Marking, usable, fire, initial}
 use Rattle.model.specs.Ceilings.{Ceilings, ceiling-entries, ceiling-step, ceilings-ahead, ceiling-entry}
-use Rattle.model.specs.Verify.{Message, message, verdict}
+use Rattle.model.specs.Verify.{Message, message, verdict-within}
 use Rattle.model.specs.Wanted.{Present, Wanted-first, Wanted-by, Closed}
 use Rattle.model.specs.Wanted.{Entry as Table-entry}
 use Rattle.model.specs.Demands.{Bytes, Between, Within-limits, Pair-below, Listed, Under, Under-one, Sound}
@@ -49,11 +49,11 @@ pub record Message-part : Type 0 where
   pub sizes : List Limited
   pub elements : ℕ
 
-abbrev pub parts : Sizes → List Message-part
-parts s =
-    record { first = 0; sizes = program-sizes s; elements = s .rows } ∷
+abbrev pub parts : Limits → Sizes → List Message-part
+parts most s =
+    record { first = 0; sizes = program-sizes most s; elements = s .rows } ∷
     record { first = bads-at s; sizes = bads-sizes s; elements = s .badrows } ∷
-    record { first = tables-at s; sizes = tables-sizes s; elements = s .flows + s .mails + s .states } ∷
+    record { first = tables-at s; sizes = tables-sizes most s; elements = s .flows + s .mails + s .states } ∷
     record { first = ceilings-at s; sizes = ceilings-sizes s; elements = s .entries } ∷ []
 
 abbrev pub Within : Limited → Type 0
@@ -129,7 +129,7 @@ pub record Leaks (bs : Ceilings) (ρs : List Rule) (k : ℕ) : Type 0 where
   pub used : usable rule counts ≡ true
   pub out : Under-one bs (fire rule counts) → ⊥
 
-module _ (bytes : List ℕ) where
+module _ (most : Limits) (bytes : List ℕ) where
   abbrev m : Message
   m = message bytes
 
@@ -159,7 +159,7 @@ module _ (bytes : List ℕ) where
 
   -- "Checked in that order, each over the whole message": what holds before the check with this number
   pub data Passed : ℕ → Type 0 where
-    parts-passed : length bytes ≡ 2 * end-at s → Within-limits s → Passed 3
+    parts-passed : length bytes ≡ 2 * end-at s → Within-limits most s → Passed 3
     rows-passed : Passed 3 → first-wrong (step p) (p .rows) (whole p) ≡ none → Passed 4
     names-passed : Passed 4 → No-name-again → ((n : ℕ) → n < p .names → Bound p n) → Passed 5
     scopes-passed : Passed 5 → ((r : ℕ) → r < size p → Reads-outside p r → ⊥) → Passed 6
@@ -167,7 +167,7 @@ module _ (bytes : List ℕ) where
     entries-passed :
         Passed 7 → Flow-listed → Mail-listed → Listed (is-class p) (λ r. is-head (tag p r)) (t .states) → Passed 8
     closed-passed : Passed 8 → Closed p t → Passed 9
-    counters-passed : Passed 9 → counter-count p t ≤ maxCounters → Passed 10
+    counters-passed : Passed 9 → counter-count p t ≤ most .counters → Passed 10
     ceilings-passed :
         Passed 10 →
         first-wrong (ceiling-step (bs .counters)) (ceiling-entries ws s) (ceilings-ahead (s .ceilings)) ≡ none →
@@ -179,15 +179,15 @@ module _ (bytes : List ℕ) where
   pub data Refused (lent : ℕ) : Verdict → Type 0 where
     -- 1 length: "a part is not whole: its first word; bytes remain: the word past the ceilings"
     sizes-short :
-        (k : ℕ) (part : Message-part) → Behind (Whole ws) (parts s) k part → (Sizes-whole ws part → ⊥) →
+        (k : ℕ) (part : Message-part) → Behind (Whole ws) (parts most s) k part → (Sizes-whole ws part → ⊥) →
         Refused lent (Length (part .first))
     arrays-short :
-        (k : ℕ) (part : Message-part) → Behind (Whole ws) (parts s) k part → Each-within (part .sizes) →
+        (k : ℕ) (part : Message-part) → Behind (Whole ws) (parts most s) k part → Each-within (part .sizes) →
         (Arrays-whole ws part → ⊥) → Refused lent (Length (part .first))
-    bytes-remain : Within-limits s → 2 * end-at s < length bytes → Refused lent (Length (end-at s))
+    bytes-remain : Within-limits most s → 2 * end-at s < length bytes → Refused lent (Length (end-at s))
     -- 2 size: "a size outside its limits: the first such size"
     size-outside :
-        (k i : ℕ) (part : Message-part) (l : Limited) → Behind (Whole ws) (parts s) k part → Sizes-whole ws part →
+        (k i : ℕ) (part : Message-part) (l : Limited) → Behind (Whole ws) (parts most s) k part → Sizes-whole ws part →
         Behind Within (part .sizes) i l → (Within l → ⊥) → Refused lent (Size (part .first + i))
     -- 3 row: "tag, number, depth or row count wrong: 4 + first such row, or 4 + R if rows end early"
     row-wrong : (r : ℕ) → Passed 3 → Wrong (step p) (p .rows) (whole p) r → Refused lent (Row (4 + r))
@@ -220,8 +220,8 @@ module _ (bytes : List ℕ) where
         (i : ℕ) → Passed 8 → ((e : Table-entry) → Wanted-first p e → Present t e) →
         First-such (t .states .size) (λ j. Lacks p t (left (t .states) j) (right (t .states) j)) i →
         Refused lent (Open (tables-at s + 3 + s .flows + s .mails + i))
-    -- 9 counters: "over 512: size S"
-    counters-over : Passed 9 → maxCounters < counter-count p t → Refused lent (Counters (tables-at s + 2))
+    -- 9 counters: "over 512: size S", by the limits in force
+    counters-over : Passed 9 → most .counters < counter-count p t → Refused lent (Counters (tables-at s + 2))
     -- 10 ceiling: "form, or not K ceilings: first such entry's counter number, an entry after K ceilings included;
     -- entries ending early: the word past the counter numbers"
     ceiling-wrong :
@@ -244,15 +244,16 @@ module _ (bytes : List ℕ) where
 -- The table is exact: a refusal is the verdict exactly where its line holds.
 abbrev pub Refused-exactly : Type 0
 Refused-exactly =
-    (bytes : List ℕ) (lent : ℕ) → Bytes bytes → (v : Verdict) →
-    ((verdict bytes lent ≡ v) × (v ≡ Safe → ⊥)) ↔ Refused bytes lent v
+    (most : Limits) (bytes : List ℕ) (lent : ℕ) → Bytes bytes → (v : Verdict) →
+    ((verdict-within most bytes lent ≡ v) × (v ≡ Safe → ⊥)) ↔ Refused most bytes lent v
 
 -- What document 01 says of a verdict: safe of a sound message, a refusal in the words of its line.
-pub data Said (bytes : List ℕ) (lent : ℕ) : Verdict → Type 0 where
-  of-sound : Sound bytes lent → Said bytes lent Safe
-  of-refused : (v : Verdict) → Refused bytes lent v → Said bytes lent v
+pub data Said (most : Limits) (bytes : List ℕ) (lent : ℕ) : Verdict → Type 0 where
+  of-sound : Sound most bytes lent → Said most bytes lent Safe
+  of-refused : (v : Verdict) → Refused most bytes lent v → Said most bytes lent v
 
 -- Every message has exactly one verdict of which that holds: the one that is given.
 abbrev pub Verdict-exactly : Type 0
 Verdict-exactly =
-    (bytes : List ℕ) (lent : ℕ) → Bytes bytes → (v : Verdict) → (verdict bytes lent ≡ v) ↔ Said bytes lent v
+    (most : Limits) (bytes : List ℕ) (lent : ℕ) → Bytes bytes → (v : Verdict) →
+    (verdict-within most bytes lent ≡ v) ↔ Said most bytes lent v

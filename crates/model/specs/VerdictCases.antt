@@ -782,10 +782,12 @@ verdict-cases =
     at 2 0 (to-bytes (0 ∷ 1 ∷ 0 ∷ 0 ∷ [])) ∷
     -- R 1, its least: the sizes are within limits, and the rows are missing.
     at 1 0 (to-bytes (1 ∷ 1 ∷ 0 ∷ 0 ∷ [])) ∷
-    -- R 1,024, its most.
-    at 1 0 (to-bytes (1024 ∷ 1 ∷ 0 ∷ 0 ∷ [])) ∷
-    -- R 1,025.
-    at 2 0 (to-bytes (1025 ∷ 1 ∷ 0 ∷ 0 ∷ [])) ∷
+    -- R 1,025, over the former most: within limits now, and the rows are missing.
+    at 1 0 (to-bytes (1025 ∷ 1 ∷ 0 ∷ 0 ∷ [])) ∷
+    -- R 1,536, its most.
+    at 1 0 (to-bytes (1536 ∷ 1 ∷ 0 ∷ 0 ∷ [])) ∷
+    -- R 1,537.
+    at 2 0 (to-bytes (1537 ∷ 1 ∷ 0 ∷ 0 ∷ [])) ∷
     -- V 0: too few names.
     at 2 1 (to-bytes (1 ∷ 0 ∷ 0 ∷ 0 ∷ [])) ∷
     -- V 512, its most.
@@ -801,7 +803,7 @@ verdict-cases =
     -- G 65.
     at 2 3 (to-bytes (1 ∷ 1 ∷ 0 ∷ 65 ∷ [])) ∷
     -- All four at their most.
-    at 1 0 (to-bytes (1024 ∷ 512 ∷ 64 ∷ 64 ∷ [])) ∷
+    at 1 0 (to-bytes (1536 ∷ 512 ∷ 64 ∷ 64 ∷ [])) ∷
     -- Three sizes outside their limits: the first is told.
     at 2 1 (to-bytes (1 ∷ 0 ∷ 65 ∷ 65 ∷ [])) ∷
     -- A size outside its limits, but the sizes are not whole.
@@ -836,14 +838,16 @@ verdict-cases =
     at 1 16 (to-bytes (tables-sizes-words ++ (0 ∷ 512 ∷ 0 ∷ []))) ∷
     -- M 513.
     at 2 17 (to-bytes (tables-sizes-words ++ (0 ∷ 513 ∷ 0 ∷ []))) ∷
-    -- S 512, its most.
-    at 1 16 (to-bytes (tables-sizes-words ++ (0 ∷ 0 ∷ 512 ∷ []))) ∷
-    -- S 513.
-    at 2 18 (to-bytes (tables-sizes-words ++ (0 ∷ 0 ∷ 513 ∷ []))) ∷
+    -- S 513, over the former most: within limits now, and the lists are missing.
+    at 1 16 (to-bytes (tables-sizes-words ++ (0 ∷ 0 ∷ 513 ∷ []))) ∷
+    -- S 1,024, its most.
+    at 1 16 (to-bytes (tables-sizes-words ++ (0 ∷ 0 ∷ 1024 ∷ []))) ∷
+    -- S 1,025.
+    at 2 18 (to-bytes (tables-sizes-words ++ (0 ∷ 0 ∷ 1025 ∷ []))) ∷
     -- All three at their most.
-    at 1 16 (to-bytes (tables-sizes-words ++ (4096 ∷ 512 ∷ 512 ∷ []))) ∷
+    at 1 16 (to-bytes (tables-sizes-words ++ (4096 ∷ 512 ∷ 1024 ∷ []))) ∷
     -- Two outside their limits: the first is told.
-    at 2 17 (to-bytes (tables-sizes-words ++ (4096 ∷ 513 ∷ 513 ∷ []))) ∷
+    at 2 17 (to-bytes (tables-sizes-words ++ (4096 ∷ 513 ∷ 1025 ∷ []))) ∷
     -- One size alone: not whole.
     at 1 19 (to-bytes (ceilings-sizes-words ++ (0 ∷ []))) ∷
     -- K 256, its most.

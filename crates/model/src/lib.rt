@@ -37,9 +37,9 @@ pub enum Verdict {
     Space(usize),
 }
 
-// The limits of document 01, for the code. specs/Limits.antt has them for the contracts: a constant that differs is
-// refused there.
-pub const MAX_ROWS: usize = 1024;
+// The limits of document 01, three of them raised by request (vi) of document 02, for the code. specs/Limits.antt has
+// them for the contracts: a constant that differs is refused there.
+pub const MAX_ROWS: usize = 1536;
 
 pub const MAX_NAMES: usize = 512;
 
@@ -57,13 +57,13 @@ pub const MAX_FLOWS: usize = 4096;
 
 pub const MAX_MAILS: usize = 512;
 
-pub const MAX_STATES: usize = 512;
+pub const MAX_STATES: usize = 1024;
 
 pub const MAX_CEILINGS: usize = 256;
 
 pub const MAX_CEILING_ENTRIES: usize = 8192;
 
-pub const MAX_COUNTERS: usize = 512;
+pub const MAX_COUNTERS: usize = 1024;
 
 pub const MAX_ARITY: usize = 8;
 
@@ -72,6 +72,15 @@ pub const MAX_BRANCHES: usize = 16;
 pub const MAX_DEPTH: usize = 4;
 
 pub const OMEGA: usize = 65535;
+
+// The words of the longest message: specs/Message.antt has them as maxWords.
+pub const MAX_WORDS: usize = MAX_PROGRAM + MAX_EVIDENCE + MAX_CEILING_WORDS;
+
+const MAX_PROGRAM: usize = 4 + 2 * MAX_ROWS;
+
+const MAX_EVIDENCE: usize = 2 + 2 * MAX_BAD_ROWS + 3 + 2 * (MAX_FLOWS + MAX_MAILS + MAX_STATES);
+
+const MAX_CEILING_WORDS: usize = 2 + 2 * MAX_CEILING_ENTRIES;
 
 // The tags of document 01, for the code: of program rows from 1, of bads from 40, of the listing from 50.
 // specs/Tags.antt has them for the definitions.

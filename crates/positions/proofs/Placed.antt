@@ -8,6 +8,7 @@ use mathlib.Core.Logic.{_⊎_, inl, inr, ⊎-elim}
 use lib.ListN.{length, getD}
 use lib.Dec.{eqb}
 use borrow.Author.Tests.{ne-eqb}
+use Rattle.model.specs.Limits.{maxRows}
 use Rattle.model.specs.declared.Sizes.{Sizes}
 use Rattle.model.specs.Words.{left, right, columns}
 use Rattle.model.specs.Rows.{Program, program, size, tag, num, kind, Kind, give, build, function, call, send, spawn, self, case, receive, other, is-head, lead}
@@ -68,25 +69,25 @@ plain : (t : ℕ) → (t ≡ 2 → ⊥) → (t ≡ 3 → ⊥) → (t ≡ 4 → �
 plain t = by-tag t (kind t) refl (tag-is t (kind t) refl)
 
 -- a function's row is one of the rows
-pub function-row : (ws : List ℕ) (s : Sizes) (f x : ℕ) → s .rows ≤ 1024 → x ≡ tag (program ws s) f → (x ≡ 3) ⊎ (x ≡ 11) → f < 1024
+pub function-row : (ws : List ℕ) (s : Sizes) (f x : ℕ) → s .rows ≤ maxRows → x ≡ tag (program ws s) f → (x ≡ 3) ⊎ (x ≡ 11) → f < maxRows
 unfolding program columns
 function-row ws s f x most same h =
     let inside : 1 ≤ x → f < s .rows = λ l. tag-inside ws s f (omega arith) in
     ⊎-elim (λ e. let z = inside (omega arith) in omega arith) (λ e. let z = inside (omega arith) in omega arith) h
 
 module _ {ws : List ℕ} {s : Sizes} (h : Ready ws s) where
-  -- there are at most 1,024 rows
-  pub rows-most : size (program ws s) ≤ 1024
+  -- there are no more rows than the limit
+  pub rows-most : size (program ws s) ≤ maxRows
   unfolding program columns
   rows-most = h .limits .rows .1
 
-  pub row-low : (r : ℕ) → 0 < tag (program ws s) r → r < 1024
+  pub row-low : (r : ℕ) → 0 < tag (program ws s) r → r < maxRows
   row-low r t = let a = row-within (columns-whole h) r t in let b = rows-most in omega arith
 
-  pub function-low : (f : ℕ) → is-function (program ws s) f ≡ true → f < 1024
+  pub function-low : (f : ℕ) → is-function (program ws s) f ≡ true → f < maxRows
   function-low f t = let a = function-within (columns-whole h) f t in let b = rows-most in omega arith
 
-  pub body-told : (f n : ℕ) → is-function (program ws s) f ≡ true → n ≡ num (program ws s) (f + 1) → (f + 2 + n ≡ body (program ws s) f) × (f + 2 + n < 1024)
+  pub body-told : (f n : ℕ) → is-function (program ws s) f ≡ true → n ≡ num (program ws s) (f + 1) → (f + 2 + n ≡ body (program ws s) f) × (f + 2 + n < maxRows)
   body-told f n t e = let (a, b) = body-row (rows-fit h) (columns-whole h) f t in let c = rows-most in (omega arith, omega arith)
 
   -- the rest of a head, by the tag that was read
@@ -94,10 +95,10 @@ module _ {ws : List ℕ} {s : Sizes} (h : Ready ws s) where
     location : Location (program ws s) r
     location = row-location (rows-fit h) (columns-whole h) r head
 
-    pub head-low : r < 1024
+    pub head-low : r < maxRows
     head-low = row-low r (head-range (tag (program ws s) r) head .0)
 
-    pub build-told : (m n : ℕ) → x ≡ 2 → m ≡ num (program ws s) (r + 1) → n ≡ num (program ws s) m → (r + 2 + n ≡ rest (program ws s) r) × (r + 2 + n < 1024)
+    pub build-told : (m n : ℕ) → x ≡ 2 → m ≡ num (program ws s) (r + 1) → n ≡ num (program ws s) m → (r + 2 + n ≡ rest (program ws s) r) × (r + 2 + n < maxRows)
     unfolding kind
     build-told m n t e f =
         let (a, b) = rest-build location (rw (sym same ∙ t)) in
@@ -105,7 +106,7 @@ module _ {ws : List ℕ} {s : Sizes} (h : Ready ws s) where
         let d : n ≡ num (program ws s) (num (program ws s) (r + 1)) = f ∙ ap (num (program ws s)) e in
         (omega arith, omega arith)
 
-    pub call-told : (n : ℕ) → x ≡ 4 → n ≡ num (program ws s) (r + 2) → (r + 3 + n ≡ rest (program ws s) r) × (r + 3 + n < 1024)
+    pub call-told : (n : ℕ) → x ≡ 4 → n ≡ num (program ws s) (r + 2) → (r + 3 + n ≡ rest (program ws s) r) × (r + 3 + n < maxRows)
     unfolding kind
     call-told n t e = let (a, b) = rest-call location (rw (sym same ∙ t)) in let c = rows-most in (omega arith, omega arith)
 

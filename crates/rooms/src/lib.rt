@@ -1,6 +1,28 @@
 // Cleared arrays. Each is made by a function whose contract says how long it is and that all is 0: so no caller's
-// proof counts it out.
+// proof counts it out. Some have a size of their own; those that hold any message go by the limits.
+use model::MAX_CEILINGS;
+use model::MAX_COUNTERS;
+use model::MAX_NAMES;
+use model::MAX_ROWS;
+use model::MAX_WORDS;
+ghost use Rattle.model.specs.Message.{maxWords};
 ghost use Rattle.rooms.specs.Cleared.{Cleared};
+ghost use Rattle.rooms.specs.Rooms.{row-room, name-sets, row-sets, counter-masks, holder-masks, limit-room};
+
+// specs/Rooms.antt says what each of these is for.
+const ROW_ROOM: usize = MAX_ROWS + 2;
+
+const SET_WORDS: usize = MAX_ROWS / 64 + 1;
+
+const NAME_SETS: usize = (MAX_NAMES + 1) * SET_WORDS;
+
+const ROW_SETS: usize = MAX_ROWS * SET_WORDS;
+
+const COUNTER_MASKS: usize = MAX_COUNTERS * 4;
+
+const HOLDER_MASKS: usize = MAX_COUNTERS * 8;
+
+const LIMIT_ROOM: usize = MAX_COUNTERS * MAX_CEILINGS;
 
 pub fn words16_66() -> [u16; 66]
     ensures { λ r. ⌜ Cleared 66 r ⌝ }
@@ -20,12 +42,6 @@ pub fn words16_512() -> [u16; 512]
     [0; 512]
 }
 
-pub fn words16_1056() -> [u16; 1056]
-    ensures { λ r. ⌜ Cleared 1056 r ⌝ }
-{
-    [0; 1056]
-}
-
 pub fn words16_2048() -> [u16; 2048]
     ensures { λ r. ⌜ Cleared 2048 r ⌝ }
 {
@@ -38,18 +54,6 @@ pub fn words16_16384() -> [u16; 16384]
     [0; 16384]
 }
 
-pub fn words16_29195() -> [u16; 29195]
-    ensures { λ r. ⌜ Cleared 29195 r ⌝ }
-{
-    [0; 29195]
-}
-
-pub fn words16_131072() -> [u16; 131072]
-    ensures { λ r. ⌜ Cleared 131072 r ⌝ }
-{
-    [0; 131072]
-}
-
 pub fn words32_66() -> [u32; 66]
     ensures { λ r. ⌜ Cleared 66 r ⌝ }
 {
@@ -60,12 +64,6 @@ pub fn words32_258() -> [u32; 258]
     ensures { λ r. ⌜ Cleared 258 r ⌝ }
 {
     [0; 258]
-}
-
-pub fn words32_1056() -> [u32; 1056]
-    ensures { λ r. ⌜ Cleared 1056 r ⌝ }
-{
-    [0; 1056]
 }
 
 pub fn words64_130() -> [u64; 130]
@@ -92,26 +90,58 @@ pub fn words64_1285() -> [u64; 1285]
     [0; 1285]
 }
 
-pub fn words64_2048() -> [u64; 2048]
-    ensures { λ r. ⌜ Cleared 2048 r ⌝ }
+// A word for each row, and two behind them.
+pub fn row_words16() -> [u16; ROW_ROOM]
+    ensures { λ r. ⌜ Cleared row-room r ⌝ }
 {
-    [0; 2048]
+    [0; ROW_ROOM]
 }
 
-pub fn words64_4096() -> [u64; 4096]
-    ensures { λ r. ⌜ Cleared 4096 r ⌝ }
+// The same of 32 bits.
+pub fn row_words32() -> [u32; ROW_ROOM]
+    ensures { λ r. ⌜ Cleared row-room r ⌝ }
 {
-    [0; 4096]
+    [0; ROW_ROOM]
 }
 
-pub fn words64_8721() -> [u64; 8721]
-    ensures { λ r. ⌜ Cleared 8721 r ⌝ }
+// A set of values for each name, and one for the start.
+pub fn name_sets() -> [u64; NAME_SETS]
+    ensures { λ r. ⌜ Cleared name-sets r ⌝ }
 {
-    [0; 8721]
+    [0; NAME_SETS]
 }
 
-pub fn words64_17408() -> [u64; 17408]
-    ensures { λ r. ⌜ Cleared 17408 r ⌝ }
+// A set of values for each row.
+pub fn row_sets() -> [u64; ROW_SETS]
+    ensures { λ r. ⌜ Cleared row-sets r ⌝ }
 {
-    [0; 17408]
+    [0; ROW_SETS]
+}
+
+// A set of ceilings for each counter.
+pub fn counter_masks() -> [u64; COUNTER_MASKS]
+    ensures { λ r. ⌜ Cleared counter-masks r ⌝ }
+{
+    [0; COUNTER_MASKS]
+}
+
+// Two sets of ceilings for each counter.
+pub fn holder_masks() -> [u64; HOLDER_MASKS]
+    ensures { λ r. ⌜ Cleared holder-masks r ⌝ }
+{
+    [0; HOLDER_MASKS]
+}
+
+// A limit for each counter under each ceiling.
+pub fn limit_words() -> [u16; LIMIT_ROOM]
+    ensures { λ r. ⌜ Cleared limit-room r ⌝ }
+{
+    [0; LIMIT_ROOM]
+}
+
+// The words of any message.
+pub fn message_words() -> [u16; MAX_WORDS]
+    ensures { λ r. ⌜ Cleared maxWords r ⌝ }
+{
+    [0; MAX_WORDS]
 }

@@ -1,5 +1,6 @@
 // Where names are bound; refusal 4.
 use layout::tables::entry;
+use model::MAX_NAMES;
 use model::Sizes;
 use model::TAG_BUILD;
 use model::TAG_GLOBAL;
@@ -31,11 +32,11 @@ fn binds(t: usize) -> bool
 }
 
 // For each name the row that binds it first; the number of rows where none does.
-pub fn binders(ws: &[u16], s: Sizes) -> [u16; 512]
+pub fn binders(ws: &[u16], s: Sizes) -> [u16; MAX_NAMES]
     requires { ⌜ Whole (now ws) s ⌝ }
     ensures { λ t. ⌜ Binder-table (program (now (ws .entry)) s) t ⌝ }
 {
-    let mut table = [s.rows as u16; 512];
+    let mut table = [s.rows as u16; MAX_NAMES];
     let mut r = s.rows;
     while r > 0 {
         r -= 1;

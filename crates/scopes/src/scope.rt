@@ -2,6 +2,7 @@
 use crate::names::binders;
 use layout::ends::rest_row;
 use layout::tables::entry;
+use model::MAX_ROWS;
 use model::Sizes;
 use model::TAG_CASE;
 use model::TAG_GIVE;
@@ -40,11 +41,11 @@ fn uses(t: usize) -> bool
 }
 
 // For each row the next head from there on; the number of rows where there is none.
-fn next_heads(ws: &[u16], s: Sizes) -> [u16; 1024]
+fn next_heads(ws: &[u16], s: Sizes) -> [u16; MAX_ROWS]
     requires { ⌜ Whole (now ws) s ⌝ }
     ensures { λ t. ⌜ Head-table (program (now (ws .entry)) s) t ⌝ }
 {
-    let mut table = [0u16; 1024];
+    let mut table = [0u16; MAX_ROWS];
     let mut head = s.rows;
     let mut r = s.rows;
     while r > 0 {

@@ -3,6 +3,7 @@
 ghost use mathlib.Core.Path.{_≡_};
 ghost use Prim.Native.Nat.{_<_};
 ghost use lib.ListN.{getD};
+ghost use Rattle.model.specs.Limits.{present};
 ghost use Rattle.model.specs.Words.{words};
 ghost use Rattle.model.specs.Message.{limited, program-sizes, bads-sizes, tables-sizes, ceilings-sizes, sizes, bads-at};
 ghost use Rattle.model.specs.Message.{tables-at, ceilings-at, end-at};
@@ -103,7 +104,7 @@ fn within(size: usize, least: usize, most: usize) -> bool
 
 // The number of the first size of the program part that is outside its limits, and 4 where none is.
 pub fn program_outside(s: Sizes) -> usize
-    ensures { λ r. ⌜ r ≡ first-outside (program-sizes s) ⌝ }
+    ensures { λ r. ⌜ r ≡ first-outside (program-sizes present s) ⌝ }
 {
     if !within(s.rows, 1, MAX_ROWS) {
         return 0;
@@ -135,7 +136,7 @@ pub fn bads_outside(s: Sizes) -> usize
 
 // The same for the tables part, of three sizes.
 pub fn tables_outside(s: Sizes) -> usize
-    ensures { λ r. ⌜ r ≡ first-outside (tables-sizes s) ⌝ }
+    ensures { λ r. ⌜ r ≡ first-outside (tables-sizes present s) ⌝ }
 {
     if !within(s.flows, 0, MAX_FLOWS) {
         return 0;

@@ -10,6 +10,7 @@ use mathlib.Core.Option.{Option, some, none}
 use lib.Dec.{eqb}
 use lib.ListN.{getD, length}
 use borrow.Author.Tests.{eqb-true, eq-eqb, ne-eqb, not-true, not-false}
+use Rattle.model.specs.Limits.{maxRows}
 use Rattle.model.specs.declared.Sizes.{Sizes}
 use Rattle.model.specs.Index.{implies, all}
 use Rattle.model.specs.Words.{Columns, left, right, columns}
@@ -122,7 +123,7 @@ module _ {ws : List ℕ} {s : Sizes} (h : Ready ws s) where
   unfolding kind program
   give-here r n t e = let z = head-name give (head-here h r (omega arith) (omega arith)) (rw t) refl in omega arith
 
-  pub call-here : (r : ℕ) → tag (program ws s) r ≡ 4 → (num (program ws s) r < s .names) × (r + 3 + num (program ws s) (r + 2) ≡ rest (program ws s) r) × (rest (program ws s) r < s .rows) × (s .rows ≤ 1024)
+  pub call-here : (r : ℕ) → tag (program ws s) r ≡ 4 → (num (program ws s) r < s .names) × (r + 3 + num (program ws s) (r + 2) ≡ rest (program ws s) r) × (rest (program ws s) r < s .rows) × (s .rows ≤ maxRows)
   unfolding kind program columns
   call-here r t =
       let l = head-here h r (omega arith) (omega arith) in

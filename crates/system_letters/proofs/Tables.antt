@@ -16,7 +16,7 @@ use Rattle.bits.proofs.Loops.{both, any-split}
 use Rattle.model.specs.declared.Sizes.{Sizes}
 use Rattle.model.specs.declared.Verdict.the-variants.{Safe, Counters}
 use Rattle.model.specs.Index.{any, count}
-use Rattle.model.specs.Limits.{maxCounters}
+use Rattle.model.specs.Limits.{present, maxCounters}
 use Rattle.model.specs.Message.{tables-at}
 use Rattle.model.specs.Words.{Columns, left, right, columns}
 use Rattle.model.specs.Rows.{Program, program, size, tag, num, is-name}
@@ -99,11 +99,11 @@ module _ {ws : List ℕ} {s : Sizes} (h : Ready ws s) (starts ls : List ℕ) (g 
       (omega arith, omega (arith, letters-few h (letter-keys (program ws s))))
 
 -- the answer of refusal 9
-pub counters-safe : (s : Sizes) (p : Program) (t : Tables) (n : ℕ) → n ≡ counter-count p t → n ≤ maxCounters → Safe ≡ answer (counter-check s p t)
+pub counters-safe : (s : Sizes) (p : Program) (t : Tables) (n : ℕ) → n ≡ counter-count p t → n ≤ maxCounters → Safe ≡ answer (counter-check present s p t)
 unfolding counter-check unless answer
 counters-safe s p t n e h = rw (le-leb (counter-count p t) maxCounters (omega arith))
 
-pub counters-many : (s : Sizes) (p : Program) (t : Tables) (n at : ℕ) → n ≡ counter-count p t → maxCounters < n → at ≡ tables-at s → Counters (at + 2) ≡ answer (counter-check s p t)
+pub counters-many : (s : Sizes) (p : Program) (t : Tables) (n at : ℕ) → n ≡ counter-count p t → maxCounters < n → at ≡ tables-at s → Counters (at + 2) ≡ answer (counter-check present s p t)
 unfolding counter-check unless answer
 counters-many s p t n at e h f = rw (lt-leb (counter-count p t) maxCounters (omega arith), f)
 

@@ -24,6 +24,7 @@ use sets::put;
 ghost use mathlib.Core.Path.{_≡_};
 ghost use Prim.Native.Nat.{ℕ, _+_, _*_, _≤_, _<_};
 ghost use lib.ListN.{length, getD};
+ghost use Rattle.model.specs.Limits.{present};
 ghost use Rattle.model.specs.Index.{count};
 ghost use Rattle.model.specs.Rows.{program};
 ghost use Rattle.model.specs.Letters.{row-letter};
@@ -167,11 +168,11 @@ pub fn counter_count(ws: &[u16], s: Sizes, letter_at: &[u16], letters: &[u16]) -
     s.states + word(letter_at, s.rows + 1)
 }
 
-// Refusal 9: more counters than 512.
+// Refusal 9: more counters than the limit.
 pub fn counter_check(ws: &[u16], s: Sizes, letter_at: &[u16], letters: &[u16]) -> Verdict
     requires { ⌜ Ready (now ws) s ⌝ }
     requires { ⌜ Class-letters (program (now ws) s) (tables (now ws) s) (now «letter_at») (now letters) ⌝ }
-    ensures { λ v. ⌜ v ≡ answer (counter-check s (program (now (ws .entry)) s) (tables (now (ws .entry)) s)) ⌝ }
+    ensures { λ v. ⌜ v ≡ answer (counter-check present s (program (now (ws .entry)) s) (tables (now (ws .entry)) s)) ⌝ }
 {
     if counter_count(ws, s, letter_at, letters) <= MAX_COUNTERS {
         Verdict::Safe

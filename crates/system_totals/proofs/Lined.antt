@@ -7,6 +7,7 @@ use mathlib.Core.Path.{_≡_, refl, sym, _∙_, ap}
 use mathlib.Core.List.{List, [], _∷_, _++_, append-assoc, append-nil}
 use lib.ListN.{length, getD, length-append}
 use borrow.Author.Tests.{ne-eqb}
+use Rattle.model.specs.Limits.{maxStates}
 use Rattle.model.specs.Index.{gather}
 use Rattle.model.specs.Words.{right}
 use Rattle.model.specs.Rows.{Program, tag, Kind, kind, give, build, function, call, send, spawn, self, case, receive, other}
@@ -143,7 +144,7 @@ module _ (p : Program) (t : Tables) where
       }
 
   -- at the end
-  pub summed-all : (i a b : ℕ) → Summed i a b → i ≡ t .states .size → i ≤ 512 → Totalled p t (totals a b)
+  pub summed-all : (i a b : ℕ) → Summed i a b → i ≡ t .states .size → i ≤ maxStates → Totalled p t (totals a b)
   unfolding counted rules
   summed-all i a b s same low =
       let here : totals a b ≡ counted (gather 0 i of-state) = λ d. record { rules = s .rules-so-far d; rows = s .rows-so-far d } in

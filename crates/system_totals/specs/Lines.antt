@@ -1,10 +1,11 @@
 -- The rows of rules, and how many rules and rows there are.
-use Prim.Native.Nat.{ℕ, _≤_}
+use Prim.Native.Nat.{ℕ, _*_, _≤_}
 use mathlib.Core.Path.{_≡_}
 use mathlib.Core.Bool.{true, false}
 use mathlib.Core.List.{List, [], _∷_}
 use lib.ListN.{length}
 use lib.Dec.{eqb}
+use Rattle.model.specs.Limits.{maxStates}
 use Rattle.model.specs.Rows.{Program, Kind, give, build, function, call, send, spawn, self, case, receive, other}
 use Rattle.model.specs.Tables.{Tables}
 use Rattle.model.specs.Rules.{Rule, from-all, rules}
@@ -19,11 +20,12 @@ lines ρs = from-all ρs rule-lines
 unfoldable pub counted : List Rule → Totals
 counted ρs = record { rules = length ρs; rows = length (lines ρs) }
 
--- These are the totals of the system: of at most 512 states, none with more than 65,536 rules.
+-- These are the totals of the system: of at most so many states, none has more than 65,536 rules, and none of these
+-- more than three rows.
 pub record Totalled (p : Program) (t : Tables) (n : Totals) : Type 0 where
   pub told : n ≡ counted (rules p t)
-  pub few-rules : n .rules ≤ 33554432
-  pub few-rows : n .rows ≤ 100663296
+  pub few-rules : n .rules ≤ 65536 * maxStates
+  pub few-rows : n .rows ≤ 3 * 65536 * maxStates
 
 -- "then nothing, (52, letter counter read), (53, letter counter put) or (54, new state)":
 -- the tag that the rules at a head of this kind have there, and 0 for nothing

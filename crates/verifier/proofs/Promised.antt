@@ -1,4 +1,4 @@
--- The demands and the table of refusals, of what the entry gives back.
+-- The demands, the table of refusals and what is kept of the former gate, of what the entry gives back.
 use Prim.Native.Nat.{ℕ, _≤_}
 use native.Mathlib.Omega.{arith}
 use mathlib.Core.Logic.{_↔_}
@@ -10,13 +10,15 @@ use borrow.Author.Tests.{eq-eqb}
 use Rattle.model.specs.declared.Verdict.{Verdict}
 use Rattle.model.specs.declared.Verdict.the-variants.{Safe, Length, Size, Row, Name, Scope, Bad, Entry, Open, Counters, Ceiling, Start, Met, Leak, Space}
 use Rattle.model.specs.Verdict.{number, place}
+use Rattle.model.specs.Limits.{present}
 use Rattle.model.specs.Verify.{message, verdict, lent-after, part-handed}
 use Rattle.model.specs.Listing.{listed-rules}
 use Rattle.model.specs.Demands.{Bytes, All-runs-followed}
 use Rattle.model.proofs.Demands as demands
 use Rattle.model.proofs.Refusals.{refused-exactly}
+use Rattle.model.proofs.Longer.{messages-kept, longer-turned-away}
 use Rattle.answers.specs.Safe.{is-safe}
-use Rattle.verifier.specs.Promises.{Refusal-changes-nothing, Safe-exactly-when-sound, System-is-written, Runs-are-followed, Refused-exactly-by-the-table}
+use Rattle.verifier.specs.Promises.{Refusal-changes-nothing, Safe-exactly-when-sound, System-is-written, Runs-are-followed, Refused-exactly-by-the-table, As-the-former-gate}
 use Rattle.answers.proofs.Passing.{safe-only}
 
 -- only safe has the number 0
@@ -37,7 +39,7 @@ module _ (bytes lent out part : List ℕ) (told at : ℕ) where
   Promised =
       Refusal-changes-nothing told lent out part ×
       (Safe-exactly-when-sound told bytes (length lent) ×
-      (System-is-written told bytes lent out × (Runs-are-followed told bytes out × Refused-exactly-by-the-table told at bytes (length lent))))
+      (System-is-written told bytes lent out × (Runs-are-followed told bytes out × (Refused-exactly-by-the-table told at bytes (length lent) × As-the-former-gate told at bytes lent out part))))
 
   module _ (is-number : told ≡ number v) (is-place : at ≡ place v) where
     safe : told ≡ 0 → v ≡ Safe
@@ -49,14 +51,14 @@ module _ (bytes lent out part : List ℕ) (told at : ℕ) where
     module _ (short : Bytes bytes) where
       sound-exactly : Safe-exactly-when-sound told bytes (length lent)
       sound-exactly =
-          let sound = demands.safe-exactly bytes (length lent) short in
+          let sound = demands.safe-exactly present bytes (length lent) short in
           (λ z. sound .0 (safe z), λ s. is-number ∙ safe-zero v (sound .1 s))
 
       by-the-table : Refused-exactly-by-the-table told at bytes (length lent)
       by-the-table =
           record {
-            by-a-line = λ other. (v, refused-exactly bytes (length lent) short v .0 (refl, refused other), sym is-number, sym is-place);
-            as-each-line = λ w line. let same = sym (refused-exactly bytes (length lent) short w .1 line .0) in
+            by-a-line = λ other. (v, refused-exactly present bytes (length lent) short v .0 (refl, refused other), sym is-number, sym is-place);
+            as-each-line = λ w line. let same = sym (refused-exactly present bytes (length lent) short w .1 line .0) in
                 (ap number same ∙ sym is-number, ap place same ∙ sym is-place);
           }
 
@@ -64,17 +66,25 @@ module _ (bytes lent out part : List ℕ) (told at : ℕ) where
         nothing-changed : part ≡ part-handed bytes (length lent) → Refusal-changes-nothing told lent out part
         nothing-changed h other =
             let d = demands.refusal-changes-nothing in
-            (words ∙ d .lent-unchanged bytes lent (refused other), h ∙ d .nothing-handed bytes (length lent) (refused other))
+            (words ∙ d .lent-unchanged present bytes lent (refused other), h ∙ d .nothing-handed present bytes (length lent) (refused other))
 
         system-put : System-is-written told bytes lent out
-        system-put z = words ∙ demands.system-written bytes lent (safe z)
+        system-put z = words ∙ demands.system-written present bytes lent (safe z)
 
         runs-followed : Runs-are-followed told bytes out
         runs-followed z =
-            subst (λ o. All-runs-followed (message bytes) (listed-rules o)) (sym words) (demands.runs-stay-counted bytes lent short (safe z))
+            subst (λ o. All-runs-followed (message bytes) (listed-rules o)) (sym words) (demands.runs-stay-counted present bytes lent short (safe z))
+
+        former-kept : part ≡ part-handed bytes (length lent) → As-the-former-gate told at bytes lent out part
+        former-kept h =
+            record {
+              kept = λ other. let same = messages-kept bytes lent other in
+                  (is-number ∙ same .number, is-place ∙ same .place, h ∙ same .part, words ∙ same .lent-words);
+              turned-away = λ z. longer-turned-away bytes (length lent) (safe z);
+            }
 
         pub promised : part ≡ part-handed bytes (length lent) → Promised
-        promised h = (nothing-changed h, (sound-exactly, (system-put, (runs-followed, by-the-table))))
+        promised h = (nothing-changed h, (sound-exactly, (system-put, (runs-followed, (by-the-table, former-kept h)))))
 
 -- two numbers told
 pub both : (a b x y : ℕ) → a ≡ x → b ≡ y → _≡_ {A = List ℕ} (a ∷ b ∷ []) (x ∷ y ∷ [])

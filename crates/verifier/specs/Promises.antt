@@ -1,16 +1,18 @@
--- What a caller has of the entry, said of what it gives back: the verdict's number and place, the three demands, and
--- the table of refusals.
+-- What a caller has of the entry, said of what it gives back: the verdict's number and place, the three demands, the
+-- table of refusals, and what a gate of the former limits answers.
 use Prim.Native.Nat.{ℕ}
 use mathlib.Core.Logic.{_↔_}
 use mathlib.Core.Path.{_≡_}
 use mathlib.Core.List.{List, [], _∷_}
-use lib.ListN.{getD}
+use lib.ListN.{length, getD}
+use Rattle.model.specs.Limits.{former, present}
 use Rattle.model.specs.declared.Verdict.{Verdict}
 use Rattle.model.specs.Verdict.{number, place}
 use Rattle.model.specs.Listing.{system-words, written, listed-rules}
-use Rattle.model.specs.Verify.{message, verdict}
+use Rattle.model.specs.Verify.{message, verdict, verdict-within, lent-after-within, part-handed-within}
 use Rattle.model.specs.Demands.{Sound, All-runs-followed}
 use Rattle.model.specs.Refusals.{Refused}
+use Rattle.model.specs.Longer.{By-limit, Passes}
 
 -- An answer is two numbers: the verdict's, and its place.
 abbrev pub answer-to : List ℕ → ℕ → List ℕ
@@ -28,7 +30,7 @@ Refusal-changes-nothing told before after part = (told ≡ 0 → ⊥) → (after
 
 -- Demand 2: safe exactly when the message is sound; the system written is then the one that the analysis defines.
 abbrev pub Safe-exactly-when-sound : ℕ → List ℕ → ℕ → Type 0
-Safe-exactly-when-sound told bytes lent = (told ≡ 0) ↔ Sound bytes lent
+Safe-exactly-when-sound told bytes lent = (told ≡ 0) ↔ Sound present bytes lent
 
 abbrev pub System-is-written : ℕ → List ℕ → List ℕ → List ℕ → Type 0
 System-is-written told bytes before after =
@@ -41,5 +43,18 @@ Runs-are-followed told bytes after = told ≡ 0 → All-runs-followed (message b
 -- The table of refusals: a number other than 0 and its place are those of a line that holds, and each line that holds
 -- has them.
 pub record Refused-exactly-by-the-table (told at : ℕ) (bytes : List ℕ) (lent : ℕ) : Type 0 where
-  pub by-a-line : (told ≡ 0 → ⊥) → (v : Verdict) × Refused bytes lent v × (number v ≡ told) × (place v ≡ at)
-  pub as-each-line : (v : Verdict) → Refused bytes lent v → (number v ≡ told) × (place v ≡ at)
+  pub by-a-line :
+      (told ≡ 0 → ⊥) → (v : Verdict) × Refused present bytes lent v × (number v ≡ told) × (place v ≡ at)
+  pub as-each-line : (v : Verdict) → Refused present bytes lent v → (number v ≡ told) × (place v ≡ at)
+
+-- Document 02, (vi), for whoever has messages on file: where a gate of the former limits, handed the same bytes and
+-- lent words, does not say 2 or 9, it says and leaves what this one does; and of the messages that are safe here it
+-- turns away, with 2 or 9, exactly those of which R, S or the counters pass a limit of its own.
+pub record As-the-former-gate (told at : ℕ) (bytes before after part : List ℕ) : Type 0 where
+  pub kept :
+      (By-limit (verdict-within former bytes (length before)) → ⊥) →
+      (told ≡ number (verdict-within former bytes (length before))) ×
+      (at ≡ place (verdict-within former bytes (length before))) ×
+      (part ≡ part-handed-within former bytes (length before)) × (after ≡ lent-after-within former bytes before)
+  pub turned-away :
+      told ≡ 0 → Passes former (message bytes) ↔ By-limit (verdict-within former bytes (length before))

@@ -8,7 +8,7 @@ ghost use Rattle.model.specs.Verdict.{number, place};
 ghost use Rattle.model.specs.Verify.{verdict, lent-after, part-handed};
 ghost use Rattle.verifier.specs.Promises.{answer-to, number-in, place-in};
 ghost use Rattle.verifier.specs.Promises.{Refusal-changes-nothing, Safe-exactly-when-sound, System-is-written};
-ghost use Rattle.verifier.specs.Promises.{Runs-are-followed, Refused-exactly-by-the-table};
+ghost use Rattle.verifier.specs.Promises.{Runs-are-followed, Refused-exactly-by-the-table, As-the-former-gate};
 
 // The entry. Gives the part handed on; number and place of the verdict to `answer`; after safe the system to the lent
 // words.
@@ -31,6 +31,9 @@ pub fn verify<'a>(message: &'a [u8], lent: &mut [u32], answer: &mut [usize; 2]) 
     ensures { λ _. ⌜
         Refused-exactly-by-the-table (number-in (now (answer .exit))) (place-in (now (answer .exit)))
         (now (message .entry)) (length (now (lent .entry))) ⌝ }
+    ensures { λ part. ⌜
+        As-the-former-gate (number-in (now (answer .exit))) (place-in (now (answer .exit)))
+        (now (message .entry)) (now (lent .entry)) (now (lent .exit)) (now part) ⌝ }
 {
     let words = lent.len();
     let v = verdict_of(message, lent);
@@ -63,6 +66,9 @@ pub extern "C" fn delungkaw_verify(
     ensures { λ r. ⌜
         Refused-exactly-by-the-table r (now (position .exit))
         (now (message .entry)) (length (now (lent .entry))) ⌝ }
+    ensures { λ r. ⌜
+        As-the-former-gate r (now (position .exit)) (now (message .entry)) (now (lent .entry)) (now (lent .exit))
+        (part-handed (now (message .entry)) (length (now (lent .entry)))) ⌝ }
 {
     let mut answer = [0usize; 2];
     let part = verify(message, lent, &mut answer);

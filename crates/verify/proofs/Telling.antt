@@ -11,7 +11,8 @@ use Rattle.model.specs.declared.Verdict.{Verdict}
 use Rattle.model.specs.declared.Verdict.the-variants.{Safe, Length, Size, Row, Name, Scope, Bad, Entry, Open, Counters, Ceiling, Start, Met, Leak, Space}
 use Rattle.model.specs.Verdict.{number, place}
 use Rattle.model.specs.Listing.{listing, system-words, written}
-use Rattle.model.specs.Verify.{message, verdict, if-safe, lent-after}
+use Rattle.model.specs.Limits.{present}
+use Rattle.model.specs.Verify.{message, verdict, if-safe, lent-after, lent-after-within}
 use Rattle.model.proofs.Exact.Answer.{verdict-safe}
 use Rattle.model.proofs.Exact.Sound.{check-none}
 use Rattle.model.specs.Rules.{rules}
@@ -64,10 +65,10 @@ number-refused (Space at) a b h = refl
 -- after safe the lent words have a system in them, whole
 module _ (bytes lent : List ℕ) (safe : verdict bytes (length lent) ≡ Safe) where
   room-for-system : length (system-words (message bytes .program) (message bytes .tables)) ≤ length lent
-  room-for-system = check-none bytes (length lent) .0 (verdict-safe bytes (length lent) .0 safe) .1 .1
+  room-for-system = check-none present bytes (length lent) .0 (verdict-safe present bytes (length lent) .0 safe) .1 .1
 
   words-written : lent-after bytes lent ≡ written (system-words (message bytes .program) (message bytes .tables)) lent
-  unfolding lent-after if-safe
+  unfolding lent-after-within if-safe number
   words-written = rw safe
 
   pub words-long : length (lent-after bytes lent) ≡ length lent
@@ -132,7 +133,7 @@ module _ (bytes lent : List ℕ) (blank : lent ≡ replicate lent-words 0) where
           omega arith
 
       pub tell-safe : (at end : ℕ) (out₀ out₁ out₂ : List ℕ) → Put 0 (line (getD answer 0 0) (getD answer 1 0)) at out₀ out₁ → Put at (system-text ws) end out₁ out₂ → most-text ≤ length out₀ → Told end out₀ out₂
-      unfolding if-safe
+      unfolding if-safe number
       tell-safe at end out₀ out₁ out₂ p q room =
           let e : told bytes ≡ line (getD answer 0 0) (getD answer 1 0) ++ system-text ws =
           told-over ∙ (rw (← is-number, ← is-place, is-safe, ← after)) in

@@ -2,13 +2,14 @@
 // the system too.
 mod tell;
 
+use tell::message_room;
 use tell::room;
 use tell::tell;
 
-// A message has 58,390 bytes at the most. What is longer is settled by its beginning: the sizes that the limits allow
-// end before the buffer does, so the answer is the same as for the whole.
+// The longest message is read whole. What is longer is settled by its beginning: the sizes that the limits allow end
+// before the buffer does, so the answer is the same as for the whole.
 fn main() {
-    let mut message = io::large_buffer();
+    let mut message = message_room();
     let n = io::read_full(0, &mut message);
     let mut text = room();
     let k = tell(&message[..n], &mut text);

@@ -1,4 +1,5 @@
 // What is told of a message, as text.
+use model::MAX_WORDS;
 use report::put_system;
 use text::put_line;
 use verifier::verify;
@@ -7,7 +8,7 @@ ghost use Prim.Native.Nat.{_≤_};
 ghost use lib.ListN.{length, replicate};
 ghost use Rattle.io.specs.Counts.{Counts};
 ghost use Rattle.text.specs.Text.{put-at};
-ghost use Rattle.verify.specs.Told.{lent-words, most-text, told};
+ghost use Rattle.verify.specs.Told.{lent-words, most-read, most-text, told};
 
 // The words lent.
 const LENT: usize = 16384;
@@ -17,6 +18,16 @@ fn blank_words() -> [u32; LENT]
     ensures { λ r. ⌜ r ≡ replicate lent-words 0 ⌝ }
 {
     [0; LENT]
+}
+
+// The bytes read: those of the longest message, and one more, so that a longer one is seen to be.
+const MOST_READ: usize = 2 * MAX_WORDS + 1;
+
+// Room for a message.
+pub fn message_room() -> [u8; MOST_READ]
+    ensures { λ r. ⌜ most-read ≡ length r ⌝ }
+{
+    [0; MOST_READ]
 }
 
 // Room for the longest text.

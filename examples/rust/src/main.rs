@@ -49,7 +49,7 @@ const SPACE: u32 = 14;
 /// The stack of the thread that verifies: 2 MB for the proved code, and as much again for the rest.
 const STACK: usize = 4 << 20;
 
-/// The longest message has 58,390 bytes. What is longer than this is settled by its beginning.
+/// The longest message has 62,486 bytes. What is longer than this is settled by its beginning.
 const MOST: u64 = 65_536;
 
 struct Verdict<'a> {

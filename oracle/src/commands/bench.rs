@@ -1,6 +1,7 @@
 //! `oracle bench [OUT]`: how long the proved code and `verify` take, as Markdown.
 
 use super::{Answer, read_message, told};
+use oracle::limits::PLENTY;
 use oracle::stress::growth::{self, Family};
 use oracle::stress::{self, Sample, honest};
 use oracle::verify::{self, Outcome};
@@ -8,8 +9,6 @@ use oracle::{proved, stack};
 use std::fmt::Write;
 use std::time::{Duration, Instant};
 
-/// Words that are enough for the largest system of a legal message.
-const PLENTY: usize = 1 << 20;
 /// A message is verified so often, or until this time is over, but at least three times.
 const TIMES: usize = 201;
 const UNTIL: Duration = Duration::from_millis(600);

@@ -1,12 +1,11 @@
 //! `oracle time FILE...`: how long the verifier takes.
 
 use super::{Answer, read_message, told};
+use oracle::limits::PLENTY;
 use oracle::verify::verify;
 use std::fmt::Write;
 use std::time::Instant;
 
-/// Words that are enough for the largest system of a legal message.
-const PLENTY: usize = 1 << 20;
 /// Each file is verified this often, or until a second is over.
 const TIMES: usize = 1000;
 

@@ -31,7 +31,7 @@ fn size(rng: &mut Rng) -> usize {
         25..=79 => rng.range(20, 90),
         80..=96 => rng.range(60, 200),
         97..=98 => rng.range(150, 500),
-        _ => rng.range(400, 1000),
+        _ => rng.range(400, 1500),
     }
 }
 

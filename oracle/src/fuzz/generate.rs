@@ -335,14 +335,15 @@ impl Maker<'_> {
     }
 }
 
-/// A program whose tables come near the most counters: some spawns of one long body, and
+/// A program whose tables come near the most counters, now or formerly: some spawns of one long body, and
 /// letters in the mail of each class.
 pub fn crowded(rng: &mut Rng) -> Rows {
     let classes = rng.range(3, 12);
     let letters = rng.range(1, 8);
     let sends: Vec<usize> = (0..classes).map(|_| rng.range(1, letters)).collect();
     let others = letters + 1 + 2 * classes + 2 * sends.iter().sum::<usize>();
-    let length = (limits::COUNTERS + rng.range(0, 20)).saturating_sub(others + rng.range(0, 15)) / classes;
+    let most = if rng.chance(1, 2) { limits::COUNTERS } else { limits::FORMER.counters };
+    let length = (most + rng.range(0, 20)).saturating_sub(others + rng.range(0, 15)) / classes;
     let mut crowd = RowList { rows: vec![(10, 0); letters], names: 1 };
     crowd.rows.extend([(11, 0), (22, 0)]);
     let last = (0..length).map(|_| crowd.bind(7, &[])).last().unwrap_or(0);

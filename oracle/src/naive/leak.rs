@@ -14,15 +14,15 @@ fn most(limit: u16) -> Most {
 
 /// The most counts after a rule, none where it can't be used.
 fn after(limits: &[Most], rule: &Rule) -> Option<Vec<Most>> {
-    let mut counts = limits.to_vec();
     let read = rule.2.filter(|(tag, _)| *tag == 52).map(|(_, counter)| counter);
     let added = rule.2.filter(|(tag, _)| *tag != 52).map(|(_, counter)| counter);
-    for counter in [Some(rule.0), read].into_iter().flatten() {
-        counts[counter] = match counts[counter] {
-            Some(0) => return None,
-            Some(count) => Some(count - 1),
-            None => None,
-        };
+    let taken = || [Some(rule.0), read].into_iter().flatten();
+    if taken().any(|counter| limits[counter] == Some(0)) {
+        return None;
+    }
+    let mut counts = limits.to_vec();
+    for counter in taken() {
+        counts[counter] = counts[counter].map(|count| count - 1);
     }
     for counter in [Some(rule.1), added].into_iter().flatten() {
         counts[counter] = counts[counter].map(|count| count + 1);

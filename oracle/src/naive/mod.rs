@@ -47,7 +47,7 @@ fn check(bytes: &[u8], lent: &mut [u32]) -> Result<usize, Refused> {
     let pairs = Pairs::new(&m);
     closed::check(&m, &program, &pairs)?;
     let system = Plain::new(&program, &pairs);
-    if system.counters.len() > 512 {
+    if system.counters.len() > 1024 {
         return Err((9, m.tables_at + 2));
     }
     parts::ceilings(&m, system.counters.len())?;

@@ -11,9 +11,9 @@ type PartSizes = (&'static [(usize, usize)], &'static [usize]);
 pub fn lengths(bytes: &[u8]) -> Result<(), Refused> {
     let word = |at: usize| Some(u16::from_le_bytes([*bytes.get(2 * at)?, *bytes.get(2 * at + 1)?]) as usize);
     let parts: [PartSizes; 4] = [
-        (&[(1, 1024), (1, 512), (0, 64), (0, 64)], &[0]),
+        (&[(1, 1536), (1, 512), (0, 64), (0, 64)], &[0]),
         (&[(1, 16), (4, 256)], &[1]),
-        (&[(0, 4096), (0, 512), (0, 512)], &[0, 1, 2]),
+        (&[(0, 4096), (0, 512), (0, 1024)], &[0, 1, 2]),
         (&[(0, 256), (0, 8192)], &[1]),
     ];
     let mut begin = 0;

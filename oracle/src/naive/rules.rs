@@ -36,7 +36,7 @@ impl Plain {
         letters.dedup();
         counters.extend(letters);
         let mut plain = Plain { counters, rules: Vec::new() };
-        if plain.counters.len() <= 512 {
+        if plain.counters.len() <= 1024 {
             plain.rules = plain.all_rules(program, pairs);
         }
         plain

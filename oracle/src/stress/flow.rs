@@ -35,7 +35,6 @@ pub fn hostile() -> Result<Vec<Sample>, String> {
             8,
             changed(everything(bounds::one), drop_last_state),
         )?,
-        sample("counters-513", "512 states and a letter", 9, changed(full_states(), one_letter))?,
     ])
 }
 
@@ -296,24 +295,4 @@ fn drop_last_state(m: &mut crate::message::Message) {
     m.tables.first.pop();
     m.tables.second.pop();
     m.states -= 1;
-}
-
-/// 512 states, one after another.
-fn full_states() -> Result<Vec<u8>, String> {
-    let mut list = RowList::default();
-    let idle = list.bind(11, &[(22, 0)]);
-    list.row(1, idle);
-    (0..511).for_each(|_| {
-        list.bind(7, &[]);
-    });
-    list.row(1, idle);
-    Rows { list, constructors: 0, functions: 1 }.finish(|_, _| (), bounds::one)
-}
-
-/// A mail entry: the starting process holds its own address.
-fn one_letter(m: &mut crate::message::Message) {
-    let start = m.rows as u16;
-    m.tables.first.insert(m.flow, start);
-    m.tables.second.insert(m.flow, start);
-    m.mail += 1;
 }

@@ -19,14 +19,19 @@ pub fn hostile() -> Result<Vec<Sample>, String> {
             "rows-receives",
             "510 receives, each in the branch of the one before",
             0,
-            nested_receives().finish(mail_of_start, bounds::one),
+            nested_receives(510).finish(mail_of_start, bounds::one),
         )?,
-        sample("rows-functions", "340 functions, each in the body of the one before", 0, nothing(nested_functions()))?,
+        sample(
+            "rows-functions",
+            "340 functions, each in the body of the one before",
+            0,
+            nothing(nested_functions(340)),
+        )?,
         sample(
             "rows-last-wrong",
             "510 nested receives, the last row wrong",
             3,
-            wrong_row(nested_receives().finish(mail_of_start, bounds::one)),
+            wrong_row(nested_receives(510).finish(mail_of_start, bounds::one)),
         )?,
         sample(
             "names-again",
@@ -56,14 +61,14 @@ pub fn hostile() -> Result<Vec<Sample>, String> {
         sample("bads-last-wrong", "16 bads of 256 rows, the last row wrong", 6, full_bads(true))?,
         sample(
             "entries-last-wrong",
-            "4,096 flow, 512 mail and 512 state entries, the last not in order",
+            "4,096 flow, 512 mail and 1,024 state entries, the last not in order",
             7,
             full_entries(),
         )?,
     ])
 }
 
-fn set_last(column: &mut [u16], word: u16) {
+pub fn set_last(column: &mut [u16], word: u16) {
     if let Some(last) = column.last_mut() {
         *last = word;
     }
@@ -76,29 +81,29 @@ fn idle(list: &mut RowList) -> usize {
     idle
 }
 
-fn mail_of_start(program: &Program, tables: &mut Tables) {
+pub fn mail_of_start(program: &Program, tables: &mut Tables) {
     if let Some(mail) = tables.mail.last_mut() {
         mail.insert(program.rows);
     }
 }
 
-/// Receives nested as deep as the rows allow.
-fn nested_receives() -> Rows {
+/// So many receives, each in the branch of the one before.
+pub fn nested_receives(count: usize) -> Rows {
     let mut list = RowList::default();
     let idle = idle(&mut list);
-    (0..510).for_each(|_| list.rows.extend([(9, 1), (32, 0)]));
+    (0..count).for_each(|_| list.rows.extend([(9, 1), (32, 0)]));
     list.row(1, idle);
     Rows { list, constructors: 0, functions: 1 }
 }
 
-/// Functions nested as deep as the rows allow, each giving back the outermost name.
-fn nested_functions() -> Rows {
+/// So many functions, each in the body of the one before and giving back the outermost name.
+pub fn nested_functions(count: usize) -> Rows {
     let mut list = RowList::default();
     let idle = idle(&mut list);
-    (0..340).for_each(|_| {
+    (0..count).for_each(|_| {
         list.bind(3, &[(22, 0)]);
     });
-    (0..341).for_each(|_| list.row(1, idle));
+    (0..=count).for_each(|_| list.row(1, idle));
     Rows { list, constructors: 0, functions: 1 }
 }
 

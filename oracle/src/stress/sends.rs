@@ -96,12 +96,12 @@ pub fn sends(count: usize, classes: usize, constructors: usize, bounds: impl Bou
     Rows { list, constructors, functions: 1 }.finish(extra, bounds)
 }
 
-fn builds(program: &Program) -> impl Iterator<Item = usize> + '_ {
+pub fn builds(program: &Program) -> impl Iterator<Item = usize> + '_ {
     (0..program.rows).filter(|&r| program.build(r).is_some())
 }
 
 /// The spawned classes.
-fn classes_of(program: &Program) -> Set {
+pub fn classes_of(program: &Program) -> Set {
     let mut classes = Set::EMPTY;
     program.spawns.iter().for_each(|&class| {
         classes.insert(class);
@@ -111,7 +111,7 @@ fn classes_of(program: &Program) -> Set {
 
 /// A front with constructors and a function that is never called, which has so many builds and
 /// spawns: they take no states.
-fn unused(list: &mut RowList, constructors: usize, builds: usize, spawns: usize) -> usize {
+pub fn unused(list: &mut RowList, constructors: usize, builds: usize, spawns: usize) -> usize {
     list.rows.extend(vec![(10, 0); constructors]);
     let unused = list.bind(11, &[(22, 0)]);
     (0..spawns).for_each(|_| {

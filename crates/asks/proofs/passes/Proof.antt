@@ -2,6 +2,7 @@ use Prim.Native.Nat.{_-_, _<_}
 use mathlib.Core.Path.{_≡_}
 use native.Mathlib.Omega.{arith}
 use borrow.Author.Tests.{not-true, not-false}
+use Rattle.model.specs.Limits.{maxRows}
 use Rattle.model.specs.Index.{all}
 use Rattle.model.specs.Rows.{program}
 use Rattle.model.specs.Heads.{call-at, parameters}
@@ -14,7 +15,7 @@ use Rattle.asks.proofs.passes.Statement.{statement}
 use Rattle.asks.proofs.passes.Tie as tie
 
 abbrev Inv-loop : tie.InvT-loop
-Inv-loop ws s flow r f n i₀ i = (n < 1024) × (passes (tables ws s) (call-at (program ws s) r) (parameters (program ws s) f) ≡ all i n (passing (program ws s) (tables ws s) r f))
+Inv-loop ws s flow r f n i₀ i = (n < maxRows) × (passes (tables ws s) (call-at (program ws s) r) (parameters (program ws s) f) ≡ all i n (passing (program ws s) (tables ws s) r f))
 
 abbrev μ-loop : tie.MeasureT-loop
 μ-loop ws s flow r f n i₀ i = n - i

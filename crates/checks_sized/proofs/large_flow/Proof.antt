@@ -1,12 +1,13 @@
 use native.Mathlib.Omega.{arith}
+use Rattle.model.specs.Limits.{maxRows, maxNames}
 use Rattle.values.specs.Values.{width}
 use Rattle.closure_sized.proofs.Opening.{empty-sets, sets-fit, width-most}
 use borrow.Author.Needs.{needs}
 use Rattle.checks_sized.proofs.large_flow.Statement.{statement}
 use Rattle.checks_sized.proofs.large_flow.Tie as tie
 
-words64-8721-requires : tie.Need-words64-8721-requires
-words64-8721-requires c κs = search needs
+name-sets-requires : tie.Need-name-sets-requires
+name-sets-requires c κs = search needs
 
 slice-aggregate-words-verdict : tie.Need-slice-aggregate-words-verdict
 slice-aggregate-words-verdict c = search needs
@@ -14,7 +15,7 @@ slice-aggregate-words-verdict c = search needs
 words-verdict-requires : tie.Need-words-verdict-requires
 unfolding width
 words-verdict-requires c κs =
-    (c .before .before .before .before .before .pre, record { empty = empty-sets _ _ _ (c .before .before .words64-8721 .ensures); room = sets-fit _ _ 512 (width 1024) _ _ (c .before .before .words64-8721 .ensures) (c .before .before .before .before .before .pre .limits .names .1) (width-most _ 1024 (c .before .before .before .before .before .pre .limits .rows .1)) (omega arith) })
+    (c .before .before .before .before .before .pre, record { empty = empty-sets _ _ _ (c .before .before .name-sets .ensures); room = sets-fit _ _ maxNames (width maxRows) _ _ (c .before .before .name-sets .ensures) (c .before .before .before .before .before .pre .limits .names .1) (width-most _ maxRows (c .before .before .before .before .before .pre .limits .rows .1)) (omega arith) })
 
 same-length : tie.Need-same-length
 same-length c = search needs
@@ -26,7 +27,7 @@ pub large-flow-spec : {M : Type 1} → statement M
 large-flow-spec =
     tie.close
     (tie.spec
-    words64-8721-requires
+    name-sets-requires
     slice-aggregate-words-verdict
     words-verdict-requires
     same-length

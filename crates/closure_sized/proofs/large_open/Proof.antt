@@ -1,27 +1,28 @@
 use native.Mathlib.Omega.{arith}
+use Rattle.model.specs.Limits.{maxRows, maxNames}
 use Rattle.values.specs.Values.{width}
 use Rattle.closure_sized.proofs.Opening.{lends}
 use borrow.Author.Needs.{needs}
 use Rattle.closure_sized.proofs.large_open.Statement.{statement}
 use Rattle.closure_sized.proofs.large_open.Tie as tie
 
-words64-8721-requires : tie.Need-words64-8721-requires
-words64-8721-requires c κs = search needs
+name-sets-requires : tie.Need-name-sets-requires
+name-sets-requires c κs = search needs
 
 words16-66-requires : tie.Need-words16-66-requires
 words16-66-requires c κs = search needs
 
-words16-1056-requires : tie.Need-words16-1056-requires
-words16-1056-requires c κs = search needs
+row-words16-requires : tie.Need-row-words16-requires
+row-words16-requires c κs = search needs
 
-words64-17408-requires : tie.Need-words64-17408-requires
-words64-17408-requires c κs = search needs
+row-sets-requires : tie.Need-row-sets-requires
+row-sets-requires c κs = search needs
 
-words64-17408-requires-2 : tie.Need-words64-17408-requires-2
-words64-17408-requires-2 c κs = search needs
+row-sets-requires-2 : tie.Need-row-sets-requires-2
+row-sets-requires-2 c κs = search needs
 
-words32-1056-requires : tie.Need-words32-1056-requires
-words32-1056-requires c κs = search needs
+row-words32-requires : tie.Need-row-words32-requires
+row-words32-requires c κs = search needs
 
 words64-130-requires : tie.Need-words64-130-requires
 words64-130-requires c κs = search needs
@@ -51,7 +52,7 @@ open-check-requires : tie.Need-open-check-requires
 unfolding width
 open-check-requires c κs =
     let p = c .before .before .before .before .before .before .before .before .before .before .before .before .before .before .before .before .before .before .before .before .before .before .before .pre in
-    lends _ _ _ _ _ _ _ 1024 512 _ _ _ _ _ _ _ _ _ _ _ _ (p .0) (p .1 .0) (p .1 .1 .0) (p .1 .1 .1 .0) (p .1 .1 .1 .1) (p .0 .limits .rows .1) (p .0 .limits .names .1) (c .before .before .before .before .before .before .before .before .before .before .before .before .before .before .before .before .words64-8721 .ensures) (c .before .before .before .before .before .before .before .before .before .before .before .before .before .before .before .words16-66 .ensures) (c .before .before .before .before .before .before .before .before .before .before .before .before .before .before .words16-1056 .ensures) (c .before .before .before .before .before .before .before .before .before .before .before .before .before .words64-17408 .ensures) (c .before .before .before .before .before .before .before .before .before .before .before .before .words64-174082 .ensures) (c .before .before .before .before .before .before .before .before .before .before .before .words32-1056 .ensures) (c .before .before .before .before .before .before .before .before .before .before .words64-130 .ensures) (omega arith) (omega arith) (omega arith) (omega arith) (omega arith)
+    lends _ _ _ _ _ _ _ maxRows maxNames _ _ _ _ _ _ _ _ _ _ _ _ (p .0) (p .1 .0) (p .1 .1 .0) (p .1 .1 .1 .0) (p .1 .1 .1 .1) (p .0 .limits .rows .1) (p .0 .limits .names .1) (c .before .before .before .before .before .before .before .before .before .before .before .before .before .before .before .before .name-sets .ensures) (c .before .before .before .before .before .before .before .before .before .before .before .before .before .before .before .words16-66 .ensures) (c .before .before .before .before .before .before .before .before .before .before .before .before .before .before .row-words16 .ensures) (c .before .before .before .before .before .before .before .before .before .before .before .before .before .row-sets .ensures) (c .before .before .before .before .before .before .before .before .before .before .before .before .row-sets2 .ensures) (c .before .before .before .before .before .before .before .before .before .before .before .row-words32 .ensures) (c .before .before .before .before .before .before .before .before .before .before .words64-130 .ensures) (omega arith) (omega arith) (omega arith) (omega arith) (omega arith)
 
 same-length : tie.Need-same-length
 same-length c = search needs
@@ -69,12 +70,12 @@ pub large-open-spec : {M : Type 1} → statement M
 large-open-spec =
     tie.close
     (tie.spec
-    words64-8721-requires
+    name-sets-requires
     words16-66-requires
-    words16-1056-requires
-    words64-17408-requires
-    words64-17408-requires-2
-    words32-1056-requires
+    row-words16-requires
+    row-sets-requires
+    row-sets-requires-2
+    row-words32-requires
     words64-130-requires
     slice-aggregate-open-check
     slice-aggregate-open-check-2

@@ -1,6 +1,7 @@
 -- The part is `part` at its place, with its sizes.
 use mathlib.Core.Path.{refl, sym}
 use borrow.Author.Needs.{needs}
+use Rattle.model.specs.Limits.{present}
 use Rattle.model.specs.Message.{program-part}
 use Rattle.model.specs.Message.{program-sizes}
 use Rattle.message.proofs.program_part.Statement.{statement}
@@ -14,7 +15,7 @@ part-requires c κs = search needs
 
 returns : tie.Need-returns
 unfolding program-part
-returns c = c .part .ensures (program-sizes (c .before .before .before .args .s)) refl (sym (c .before .program-outside .ensures))
+returns c = c .part .ensures (program-sizes present (c .before .before .before .args .s)) refl (sym (c .before .program-outside .ensures))
 
 pub program-part-spec : {M : Type 1} → statement M
 program-part-spec = tie.close (tie.spec program-outside-requires part-requires returns)

@@ -1,6 +1,7 @@
 -- The part is `part` at its place, with its sizes.
 use mathlib.Core.Path.{refl, sym}
 use borrow.Author.Needs.{needs}
+use Rattle.model.specs.Limits.{present}
 use Rattle.model.specs.Message.{tables-at, tables-part}
 use Rattle.model.specs.Message.{tables-sizes}
 use Rattle.message.proofs.tables_part.Statement.{statement}
@@ -26,7 +27,7 @@ returns : tie.Need-returns
 unfolding tables-part
 returns c =
     rw (← (c .before .before .before .before .tables-at .ensures))
-    (c .part .ensures (tables-sizes (c .before .before .before .before .before .before .args .s)) refl (sym (c .before .before .before .tables-outside .ensures)))
+    (c .part .ensures (tables-sizes present (c .before .before .before .before .before .before .args .s)) refl (sym (c .before .before .before .tables-outside .ensures)))
 
 pub tables-part-spec : {M : Type 1} → statement M
 tables-part-spec =

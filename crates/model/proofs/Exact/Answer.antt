@@ -10,6 +10,7 @@ use lib.Dec.{T, leb, ltb}
 use Rattle.model.specs.declared.Sizes.{Sizes}
 use Rattle.model.specs.declared.Verdict.{Verdict}
 use Rattle.model.specs.declared.Verdict.the-variants.{Safe, Length, Size, Row, Name, Scope, Bad, Entry, Open, Counters, Ceiling, Start, Met, Leak, Space}
+use Rattle.model.specs.Limits.{Limits}
 use Rattle.model.specs.Words.{Columns}
 use Rattle.model.specs.Verdict.{Check, _>>_, unless, number}
 use Rattle.model.specs.Message.{Limited, sizes-check, part-check, program-part, bads-part, tables-part, ceilings-part, nothing-left, parts-check, bads-at, ceilings-at}
@@ -22,7 +23,7 @@ use Rattle.model.specs.Closed.{open-check}
 use Rattle.model.specs.Counters.{counter-check}
 use Rattle.model.specs.Listing.{space-check}
 use Rattle.model.specs.Ceilings.{Ceilings, ceiling-entries, ceiling-step, ceilings-ahead, ceiling-check, start-check, met-check, leak-check}
-use Rattle.model.specs.Verify.{Message, program-check, evidence-check, ceilings-check, message-check, check, answer, verdict}
+use Rattle.model.specs.Verify.{Message, program-check, evidence-check, ceilings-check, message-check, check, answer, verdict-within}
 use Rattle.model.proofs.Logic.{test}
 use Rattle.model.proofs.Exact.Checks.{then-some, unless-some}
 
@@ -57,9 +58,9 @@ part-refuses ws at ls n =
     then-refuses _ _ (unless-refuses _ (Length at) tt)
     (then-refuses _ _ (sizes-refuses at ls) (unless-refuses _ (Length at) tt))
 
-parts-refuse : (bytes : List ℕ) → Refuses (parts-check bytes)
+parts-refuse : (most : Limits) (bytes : List ℕ) → Refuses (parts-check most bytes)
 unfolding parts-check program-part bads-part tables-part ceilings-part nothing-left number
-parts-refuse bytes =
+parts-refuse most bytes =
     then-refuses _ _ (part-refuses _ _ _ _) (then-refuses _ _ (part-refuses _ _ _ _) (then-refuses _ _ (part-refuses _ _ _ _)
     (then-refuses _ _ (part-refuses _ _ _ _) (unless-refuses _ (Length _) tt))))
 
@@ -96,15 +97,15 @@ pub open-refuses : (s : Sizes) (p : Program) (t : Tables) → Refuses (open-chec
 unfolding open-check number
 open-refuses s p t = then-refuses _ _ (unless-refuses _ (Open _) tt) (unless-refuses _ (Open _) tt)
 
-pub counter-refuses : (s : Sizes) (p : Program) (t : Tables) → Refuses (counter-check s p t)
+pub counter-refuses : (most : Limits) (s : Sizes) (p : Program) (t : Tables) → Refuses (counter-check most s p t)
 unfolding counter-check number
-counter-refuses s p t = unless-refuses _ (Counters _) tt
+counter-refuses most s p t = unless-refuses _ (Counters _) tt
 
-evidence-refuses : (m : Message) → Refuses (evidence-check m)
+evidence-refuses : (most : Limits) (m : Message) → Refuses (evidence-check most m)
 unfolding evidence-check
-evidence-refuses m =
+evidence-refuses most m =
     then-refuses _ _ (bad-refuses _ _ _)
-    (then-refuses _ _ (entry-refuses _ _ _) (then-refuses _ _ (open-refuses _ _ _) (counter-refuses _ _ _)))
+    (then-refuses _ _ (entry-refuses _ _ _) (then-refuses _ _ (open-refuses _ _ _) (counter-refuses _ _ _ _)))
 
 pub ceiling-refuses : (ws : List ℕ) (s : Sizes) (counters : ℕ) → Refuses (ceiling-check ws s counters)
 unfolding ceiling-check number
@@ -125,18 +126,18 @@ ceilings-refuse m =
     then-refuses _ _ (ceiling-refuses _ _ _)
     (then-refuses _ _ (start-refuses _ _ _ _) (then-refuses _ _ (met-refuses _ _ _ _ _) (unless-refuses _ (Leak _) tt)))
 
-pub check-refuses : (bytes : List ℕ) (lent : ℕ) → Refuses (check bytes lent)
+pub check-refuses : (most : Limits) (bytes : List ℕ) (lent : ℕ) → Refuses (check most bytes lent)
 unfolding check message-check space-check number
-check-refuses bytes lent =
-    then-refuses _ _ (parts-refuse bytes)
+check-refuses most bytes lent =
+    then-refuses _ _ (parts-refuse most bytes)
     (then-refuses _ _ (program-refuses _)
-    (then-refuses _ _ (evidence-refuses _) (then-refuses _ _ (ceilings-refuse _) (unless-refuses _ (Space _) tt))))
+    (then-refuses _ _ (evidence-refuses _ _) (then-refuses _ _ (ceilings-refuse _) (unless-refuses _ (Space _) tt))))
 
 pub answer-safe : (c : Check) → Refuses c → (answer c ≡ Safe) ↔ (c ≡ none)
 unfolding answer
 answer-safe none r = (λ h. refl, λ h. refl)
 answer-safe (some v) r = (λ h. absurd (r (ap some h)), λ h. absurd (Option·some-ne-none v h))
 
-pub verdict-safe : (bytes : List ℕ) (lent : ℕ) → (verdict bytes lent ≡ Safe) ↔ (check bytes lent ≡ none)
-unfolding verdict
-verdict-safe bytes lent = answer-safe (check bytes lent) (check-refuses bytes lent)
+pub verdict-safe : (most : Limits) (bytes : List ℕ) (lent : ℕ) → (verdict-within most bytes lent ≡ Safe) ↔ (check most bytes lent ≡ none)
+unfolding verdict-within
+verdict-safe most bytes lent = answer-safe (check most bytes lent) (check-refuses most bytes lent)

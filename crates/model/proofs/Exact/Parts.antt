@@ -11,6 +11,7 @@ use lib.Dec.{leb}
 use Rattle.model.specs.declared.Sizes.{Sizes}
 use Rattle.model.specs.declared.Verdict.{Verdict}
 use Rattle.model.specs.declared.Verdict.the-variants.{Length, Size}
+use Rattle.model.specs.Limits.{Limits}
 use Rattle.model.specs.Words.{words}
 use Rattle.model.specs.Verdict.{Check, _>>_}
 use Rattle.model.specs.Message.{Limited, sizes, bads-at, tables-at, ceilings-at, end-at, sizes-check, part-check, program-part, bads-part, tables-part, ceilings-part, nothing-left, parts-check}
@@ -122,29 +123,29 @@ checks-last ws [] last v w h = h
 checks-last ws (x ∷ xs) last v w h = then-some _ _ v .1 (inr (part-none ws x .1 (w .0), checks-last ws xs last v (w .1) h))
 
 -- Refusals 1 and 2 of a message
-module _ (bytes : List ℕ) where
+module _ (most : Limits) (bytes : List ℕ) where
   abbrev ws : List ℕ
   ws = words bytes
 
   abbrev s : Sizes
   s = sizes ws
 
-  pub parts-none : (parts-check bytes ≡ none) ↔ ((length bytes ≡ 2 * end-at s) × Within-limits s)
+  pub parts-none : (parts-check most bytes ≡ none) ↔ ((length bytes ≡ 2 * end-at s) × Within-limits most s)
   unfolding parts-check program-part bads-part tables-part ceilings-part nothing-left end-at ceilings-at tables-at bads-at
   parts-none =
       Iff·trans
-      (Iff·trans (checks-none ws (parts s) (nothing-left bytes s))
+      (Iff·trans (checks-none ws (parts most s) (nothing-left bytes s))
       (Iff·and Iff·rfl (unless-iff _ _ (leb-iff (length bytes) (2 * end-at s)))))
       (λ h. omega (arith, words-length bytes), λ h. omega (arith, words-length bytes))
 
-  pub parts-some : (v : Verdict) → (parts-check bytes ≡ some v) ↔ (((k : ℕ) × (x : Message-part) × Behind (Whole ws) (parts s) k x × Part-wrong ws x v) ⊎ (Within-limits s × (2 * end-at s < length bytes) × (Length (end-at s) ≡ v)))
+  pub parts-some : (v : Verdict) → (parts-check most bytes ≡ some v) ↔ (((k : ℕ) × (x : Message-part) × Behind (Whole ws) (parts most s) k x × Part-wrong ws x v) ⊎ (Within-limits most s × (2 * end-at s < length bytes) × (Length (end-at s) ≡ v)))
   unfolding parts-check program-part bads-part tables-part ceilings-part nothing-left end-at ceilings-at tables-at bads-at
   parts-some v = (
     λ h. ⊎-elim (λ x. let (k, y, b, e) = x in inl (k, y, b, part-some ws y v .0 e))
         (λ x. let w = x .0 in let (n, q) = remain .0 (x .1) in inr (omega arith, omega arith, q))
-        (checks-some ws (parts s) (nothing-left bytes s) v h),
-    ⊎-elim (λ x. let (k, y, b, e) = x in checks-stop ws (parts s) (nothing-left bytes s) v k y b (part-some ws y v .1 e))
-        (λ x. let (w, l, q) = x in checks-last ws (parts s) (nothing-left bytes s) v (omega (arith, words-length bytes)) (remain .1 (λ z. omega arith, q))),
+        (checks-some ws (parts most s) (nothing-left bytes s) v h),
+    ⊎-elim (λ x. let (k, y, b, e) = x in checks-stop ws (parts most s) (nothing-left bytes s) v k y b (part-some ws y v .1 e))
+        (λ x. let (w, l, q) = x in checks-last ws (parts most s) (nothing-left bytes s) v (omega (arith, words-length bytes)) (remain .1 (λ z. omega arith, q))),
   )
     where
       remain : (nothing-left bytes s ≡ some v) ↔ ((length bytes ≤ 2 * end-at s → ⊥) × (Length (end-at s) ≡ v))

@@ -7,7 +7,7 @@ use mathlib.Core.Option.{none}
 use lib.ListN.{length}
 use Rattle.model.specs.declared.Sizes.{Sizes}
 use Rattle.model.specs.declared.Verdict.the-variants.{Counters}
-use Rattle.model.specs.Limits.{maxCounters}
+use Rattle.model.specs.Limits.{Limits}
 use Rattle.model.specs.Words.{words}
 use Rattle.model.specs.Verdict.{Check, _>>_}
 use Rattle.model.specs.Message.{sizes, end-at}
@@ -29,13 +29,13 @@ use Rattle.model.proofs.Exact.Entries.{entry-none, bad-none, ceiling-no
 use Rattle.model.proofs.Exact.Closed.{open-none}
 
 -- what refusals 1 to 10 leave
-pub record Formed (bytes : List ℕ) : Type 0 where
+pub record Formed (most : Limits) (bytes : List ℕ) : Type 0 where
   pub whole : length bytes ≡ 2 * end-at (message bytes .sizes)
-  pub limits : Within-limits (message bytes .sizes)
+  pub limits : Within-limits most (message bytes .sizes)
   pub program : Well-formed (message bytes .program)
   pub form : In-form (message bytes)
   pub closed : Closed (message bytes .program) (message bytes .tables)
-  pub counters : counter-count (message bytes .program) (message bytes .tables) ≤ maxCounters
+  pub counters : counter-count (message bytes .program) (message bytes .tables) ≤ most .counters
 
 -- refusals 11 to 13
 abbrev pub tests-of-ceilings : Message → Check
@@ -45,19 +45,19 @@ tests-of-ceilings m =
     leak-check (m .words) (m .sizes) (m .ceilings) (rules (m .program) (m .tables)))
 
 abbrev pub Ceilings-exactly : Type 0
-Ceilings-exactly = (bytes : List ℕ) → Bytes bytes → Formed bytes → (tests-of-ceilings (message bytes) ≡ none) ↔ Inductive (message bytes)
+Ceilings-exactly = (most : Limits) (bytes : List ℕ) → Bytes bytes → Formed most bytes → (tests-of-ceilings (message bytes) ≡ none) ↔ Inductive (message bytes)
 
 -- Nothing is refused where the message is formed, the tests of the ceilings pass, and the system fits
-pub check-none : (bytes : List ℕ) (lent : ℕ) → (check bytes lent ≡ none) ↔ (Formed bytes × ((tests-of-ceilings (message bytes) ≡ none) × (length (system-words (message bytes .program) (message bytes .tables)) ≤ lent)))
+pub check-none : (most : Limits) (bytes : List ℕ) (lent : ℕ) → (check most bytes lent ≡ none) ↔ (Formed most bytes × ((tests-of-ceilings (message bytes) ≡ none) × (length (system-words (message bytes .program) (message bytes .tables)) ≤ lent)))
 unfolding check message-check evidence-check ceilings-check counter-check space-check message ceilings-of
-check-none bytes lent =
+check-none most bytes lent =
     Iff·trans
-    (then-iff _ _ (parts-none bytes)
+    (then-iff _ _ (parts-none most bytes)
     (then-iff _ _ (program-none p)
     (then-iff _ _
     (then-iff _ _ (bad-none ws s p)
     (then-iff _ _ (entry-none s p t)
-    (then-iff _ _ (open-none ws s t) (unless-iff _ _ (leb-iff (counter-count p t) maxCounters)))))
+    (then-iff _ _ (open-none ws s t) (unless-iff _ _ (leb-iff (counter-count p t) (most .counters))))))
     (then-iff _ _ (then-iff _ _ (ceiling-none ws s (counter-count p t)) Iff·rfl)
     (unless-iff _ _ (leb-iff (length (system-words p t)) lent)))))) (
       λ h. let ((whole, limits), (well, ((bads, ((flow, (mail, states)), (closed, counters))), ((ceiling, tests), space)))) = h in (
@@ -92,9 +92,9 @@ check-none bytes lent =
 
 -- Demand 2, first half
 pub safe-exactly : Ceilings-exactly → Safe-exactly
-safe-exactly exact bytes lent b =
-    Iff·trans (verdict-safe bytes lent)
-    (Iff·trans (check-none bytes lent) (
+safe-exactly exact most bytes lent b =
+    Iff·trans (verdict-safe most bytes lent)
+    (Iff·trans (check-none most bytes lent) (
       λ h. let (k, (tests, space)) = h in
           record {
             whole = k .whole;
@@ -103,9 +103,9 @@ safe-exactly exact bytes lent b =
             form = k .form;
             closed = k .closed;
             counters = k .counters;
-            bounded = exact bytes b k .0 tests;
+            bounded = exact most bytes b k .0 tests;
             space = space;
           },
-      λ h. let k : Formed bytes = record { whole = h .whole; limits = h .limits; program = h .program; form = h .form; closed = h .closed; counters = h .counters } in
-          (k, (exact bytes b k .1 (h .bounded), h .space)),
+      λ h. let k : Formed most bytes = record { whole = h .whole; limits = h .limits; program = h .program; form = h .form; closed = h .closed; counters = h .counters } in
+          (k, (exact most bytes b k .1 (h .bounded), h .space)),
     ))

@@ -1,3 +1,4 @@
+use native.Mathlib.Omega.{arith}
 use borrow.Author.Needs.{needs}
 use Rattle.system_letters.proofs.Tables.{counters-safe, counters-many}
 use Rattle.model.specs.Message.{tables-at}
@@ -15,10 +16,10 @@ unfolding tables-at
 add-t9 c = search needs
 
 returns : tie.Need-returns
-returns c = counters-safe _ _ _ _ (c .before .counter-count .ensures) (c .if1 .taken)
+returns c = counters-safe _ _ _ _ (c .before .counter-count .ensures) (omega (arith, c .if1 .taken))
 
 returns-2 : tie.Need-returns-2
-returns-2 c = counters-many _ _ _ _ _ (c .before .before .counter-count .ensures) (c .before .if1 .left) (c .tables-at .ensures)
+returns-2 c = counters-many _ _ _ _ _ (c .before .before .counter-count .ensures) (omega (arith, c .before .if1 .left)) (c .tables-at .ensures)
 
 pub counter-check-spec : {M : Type 1} → statement M
 counter-check-spec = tie.close (tie.spec counter-count-requires tables-at-requires add-t9 returns returns-2)

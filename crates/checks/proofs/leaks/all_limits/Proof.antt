@@ -4,26 +4,26 @@ use borrow.Author.Needs.{needs}
 use Rattle.checks.proofs.leaks.all_limits.Statement.{statement}
 use Rattle.checks.proofs.leaks.all_limits.Tie as tie
 
-words16-131072-requires : tie.Need-words16-131072-requires
-words16-131072-requires c κs = search needs
+limit-words-requires : tie.Need-limit-words-requires
+limit-words-requires c κs = search needs
 
 words16-258-requires : tie.Need-words16-258-requires
 words16-258-requires c κs = search needs
 
-words64-4096-requires : tie.Need-words64-4096-requires
-words64-4096-requires c κs = search needs
+holder-masks-requires : tie.Need-holder-masks-requires
+holder-masks-requires c κs = search needs
 
-words64-2048-requires : tie.Need-words64-2048-requires
-words64-2048-requires c κs = search needs
+counter-masks-requires : tie.Need-counter-masks-requires
+counter-masks-requires c κs = search needs
 
-words64-2048-requires-2 : tie.Need-words64-2048-requires-2
-words64-2048-requires-2 c κs = search needs
+counter-masks-requires-2 : tie.Need-counter-masks-requires-2
+counter-masks-requires-2 c κs = search needs
 
-words64-2048-requires-3 : tie.Need-words64-2048-requires-3
-words64-2048-requires-3 c κs = search needs
+counter-masks-requires-3 : tie.Need-counter-masks-requires-3
+counter-masks-requires-3 c κs = search needs
 
-words64-2048-requires-4 : tie.Need-words64-2048-requires-4
-words64-2048-requires-4 c κs = search needs
+counter-masks-requires-4 : tie.Need-counter-masks-requires-4
+counter-masks-requires-4 c κs = search needs
 
 slice-aggregate-ceilings-on : tie.Need-slice-aggregate-ceilings-on
 slice-aggregate-ceilings-on c = search needs
@@ -49,7 +49,7 @@ slice-aggregate-ceilings-on-7 c = search needs
 ceilings-on-requires : tie.Need-ceilings-on-requires
 ceilings-on-requires c κs =
     let m = few-counters _ _ _ (c .before .before .before .before .before .before .before .before .before .before .before .before .before .before .before .before .before .before .before .before .before .before .before .pre .1 .counted) (c .before .before .before .before .before .before .before .before .before .before .before .before .before .before .before .before .before .before .before .before .before .before .before .pre .0 .few) in
-    (c .before .before .before .before .before .before .before .before .before .before .before .before .before .before .before .before .before .before .before .before .before .before .before .pre .0, (c .before .before .before .before .before .before .before .before .before .before .before .before .before .before .before .before .before .before .before .before .before .before .before .pre .1, (limits-room _ _ _ _ _ _ (all-cells _ _ m (c .before .before .before .before .before .before .before .before .before .before .before .before .before .before .before .before .before .before .before .before .before .before .before .pre .0 .ready .limits)) (omega (arith, c .before .before .before .before .before .before .before .before .before .before .before .before .before .before .before .before .before .before .before .before .before .before .before .pre .0 .ready .limits .ceilings)) (c .before .before .before .before .before .before .before .before .before .before .before .before .before .words16-131072 .ensures) (c .before .before .before .before .before .before .before .before .before .before .before .before .words16-258 .ensures), mask-room _ _ _ _ _ _ _ _ (omega (arith, m)) (omega (arith, m)) (c .before .before .before .before .before .before .before .before .before .before .before .words64-4096 .ensures) (c .before .before .before .before .before .before .before .before .before .before .words64-2048 .ensures) (c .before .before .before .before .before .before .before .before .before .words64-20482 .ensures) (c .before .before .before .before .before .before .before .before .words64-20483 .ensures) (c .before .before .before .before .before .before .before .words64-20484 .ensures))))
+    (c .before .before .before .before .before .before .before .before .before .before .before .before .before .before .before .before .before .before .before .before .before .before .before .pre .0, (c .before .before .before .before .before .before .before .before .before .before .before .before .before .before .before .before .before .before .before .before .before .before .before .pre .1, (limits-room _ _ _ _ _ _ (all-cells _ _ m (c .before .before .before .before .before .before .before .before .before .before .before .before .before .before .before .before .before .before .before .before .before .before .before .pre .0 .ready .limits)) (omega (arith, c .before .before .before .before .before .before .before .before .before .before .before .before .before .before .before .before .before .before .before .before .before .before .before .pre .0 .ready .limits .ceilings)) (c .before .before .before .before .before .before .before .before .before .before .before .before .before .limit-words .ensures) (c .before .before .before .before .before .before .before .before .before .before .before .before .words16-258 .ensures), mask-room _ _ _ _ _ _ _ _ (omega (arith, m)) (omega (arith, m)) (c .before .before .before .before .before .before .before .before .before .before .before .holder-masks .ensures) (c .before .before .before .before .before .before .before .before .before .before .counter-masks .ensures) (c .before .before .before .before .before .before .before .before .before .counter-masks2 .ensures) (c .before .before .before .before .before .before .before .before .counter-masks3 .ensures) (c .before .before .before .before .before .before .before .counter-masks4 .ensures))))
 
 returns : tie.Need-returns
 returns c = search needs
@@ -58,13 +58,13 @@ pub all-limits-spec : {M : Type 1} → statement M
 all-limits-spec =
     tie.close
     (tie.spec
-    words16-131072-requires
+    limit-words-requires
     words16-258-requires
-    words64-4096-requires
-    words64-2048-requires
-    words64-2048-requires-2
-    words64-2048-requires-3
-    words64-2048-requires-4
+    holder-masks-requires
+    counter-masks-requires
+    counter-masks-requires-2
+    counter-masks-requires-3
+    counter-masks-requires-4
     slice-aggregate-ceilings-on
     slice-aggregate-ceilings-on-2
     slice-aggregate-ceilings-on-3

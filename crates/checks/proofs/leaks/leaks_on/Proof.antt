@@ -13,20 +13,20 @@ fill-holders-requires c κs =
     let m = c .before .before .before .before .before .before .before .before .before .before .before .before .before .before .before .before .before .before .pre .1 .1 in
     ((c .before .before .before .before .before .before .before .before .before .before .before .before .before .before .before .before .before .before .pre .0 .ready .limits .ceilings, omega (arith, l .counted, c .before .before .before .before .before .before .before .before .before .before .before .before .before .before .before .before .before .before .pre .0 .few)), (l .limits-table .room, (m .held, m .free)))
 
-words16-1056-requires : tie.Need-words16-1056-requires
-words16-1056-requires c κs = search needs
+row-words16-requires : tie.Need-row-words16-requires
+row-words16-requires c κs = search needs
 
-words16-1056-requires-2 : tie.Need-words16-1056-requires-2
-words16-1056-requires-2 c κs = search needs
+row-words16-requires-2 : tie.Need-row-words16-requires-2
+row-words16-requires-2 c κs = search needs
 
-words16-1056-requires-3 : tie.Need-words16-1056-requires-3
-words16-1056-requires-3 c κs = search needs
+row-words16-requires-3 : tie.Need-row-words16-requires-3
+row-words16-requires-3 c κs = search needs
 
 slice-aggregate-no-class : tie.Need-slice-aggregate-no-class
 slice-aggregate-no-class c = search needs
 
 no-class-requires : tie.Need-no-class-requires
-no-class-requires c κs = (c .before .before .before .before .before .before .before .before .before .before .before .before .before .before .before .before .before .before .before .before .before .before .before .before .before .before .before .pre .0 .ready, omega (arith, c .before .before .before .before .before .before .before .before .before .before .before .before .before .before .before .before .before .before .before .before .before .before .before .before .before .before .before .pre .0 .ready .limits .rows .1, c .before .before .before .words16-1056 .ensures .room))
+no-class-requires c κs = (c .before .before .before .before .before .before .before .before .before .before .before .before .before .before .before .before .before .before .before .before .before .before .before .before .before .before .before .pre .0 .ready, omega (arith, c .before .before .before .before .before .before .before .before .before .before .before .before .before .before .before .before .before .before .before .before .before .before .before .before .before .before .before .pre .0 .ready .limits .rows .1, c .before .before .before .row-words16 .ensures .room))
 
 slice-aggregate-fill-groups : tie.Need-slice-aggregate-fill-groups
 slice-aggregate-fill-groups c = search needs
@@ -40,7 +40,7 @@ slice-aggregate-fill-groups-3 c = search needs
 fill-groups-requires : tie.Need-fill-groups-requires
 fill-groups-requires c κs =
     let l = c .before .before .before .before .before .before .before .before .before .before .before .before .before .before .before .before .before .before .before .before .before .before .before .before .before .before .before .before .before .before .before .before .before .before .before .pre .1 .0 in
-    (c .before .before .before .before .before .before .before .before .before .before .before .before .before .before .before .before .before .before .before .before .before .before .before .before .before .before .before .before .before .before .before .before .before .before .before .pre .0, (record { counted = l .counted; in-form = l .in-form; limits-table = l .limits-table; starts-table = l .starts-table; held-by = c .before .before .before .before .before .before .before .before .before .before .before .before .before .before .before .before .fill-holders .ensures }, (c .before .before .before .before .before .before .before .no-class .ensures, ((rule-room _ _ _ (c .before .before .before .before .before .before .before .before .before .before .before .before .before .before .before .before .before .before .before .before .before .before .before .before .before .before .before .before .before .before .before .before .before .before .before .pre .0 .ready .limits) (c .before .before .before .before .before .before .before .before .before .before .words16-10562 .ensures) (c .before .before .before .before .before .before .before .before .before .words16-10563 .ensures), omega (arith, c .before .before .before .before .before .before .before .before .before .before .words16-10562 .ensures .room)), omega (arith, c .before .before .before .before .before .before .before .before .before .before .before .before .before .before .before .before .before .before .before .before .before .before .before .before .before .before .before .before .before .before .before .before .before .before .before .pre .1 .1 .states, states-few _ _ _ (l .counted))))))
+    (c .before .before .before .before .before .before .before .before .before .before .before .before .before .before .before .before .before .before .before .before .before .before .before .before .before .before .before .before .before .before .before .before .before .before .before .pre .0, (record { counted = l .counted; in-form = l .in-form; limits-table = l .limits-table; starts-table = l .starts-table; held-by = c .before .before .before .before .before .before .before .before .before .before .before .before .before .before .before .before .fill-holders .ensures }, (c .before .before .before .before .before .before .before .no-class .ensures, ((rule-room _ _ _ (c .before .before .before .before .before .before .before .before .before .before .before .before .before .before .before .before .before .before .before .before .before .before .before .before .before .before .before .before .before .before .before .before .before .before .before .pre .0 .ready .limits) (c .before .before .before .before .before .before .before .before .before .before .row-words162 .ensures) (c .before .before .before .before .before .before .before .before .before .row-words163 .ensures), omega (arith, c .before .before .before .before .before .before .before .before .before .before .row-words162 .ensures .room)), omega (arith, c .before .before .before .before .before .before .before .before .before .before .before .before .before .before .before .before .before .before .before .before .before .before .before .before .before .before .before .before .before .before .before .before .before .before .before .pre .1 .1 .states, states-few _ _ _ (l .counted))))))
 
 slice-aggregate-leak-check : tie.Need-slice-aggregate-leak-check
 slice-aggregate-leak-check c = search needs
@@ -54,7 +54,7 @@ slice-aggregate-leak-check-3 c = search needs
 leak-check-requires : tie.Need-leak-check-requires
 leak-check-requires c κs =
     let l = c .before .before .before .before .before .before .before .before .before .before .before .before .before .before .before .before .before .before .before .before .before .before .before .before .before .before .before .before .before .before .before .before .before .before .before .before .before .before .before .before .before .before .before .before .before .before .before .before .before .before .pre .1 .0 in
-    (c .before .before .before .before .before .before .before .before .before .before .before .before .before .before .before .before .before .before .before .before .before .before .before .before .before .before .before .before .before .before .before .before .before .before .before .before .before .before .before .before .before .before .before .before .before .before .before .before .before .before .pre .0, (record { counted = l .counted; in-form = l .in-form; limits-table = l .limits-table; starts-table = l .starts-table; held-by = c .before .before .before .before .before .before .before .before .before .before .before .before .before .before .before .before .before .before .before .before .before .before .before .before .before .before .before .before .before .before .before .fill-holders .ensures }, (c .before .before .before .before .before .before .before .before .before .before .before .before .before .before .fill-groups .ensures .0, (c .before .before .before .before .before .before .before .before .before .before .before .before .before .before .fill-groups .ensures .1 .0, (omega (arith, c .before .before .before .before .before .before .before .before .before .before .before .before .before .before .before .before .before .before .before .before .before .before .before .before .before .before .before .before .before .before .before .before .before .before .before .before .before .before .before .before .before .before .before .before .before .before .before .before .before .before .pre .1 .1 .states, states-few _ _ _ (l .counted)), record { rules = room-kept _ _ _ _ _ (rule-room _ _ _ (c .before .before .before .before .before .before .before .before .before .before .before .before .before .before .before .before .before .before .before .before .before .before .before .before .before .before .before .before .before .before .before .before .before .before .before .before .before .before .before .before .before .before .before .before .before .before .before .before .before .before .pre .0 .ready .limits) (c .before .before .before .before .before .before .before .before .before .before .before .before .before .before .before .before .before .before .before .before .before .before .before .before .before .words16-10562 .ensures) (c .before .before .before .before .before .before .before .before .before .before .before .before .before .before .before .before .before .before .before .before .before .before .before .before .words16-10563 .ensures)) (c .before .before .before .before .before .before .before .before .before .before .before .before .before .before .fill-groups .kept .1 .1 .1 .1 .1 .1 .1 .1 .1 .1 .1 .1 .1 .1 .1 .1 .1 .1 .0) (c .before .before .before .before .before .before .before .before .before .before .before .before .before .before .fill-groups .kept .1 .1 .1 .1 .1 .1 .1 .1 .1 .1 .1 .1 .1 .1 .1 .1 .1 .1 .1 .0); short-room = c .before .before .before .before .before .before .before .before .before .before .before .before .before .before .before .before .before .before .before .before .before .before .before .before .before .before .before .before .before .before .before .before .before .before .before .before .before .before .before .before .before .before .before .before .before .before .before .before .before .before .pre .1 .1 .one-less; more-room = c .before .before .before .before .before .before .before .before .before .before .before .before .before .before .before .before .before .before .before .before .before .before .before .before .before .before .before .before .before .before .before .before .before .before .before .before .before .before .before .before .before .before .before .before .before .before .before .before .before .before .pre .1 .1 .one-more })))))
+    (c .before .before .before .before .before .before .before .before .before .before .before .before .before .before .before .before .before .before .before .before .before .before .before .before .before .before .before .before .before .before .before .before .before .before .before .before .before .before .before .before .before .before .before .before .before .before .before .before .before .before .pre .0, (record { counted = l .counted; in-form = l .in-form; limits-table = l .limits-table; starts-table = l .starts-table; held-by = c .before .before .before .before .before .before .before .before .before .before .before .before .before .before .before .before .before .before .before .before .before .before .before .before .before .before .before .before .before .before .before .fill-holders .ensures }, (c .before .before .before .before .before .before .before .before .before .before .before .before .before .before .fill-groups .ensures .0, (c .before .before .before .before .before .before .before .before .before .before .before .before .before .before .fill-groups .ensures .1 .0, (omega (arith, c .before .before .before .before .before .before .before .before .before .before .before .before .before .before .before .before .before .before .before .before .before .before .before .before .before .before .before .before .before .before .before .before .before .before .before .before .before .before .before .before .before .before .before .before .before .before .before .before .before .before .pre .1 .1 .states, states-few _ _ _ (l .counted)), record { rules = room-kept _ _ _ _ _ (rule-room _ _ _ (c .before .before .before .before .before .before .before .before .before .before .before .before .before .before .before .before .before .before .before .before .before .before .before .before .before .before .before .before .before .before .before .before .before .before .before .before .before .before .before .before .before .before .before .before .before .before .before .before .before .before .pre .0 .ready .limits) (c .before .before .before .before .before .before .before .before .before .before .before .before .before .before .before .before .before .before .before .before .before .before .before .before .before .row-words162 .ensures) (c .before .before .before .before .before .before .before .before .before .before .before .before .before .before .before .before .before .before .before .before .before .before .before .before .row-words163 .ensures)) (c .before .before .before .before .before .before .before .before .before .before .before .before .before .before .fill-groups .kept .1 .1 .1 .1 .1 .1 .1 .1 .1 .1 .1 .1 .1 .1 .1 .1 .1 .1 .0) (c .before .before .before .before .before .before .before .before .before .before .before .before .before .before .fill-groups .kept .1 .1 .1 .1 .1 .1 .1 .1 .1 .1 .1 .1 .1 .1 .1 .1 .1 .1 .1 .0); short-room = c .before .before .before .before .before .before .before .before .before .before .before .before .before .before .before .before .before .before .before .before .before .before .before .before .before .before .before .before .before .before .before .before .before .before .before .before .before .before .before .before .before .before .before .before .before .before .before .before .before .before .pre .1 .1 .one-less; more-room = c .before .before .before .before .before .before .before .before .before .before .before .before .before .before .before .before .before .before .before .before .before .before .before .before .before .before .before .before .before .before .before .before .before .before .before .before .before .before .before .before .before .before .before .before .before .before .before .before .before .before .pre .1 .1 .one-more })))))
 
 same-length : tie.Need-same-length
 same-length c = c .before .before .before .before .before .before .before .before .before .before .before .before .before .before .before .before .before .before .before .before .before .before .before .before .before .before .before .before .before .before .before .before .before .before .before .before .before .before .before .before .fill-holders .kept .1 .1 .1 .0
@@ -79,9 +79,9 @@ leaks-on-spec =
     tie.close
     (tie.spec
     fill-holders-requires
-    words16-1056-requires
-    words16-1056-requires-2
-    words16-1056-requires-3
+    row-words16-requires
+    row-words16-requires-2
+    row-words16-requires-3
     slice-aggregate-no-class
     no-class-requires
     slice-aggregate-fill-groups

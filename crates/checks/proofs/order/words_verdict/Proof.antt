@@ -14,7 +14,7 @@ use Rattle.model.specs.Tables.{tables, entry-check}
 use Rattle.model.specs.Closed.{open-check}
 use Rattle.model.specs.Counters.{counter-count, counter-check}
 use Rattle.model.specs.Ceilings.{ceiling-check}
-use Rattle.model.specs.Limits.{maxCounters}
+use Rattle.model.specs.Limits.{present, maxRows, maxCounters}
 use Rattle.model.specs.Verify.{message-check, answer}
 use Rattle.model.proofs.Exact.Answer.{row-refuses, name-refuses, bad-refuses, entry-refuses, open-refuses, counter-refuses, ceiling-refuses}
 use Rattle.model.proofs.Exact.Entries.{bad-none, ceiling-none}
@@ -42,7 +42,7 @@ Passes o c = c (o .args .ws .now) (o .args .s) ≡ none
 
 -- the checks of this message are these and those behind them
 abbrev Goes : tie.Start → (List ℕ → Sizes → ℕ → Check) → Type 0
-Goes o c = message-check (taken (o .args .ws .now) (o .args .s)) (length (o .args .lent .now)) ≡ c (o .args .ws .now) (o .args .s) (length (o .args .lent .now))
+Goes o c = message-check present (taken (o .args .ws .now) (o .args .s)) (length (o .args .lent .now)) ≡ c (o .args .ws .now) (o .args .s) (length (o .args .lent .now))
 
 returns : tie.Need-returns
 unfolding from-3
@@ -138,11 +138,11 @@ all-ready c = ready _ _ (c .before .before .before .before .before .before .befo
 inners-requires : tie.Need-inners-requires
 inners-requires c κs = (c .before .before .before .before .before .before .before .before .before .before .before .before .before .before .before .before .before .before .before .before .before .pre .0 .program, (rows-pass (c .before .before .before .before .before .before .before .before .before .before .before .before .before .before .before), c .before .before .before .before .before .before .before .before .before .before .before .ends .ensures))
 
-words16-1056-requires : tie.Need-words16-1056-requires
-words16-1056-requires c κs = search needs
+row-words16-requires : tie.Need-row-words16-requires
+row-words16-requires c κs = search needs
 
-words16-1056-requires-2 : tie.Need-words16-1056-requires-2
-words16-1056-requires-2 c κs = search needs
+row-words16-requires-2 : tie.Need-row-words16-requires-2
+row-words16-requires-2 c κs = search needs
 
 slice-aggregate-open-verdict : tie.Need-slice-aggregate-open-verdict
 slice-aggregate-open-verdict c = search needs
@@ -159,7 +159,7 @@ slice-aggregate-open-verdict-4 c = search needs
 open-verdict-requires : tie.Need-open-verdict-requires
 open-verdict-requires c κs =
     let r = c .before .before .before .before .before .before .before .before .before .before .before .before .before .before .before .before .before .before .before .before .before .before .before .before .before .before .before .before .before .pre .0 .limits in
-    (omega arith, (all-ready (c .before .before .before .before .before .before .before .before .before), (ends _ _ _ (omega (arith, r .rows .1)) (c .before .before .before .before .before .before .before .before .before .before .before .before .before .before .before .before .before .before .before .ends .ensures), (owners _ _ _ (omega (arith, r .rows .1)) (c .before .before .before .before .before .before .before .inners .ensures), (c .before .before .before .before .before .before .before .before .before .before .before .before .before .before .before .before .before .before .before .before .before .before .before .before .before .before .before .before .before .pre .1, (omega (arith, r .names .1, c .before .before .before .before .before .before .words16-1056 .ensures .room), omega (arith, r .states, c .before .before .before .before .before .words16-10562 .ensures .room)))))))
+    (omega arith, (all-ready (c .before .before .before .before .before .before .before .before .before), (ends _ _ _ (omega (arith, r .rows .1)) (c .before .before .before .before .before .before .before .before .before .before .before .before .before .before .before .before .before .before .before .ends .ensures), (owners _ _ _ (omega (arith, r .rows .1)) (c .before .before .before .before .before .before .before .inners .ensures), (c .before .before .before .before .before .before .before .before .before .before .before .before .before .before .before .before .before .before .before .before .before .before .before .before .before .before .before .before .before .pre .1, (omega (arith, r .names .1, c .before .before .before .before .before .before .row-words16 .ensures .room), omega (arith, r .states, c .before .before .before .before .before .row-words162 .ensures .room)))))))
 
 is-safe-requires-6 : tie.Need-is-safe-requires-6
 is-safe-requires-6 c κs = search needs
@@ -171,8 +171,8 @@ returns-6 : tie.Need-returns-6
 unfolding from-8
 returns-6 c = ends-with _ _ _ _ _ _ _ _ (goes-8 (c .before .before .before .before .before .before .before .before .before .before .before .before .before .before .before .before)) (c .before .before .before .before .before .before .open-verdict .ensures .0) (c .before .is-safe6 .ensures) (not-true _ (c .if6 .taken))
 
-words16-1056-requires-3 : tie.Need-words16-1056-requires-3
-words16-1056-requires-3 c κs = search needs
+row-words16-requires-3 : tie.Need-row-words16-requires-3
+row-words16-requires-3 c κs = search needs
 
 words16-512-requires : tie.Need-words16-512-requires
 words16-512-requires c κs = search needs
@@ -193,7 +193,7 @@ goes-9 c = goes-by _ _ _ (goes-8 (c .before .before .before .before .before .bef
 fill-letters-requires : tie.Need-fill-letters-requires
 fill-letters-requires c κs =
     let r = c .before .before .before .before .before .before .before .before .before .before .before .before .before .before .before .before .before .before .before .before .before .before .before .before .before .before .before .before .before .before .before .before .before .before .before .before .before .before .before .before .pre .0 .limits in
-    (all-ready (c .before .before .before .before .before .before .before .before .before .before .before .before .before .before .before .before .before .before .before .before), (omega (arith, r .rows .1, c .before .before .before .words16-10563 .ensures .room), omega (arith, r .mails, c .before .before .words16-512 .ensures .room)))
+    (all-ready (c .before .before .before .before .before .before .before .before .before .before .before .before .before .before .before .before .before .before .before .before), (omega (arith, r .rows .1, c .before .before .before .row-words163 .ensures .room), omega (arith, r .mails, c .before .before .words16-512 .ensures .room)))
 
 slice-aggregate-counter-check : tie.Need-slice-aggregate-counter-check
 slice-aggregate-counter-check c = search needs
@@ -220,8 +220,8 @@ slice-aggregate-counter-count c = search needs
 slice-aggregate-counter-count-2 : tie.Need-slice-aggregate-counter-count-2
 slice-aggregate-counter-count-2 c = search needs
 
-counters-pass : (c : tie.Else7) → Passes (c .before .before .before .before .before .before .before .before .before .before .before .before .before .before .before .before .before .before .before .before .before .before .before .before .before .before .before .before .before .before .before .before .before .before .before .before .before .before .before .before .before .before .before .before .before .before .before .before) (λ ws s. counter-check s (program ws s) (tables ws s))
-counters-pass c = passed _ _ _ (counter-refuses _ _ _) (c .before .before .counter-check .ensures) (c .before .is-safe7 .ensures) (not-false _ (c .if7 .left))
+counters-pass : (c : tie.Else7) → Passes (c .before .before .before .before .before .before .before .before .before .before .before .before .before .before .before .before .before .before .before .before .before .before .before .before .before .before .before .before .before .before .before .before .before .before .before .before .before .before .before .before .before .before .before .before .before .before .before .before) (λ ws s. counter-check present s (program ws s) (tables ws s))
+counters-pass c = passed _ _ _ (counter-refuses _ _ _ _) (c .before .before .counter-check .ensures) (c .before .is-safe7 .ensures) (not-false _ (c .if7 .left))
 
 goes-10 : (c : tie.Else7) → Goes (c .before .before .before .before .before .before .before .before .before .before .before .before .before .before .before .before .before .before .before .before .before .before .before .before .before .before .before .before .before .before .before .before .before .before .before .before .before .before .before .before .before .before .before .before .before .before .before .before) from-10
 unfolding from-9
@@ -266,10 +266,10 @@ unfolding from-10
 goes-11 c = goes-by _ _ _ (goes-10 (c .before .before .before .before .before .before)) (form-passes c)
 
 -- the tables of the layout are as long as they were made
-afters-long : (c : tie.After-ends) → length (c .ends .result) ≡ 1024
+afters-long : (c : tie.After-ends) → length (c .ends .result) ≡ maxRows
 afters-long c = search needs
 
-owners-long : (c : tie.After-inners) → length (c .inners .result) ≡ 1024
+owners-long : (c : tie.After-inners) → length (c .inners .result) ≡ maxRows
 owners-long c = search needs
 
 slice-aggregate-ceilings-verdict : tie.Need-slice-aggregate-ceilings-verdict
@@ -279,19 +279,19 @@ slice-aggregate-ceilings-verdict-2 : tie.Need-slice-aggregate-ceilings-verdict-2
 slice-aggregate-ceilings-verdict-2 c = sym (owners-long (c .before .before .before .before .before .before .before .before .before .before .before .before .before .before .before .before .before .before .before .before .before .before .before .before .before .before .before .before .before .before .before .before .before .before .before .before .before .before .before))
 
 slice-aggregate-ceilings-verdict-3 : tie.Need-slice-aggregate-ceilings-verdict-3
-slice-aggregate-ceilings-verdict-3 c = sym (c .before .before .before .before .before .before .before .before .before .before .before .before .before .before .before .before .before .before .before .before .before .before .before .before .before .before .before .before .before .before .before .before .open-verdict .kept .1 .1 .1 .1 .1 .0 ∙ c .before .before .before .before .before .before .before .before .before .before .before .before .before .before .before .before .before .before .before .before .before .before .before .before .before .before .before .before .before .before .before .before .before .before .before .before .before .before .before .words16-1056 .ensures .room)
+slice-aggregate-ceilings-verdict-3 c = sym (c .before .before .before .before .before .before .before .before .before .before .before .before .before .before .before .before .before .before .before .before .before .before .before .before .before .before .before .before .before .before .before .before .open-verdict .kept .1 .1 .1 .1 .1 .0 ∙ c .before .before .before .before .before .before .before .before .before .before .before .before .before .before .before .before .before .before .before .before .before .before .before .before .before .before .before .before .before .before .before .before .before .before .before .before .before .before .before .row-words16 .ensures .room)
 
 slice-aggregate-ceilings-verdict-4 : tie.Need-slice-aggregate-ceilings-verdict-4
 slice-aggregate-ceilings-verdict-4 c = search needs
 
 slice-aggregate-ceilings-verdict-5 : tie.Need-slice-aggregate-ceilings-verdict-5
-slice-aggregate-ceilings-verdict-5 c = sym (c .before .before .before .before .before .before .before .before .before .before .before .before .before .before .before .before .before .before .before .before .before .before .before .before .fill-letters .kept .1 .1 .0 ∙ c .before .before .before .before .before .before .before .before .before .before .before .before .before .before .before .before .before .before .before .before .before .before .before .before .before .before .before .before .words16-10563 .ensures .room)
+slice-aggregate-ceilings-verdict-5 c = sym (c .before .before .before .before .before .before .before .before .before .before .before .before .before .before .before .before .before .before .before .before .before .before .before .before .fill-letters .kept .1 .1 .0 ∙ c .before .before .before .before .before .before .before .before .before .before .before .before .before .before .before .before .before .before .before .before .before .before .before .before .before .before .before .before .row-words163 .ensures .room)
 
 slice-aggregate-ceilings-verdict-6 : tie.Need-slice-aggregate-ceilings-verdict-6
 slice-aggregate-ceilings-verdict-6 c = sym (c .before .before .before .before .before .before .before .before .before .before .before .before .before .before .before .before .before .before .before .before .before .before .before .before .before .fill-letters .kept .1 .1 .1 .0 ∙ c .before .before .before .before .before .before .before .before .before .before .before .before .before .before .before .before .before .before .before .before .before .before .before .before .before .before .before .before .words16-512 .ensures .room)
 
 slice-aggregate-ceilings-verdict-7 : tie.Need-slice-aggregate-ceilings-verdict-7
-slice-aggregate-ceilings-verdict-7 c = sym (c .before .before .before .before .before .before .before .before .before .before .before .before .before .before .before .before .before .before .before .before .before .before .before .before .before .before .before .before .before .before .before .before .before .before .before .before .before .open-verdict .kept .1 .1 .1 .1 .1 .1 .1 .0 ∙ c .before .before .before .before .before .before .before .before .before .before .before .before .before .before .before .before .before .before .before .before .before .before .before .before .before .before .before .before .before .before .before .before .before .before .before .before .before .before .before .before .before .before .before .words16-10562 .ensures .room)
+slice-aggregate-ceilings-verdict-7 c = sym (c .before .before .before .before .before .before .before .before .before .before .before .before .before .before .before .before .before .before .before .before .before .before .before .before .before .before .before .before .before .before .before .before .before .before .before .before .before .open-verdict .kept .1 .1 .1 .1 .1 .1 .1 .0 ∙ c .before .before .before .before .before .before .before .before .before .before .before .before .before .before .before .before .before .before .before .before .before .before .before .before .before .before .before .before .before .before .before .before .before .before .before .before .before .before .before .before .before .before .before .row-words162 .ensures .room)
 
 ceilings-verdict-requires : tie.Need-ceilings-verdict-requires
 ceilings-verdict-requires c κs =
@@ -343,19 +343,19 @@ slice-aggregate-listing-verdict-2 : tie.Need-slice-aggregate-listing-verdict-2
 slice-aggregate-listing-verdict-2 c = sym (owners-long (c .before .before .before .before .before .before .before .before .before .before .before .before .before .before .before .before .before .before .before .before .before .before .before .before .before .before .before .before .before .before .before .before .before .before .before .before .before .before .before .before .before .before .before .before .before .before .before .before .before .before .before))
 
 slice-aggregate-listing-verdict-3 : tie.Need-slice-aggregate-listing-verdict-3
-slice-aggregate-listing-verdict-3 c = sym (c .before .before .before .before .before .before .before .before .before .before .before .before .before .before .before .before .before .before .before .before .before .before .before .before .before .before .before .before .before .before .before .before .before .before .before .before .before .before .before .before .before .before .before .before .open-verdict .kept .1 .1 .1 .1 .1 .0 ∙ c .before .before .before .before .before .before .before .before .before .before .before .before .before .before .before .before .before .before .before .before .before .before .before .before .before .before .before .before .before .before .before .before .before .before .before .before .before .before .before .before .before .before .before .before .before .before .before .before .before .before .before .words16-1056 .ensures .room)
+slice-aggregate-listing-verdict-3 c = sym (c .before .before .before .before .before .before .before .before .before .before .before .before .before .before .before .before .before .before .before .before .before .before .before .before .before .before .before .before .before .before .before .before .before .before .before .before .before .before .before .before .before .before .before .before .open-verdict .kept .1 .1 .1 .1 .1 .0 ∙ c .before .before .before .before .before .before .before .before .before .before .before .before .before .before .before .before .before .before .before .before .before .before .before .before .before .before .before .before .before .before .before .before .before .before .before .before .before .before .before .before .before .before .before .before .before .before .before .before .before .before .before .row-words16 .ensures .room)
 
 slice-aggregate-listing-verdict-4 : tie.Need-slice-aggregate-listing-verdict-4
 slice-aggregate-listing-verdict-4 c = search needs
 
 slice-aggregate-listing-verdict-5 : tie.Need-slice-aggregate-listing-verdict-5
-slice-aggregate-listing-verdict-5 c = sym (c .before .before .before .before .before .before .before .before .before .before .before .before .before .before .before .before .before .before .before .before .before .before .before .before .before .before .before .before .before .before .before .before .before .before .before .before .fill-letters .kept .1 .1 .0 ∙ c .before .before .before .before .before .before .before .before .before .before .before .before .before .before .before .before .before .before .before .before .before .before .before .before .before .before .before .before .before .before .before .before .before .before .before .before .before .before .before .before .words16-10563 .ensures .room)
+slice-aggregate-listing-verdict-5 c = sym (c .before .before .before .before .before .before .before .before .before .before .before .before .before .before .before .before .before .before .before .before .before .before .before .before .before .before .before .before .before .before .before .before .before .before .before .before .fill-letters .kept .1 .1 .0 ∙ c .before .before .before .before .before .before .before .before .before .before .before .before .before .before .before .before .before .before .before .before .before .before .before .before .before .before .before .before .before .before .before .before .before .before .before .before .before .before .before .before .row-words163 .ensures .room)
 
 slice-aggregate-listing-verdict-6 : tie.Need-slice-aggregate-listing-verdict-6
 slice-aggregate-listing-verdict-6 c = sym (c .before .before .before .before .before .before .before .before .before .before .before .before .before .before .before .before .before .before .before .before .before .before .before .before .before .before .before .before .before .before .before .before .before .before .before .before .before .fill-letters .kept .1 .1 .1 .0 ∙ c .before .before .before .before .before .before .before .before .before .before .before .before .before .before .before .before .before .before .before .before .before .before .before .before .before .before .before .before .before .before .before .before .before .before .before .before .before .before .before .before .words16-512 .ensures .room)
 
 slice-aggregate-listing-verdict-7 : tie.Need-slice-aggregate-listing-verdict-7
-slice-aggregate-listing-verdict-7 c = sym (c .before .before .before .before .before .before .before .before .before .before .before .before .before .before .before .before .before .before .before .before .before .before .before .before .before .before .before .before .before .before .before .before .before .before .before .before .before .before .before .before .before .before .before .before .before .before .before .before .before .open-verdict .kept .1 .1 .1 .1 .1 .1 .1 .0 ∙ c .before .before .before .before .before .before .before .before .before .before .before .before .before .before .before .before .before .before .before .before .before .before .before .before .before .before .before .before .before .before .before .before .before .before .before .before .before .before .before .before .before .before .before .before .before .before .before .before .before .before .before .before .before .before .before .words16-10562 .ensures .room)
+slice-aggregate-listing-verdict-7 c = sym (c .before .before .before .before .before .before .before .before .before .before .before .before .before .before .before .before .before .before .before .before .before .before .before .before .before .before .before .before .before .before .before .before .before .before .before .before .before .before .before .before .before .before .before .before .before .before .before .before .before .open-verdict .kept .1 .1 .1 .1 .1 .1 .1 .0 ∙ c .before .before .before .before .before .before .before .before .before .before .before .before .before .before .before .before .before .before .before .before .before .before .before .before .before .before .before .before .before .before .before .before .before .before .before .before .before .before .before .before .before .before .before .before .before .before .before .before .before .before .before .before .before .before .before .row-words162 .ensures .room)
 
 listing-verdict-requires : tie.Need-listing-verdict-requires
 listing-verdict-requires c κs =
@@ -409,8 +409,8 @@ words-verdict-spec =
     returns-5
     slice-aggregate-inners
     inners-requires
-    words16-1056-requires
-    words16-1056-requires-2
+    row-words16-requires
+    row-words16-requires-2
     slice-aggregate-open-verdict
     slice-aggregate-open-verdict-2
     slice-aggregate-open-verdict-3
@@ -419,7 +419,7 @@ words-verdict-spec =
     is-safe-requires-6
     same-length
     returns-6
-    words16-1056-requires-3
+    row-words16-requires-3
     words16-512-requires
     slice-aggregate-fill-letters
     slice-aggregate-fill-letters-2

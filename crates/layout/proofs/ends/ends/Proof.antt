@@ -3,6 +3,7 @@ use native.Mathlib.Nat.{le-refl}
 use Prim.Native.Nat.{_+_, _-_, _≤_}
 use mathlib.Core.Path.{_≡_, refl, _∙_}
 use lib.ListN.{length, length-set}
+use Rattle.model.specs.Limits.{maxRows}
 use Rattle.model.specs.Words.{columns}
 use Rattle.model.specs.Rows.{program}
 use Rattle.layout.specs.Tables.{After-from}
@@ -12,7 +13,7 @@ use Rattle.layout.proofs.ends.ends.Statement.{statement}
 use Rattle.layout.proofs.ends.ends.Tie as tie
 
 abbrev Inv-loop : tie.InvT-loop
-Inv-loop ws s table₀ r₀ table r = (r ≤ s .rows) × (length table ≡ 1024) × After-from (program ws s) r table
+Inv-loop ws s table₀ r₀ table r = (r ≤ s .rows) × (length table ≡ maxRows) × After-from (program ws s) r table
 
 abbrev μ-loop : tie.MeasureT-loop
 μ-loop ws s table₀ r₀ table r = r

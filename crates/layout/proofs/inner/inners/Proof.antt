@@ -4,6 +4,7 @@ use mathlib.Core.Path.{_≡_, refl, sym, _∙_, ap}
 use mathlib.Core.Bool.{_||_}
 use mathlib.Core.Logic.{⊎-elim}
 use lib.Dec.{eqb}
+use Rattle.model.specs.Limits.{maxRows}
 use Rattle.model.specs.Heads.{is-function}
 use lib.ListN.{length, length-set}
 use Rattle.model.specs.Words.{columns}
@@ -15,7 +16,7 @@ use Rattle.layout.proofs.inner.inners.Statement.{statement}
 use Rattle.layout.proofs.inner.inners.Tie as tie
 
 abbrev Inv-loop : tie.InvT-loop
-Inv-loop ws s ends table₀ before₀ r₀ table before r = (r ≤ s .rows) × (length table ≡ 1024) × Inner-upto (program ws s) r table × Candidate (program ws s) r before
+Inv-loop ws s ends table₀ before₀ r₀ table before r = (r ≤ s .rows) × (length table ≡ maxRows) × Inner-upto (program ws s) r table × Candidate (program ws s) r before
 
 abbrev μ-loop : tie.MeasureT-loop
 μ-loop ws s ends table₀ before₀ r₀ table before r = s .rows - r

@@ -3,6 +3,7 @@ use native.Mathlib.Omega.{arith}
 use native.Mathlib.Nat.{le-refl}
 use mathlib.Core.Path.{_≡_, refl, sym, _∙_, ap}
 use lib.ListN.{length, length-set, getD-replicate}
+use Rattle.model.specs.Limits.{maxNames}
 use Rattle.model.specs.Words.{columns}
 use Rattle.model.specs.Rows.{program}
 use Rattle.model.specs.Scopes.{binds, binds-name}
@@ -12,7 +13,7 @@ use Rattle.scopes.proofs.names.binders.Statement.{statement}
 use Rattle.scopes.proofs.names.binders.Tie as tie
 
 abbrev Inv-loop : tie.InvT-loop
-Inv-loop ws s table₀ r₀ table r = (r ≤ s .rows) × (length table ≡ 512) × Binders (program ws s) r table
+Inv-loop ws s table₀ r₀ table r = (r ≤ s .rows) × (length table ≡ maxNames) × Binders (program ws s) r table
 
 abbrev μ-loop : tie.MeasureT-loop
 μ-loop ws s table₀ r₀ table r = r
@@ -24,7 +25,7 @@ loop-holds : tie.Need-loop-holds Inv-loop μ-loop
 unfolding program columns
 loop-holds c =
     let a = c .before .before .args in
-    (le-refl _, refl, λ n h. getD-replicate 512 n (a .s .rows) 0 (omega (arith, h, c .before .before .pre .names)) ∙ sym (first-end (a .s .rows) (a .s .rows) (binds-name _ n) (le-refl _)))
+    (le-refl _, refl, λ n h. getD-replicate maxNames n (a .s .rows) 0 (omega (arith, h, c .before .before .pre .names)) ∙ sym (first-end (a .s .rows) (a .s .rows) (binds-name _ n) (le-refl _)))
 
 sub-r : tie.Need-sub-r Inv-loop μ-loop
 sub-r c = omega (arith, c .loop-test .taken)

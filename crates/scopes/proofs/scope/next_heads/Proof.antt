@@ -1,5 +1,6 @@
 use Prim.Native.Nat.{_-_, _≤_, _<_}
 use lib.ListN.{length, length-set}
+use Rattle.model.specs.Limits.{maxRows}
 use Rattle.model.specs.Words.{columns}
 use Rattle.model.specs.Rows.{program, is-head}
 use Rattle.model.specs.Scopes.{next-head}
@@ -13,7 +14,7 @@ use Rattle.scopes.proofs.scope.next_heads.Tie as tie
 
 abbrev Inv-loop : tie.InvT-loop
 Inv-loop ws s table₀ head₀ r₀ table head r =
-    (r ≤ s .rows) × (length table ≡ 1024) × (head ≤ s .rows) × (head ≡ next-head (program ws s) r) × Heads (program ws s) r table
+    (r ≤ s .rows) × (length table ≡ maxRows) × (head ≤ s .rows) × (head ≡ next-head (program ws s) r) × Heads (program ws s) r table
 
 abbrev μ-loop : tie.MeasureT-loop
 μ-loop ws s table₀ head₀ r₀ table head r = r

@@ -1,9 +1,0 @@
-use Rattle.rooms.proofs.Clearing.{cleared}
-use Rattle.rooms.proofs.words16_1056.Statement.{statement}
-use Rattle.rooms.proofs.words16_1056.Tie as tie
-
-returns : tie.Need-returns
-returns c = cleared 1056
-
-pub words16-1056-spec : {M : Type 1} → statement M
-words16-1056-spec = tie.close (tie.spec returns)

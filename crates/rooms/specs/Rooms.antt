@@ -1,0 +1,31 @@
+-- The rooms that hold any message within the limits, each by what stands in it.
+use Prim.Native.Nat.{ℕ, _+_, _*_, _/_}
+use Rattle.model.specs.Limits.{maxRows, maxNames, maxCeilings, maxCounters}
+
+-- a word for each row, one for the end, and one for where what belongs to the end ends
+abbrev pub row-room : ℕ
+row-room = maxRows + 2
+
+-- the words of a set of values: a bit for each row, and one for the class of the start
+abbrev pub set-words : ℕ
+set-words = maxRows / 64 + 1
+
+-- a set for each name, and one for the start
+abbrev pub name-sets : ℕ
+name-sets = (maxNames + 1) * set-words
+
+-- a set for each row
+abbrev pub row-sets : ℕ
+row-sets = maxRows * set-words
+
+-- for each counter the ceilings, a bit each
+abbrev pub counter-masks : ℕ
+counter-masks = maxCounters * 4
+
+-- for each counter the ceilings that hold it, and those that hold two of it
+abbrev pub holder-masks : ℕ
+holder-masks = maxCounters * 8
+
+-- a limit for each counter under each ceiling
+abbrev pub limit-room : ℕ
+limit-room = maxCounters * maxCeilings

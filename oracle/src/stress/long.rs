@@ -1,0 +1,126 @@
+//! Messages at the limits of (vi): 1,536 rows, 1,024 states, 1,024 counters, 256 ceilings of 8,192 entries.
+
+use super::bounds::{self, Bounds};
+use super::finish::{Rows, bytes, changed};
+use super::rows::{mail_of_start, nested_functions, nested_receives, set_last};
+use super::sends::{builds, classes_of, unused};
+use super::{Sample, sample};
+use crate::fuzz::row_list::RowList;
+use crate::message::Message;
+use crate::program::Program;
+use crate::tables::Tables;
+
+pub fn hostile() -> Result<Vec<Sample>, String> {
+    let receives = || nested_receives(766).finish(mail_of_start, bounds::alike);
+    let wrong_row = |message| changed(message, |m| set_last(&mut m.program.first, 24));
+    Ok(vec![
+        sample(
+            "long-receives",
+            "1,536 rows: 766 receives, each in the branch of the one before, and 256 ceilings",
+            0,
+            receives(),
+        )?,
+        sample("long-last-wrong", "the same, the last row wrong", 3, wrong_row(receives()))?,
+        sample(
+            "long-functions",
+            "510 functions, each in the body of the one before",
+            0,
+            nested_functions(510).finish(|_, _| (), bounds::one),
+        )?,
+        sample(
+            "long-selves",
+            "1,535 heads on end that bind one name: the deepest nest of the reader",
+            4,
+            Ok(selves()),
+        )?,
+        sample("long-states", "1,024 states and 256 ceilings of 8,192 entries", 0, states(bounds::alike))?,
+        sample(
+            "long-states-apart",
+            "the same, each of 255 ceilings above the others in a counter of its own",
+            0,
+            states(bounds::apart),
+        )?,
+        sample(
+            "long-open",
+            "1,024 states without the last of them",
+            8,
+            changed(states(bounds::alike), |m| {
+                m.tables.first.pop();
+                m.tables.second.pop();
+                m.states -= 1;
+            }),
+        )?,
+        sample("counters-1025", "1,024 states and a letter", 9, changed(states(bounds::one), one_letter))?,
+        sample(
+            "long-counters",
+            "1,536 rows, 512 states and 512 letters, 256 ceilings of 8,192 entries, 187,683 rules",
+            0,
+            counters(bounds::alike),
+        )?,
+        sample(
+            "long-counters-apart",
+            "the same, each of 255 ceilings above the others in a counter of its own",
+            0,
+            counters(bounds::apart),
+        )?,
+        sample(
+            "long-counters-leak",
+            "the same as long-counters, but the last ceiling leaks",
+            13,
+            counters(bounds::leaking),
+        )?,
+        sample("long-counters-wide", "seven ceilings of all 1,024 counters", 0, counters(bounds::wide))?,
+    ])
+}
+
+/// As many heads as rows allow, one the rest of the other.
+fn selves() -> Vec<u8> {
+    let mut list = RowList::default();
+    let name = list.bind(7, &[]);
+    (0..1534).for_each(|_| list.row(7, name));
+    list.row(1, name);
+    let rows = Rows { list, constructors: 0, functions: 0 };
+    bytes(&rows.bare(&rows.any_bad()))
+}
+
+/// 1,024 states: three classes in one body of 340 heads, and the start that spawns them.
+fn states(bounds: impl Bounds) -> Result<Vec<u8>, String> {
+    let mut list = RowList::default();
+    let work = list.bind(11, &[(22, 0)]);
+    (0..339).for_each(|_| {
+        list.bind(7, &[]);
+    });
+    list.row(1, work);
+    (0..3).for_each(|_| {
+        list.bind(6, &[(21, work)]);
+    });
+    list.row(1, work);
+    Rows { list, constructors: 0, functions: 1 }.finish(|_, _| (), bounds)
+}
+
+/// A mail entry: the starting process holds its own address.
+fn one_letter(m: &mut Message) {
+    let start = m.rows as u16;
+    m.tables.first.insert(m.flow, start);
+    m.tables.second.insert(m.flow, start);
+    m.mail += 1;
+}
+
+/// 364 sends that each may put 512 letters (eight in each of 64 classes), then 146 receives of eight letters each.
+fn counters(bounds: impl Bounds) -> Result<Vec<u8>, String> {
+    let mut list = RowList::default();
+    let unused = unused(&mut list, 7, 7, 63);
+    let target = list.bind(7, &[]);
+    (0..364).for_each(|_| {
+        list.bind(5, &[(21, target), (21, unused)]);
+    });
+    (0..146).for_each(|_| list.rows.extend([(9, 1), (32, 0)]));
+    list.row(1, unused);
+    let extra = move |program: &Program, tables: &mut Tables| {
+        tables.flow[target] = classes_of(program);
+        builds(program).for_each(|b| {
+            tables.flow[unused].insert(b);
+        });
+    };
+    Rows { list, constructors: 7, functions: 1 }.finish(extra, bounds)
+}
