@@ -114,13 +114,13 @@ expression-step p t n =
       | other ↦ none
     ]
 
--- "Patterns: (30, name bound); (31, constructor), then its arity of patterns; (32, 0) any value", d levels deep at the
--- most
+-- "Patterns: (30, name bound); (31, constructor), then its arity of patterns; (32, 0) any value"; document 02, (iii):
+-- "pattern (33, name read)"; d levels deep at the most
 unfoldable pub pattern-step : Program → ℕ → ℕ → ℕ → Option (List Item)
 pattern-step p d t n =
     elim (eqb t 31) [
       | true ↦ fits (leb 1 d && ltb n (p .constructors)) (replicate (arity p n) (pattern (d - 1)))
-      | false ↦ fits (leb 1 d && (eqb t 30 && is-name p n || eqb t 32 && eqb n 0)) []
+      | false ↦ fits (leb 1 d && (eqb t 30 && is-name p n || (eqb t 32 && eqb n 0 || eqb t 33 && is-name p n))) []
     ]
 
 unfoldable pub step : Program → Grammar Item

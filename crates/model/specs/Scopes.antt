@@ -13,9 +13,10 @@ use Rattle.model.specs.Rows.{Program, size, tag, num, kind, is-head, lea
 unfoldable pub binds : ℕ → Bool
 binds t = leb 2 t && leb t 7 || (eqb t 11 || (eqb t 23 || eqb t 30))
 
--- "name read": the rows with tags 1, 8 and 21
+-- "name read": the rows with tags 1, 8 and 21; document 02, (iii): and 33. A scope is a whole expression: it has a
+-- pattern's row exactly where it has "the case or receive itself", and a name of the same pattern holds behind it.
 unfoldable pub uses : ℕ → Bool
-uses t = eqb t 1 || (eqb t 8 || eqb t 21)
+uses t = eqb t 1 || (eqb t 8 || (eqb t 21 || eqb t 33))
 
 -- row r binds the name n
 unfoldable pub binds-name : Program → ℕ → ℕ → Bool
