@@ -62,7 +62,7 @@ fn expression(ws: &[u16], s: Sizes, r: usize) -> Next
             Next::Wrong(r)
         },
         // constructors, functions, parts of expressions and patterns: none begins an expression
-        10 | 11 | 20..=25 | 30..=32 => Next::Wrong(r),
+        10 | 11 | 20..=25 | 30..=33 => Next::Wrong(r),
         _ => Next::Wrong(r),
     }
 }

@@ -104,7 +104,7 @@ pub fn pattern(ws: &[u16], s: Sizes, r: usize, d: usize) -> Next
     let n = num(ws, s, r);
     let next = r + 1;
     match tag(ws, s, r) {
-        30 => if n < s.names {
+        30 | 33 => if n < s.names {
             Next::Past(next)
         } else {
             Next::Wrong(r)

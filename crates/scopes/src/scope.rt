@@ -31,7 +31,7 @@ fn uses(t: usize) -> bool
     ensures { λ b. ⌜ b ≡ uses t ⌝ }
 {
     match t {
-        1 | 8 | 21 => true,
+        1 | 8 | 21 | 33 => true,
         _ => false,
     }
 }
