@@ -6,6 +6,7 @@ use mathlib.Core.Path.{_≡_, refl, sym, _∙_, ap}
 use mathlib.Core.Bool.{Bool, true, false, _&&_}
 use mathlib.Core.List.{List, [], _∷_, _++_, append-nil}
 use mathlib.Core.Option.{some, none, Option·some-injective, Option·none-ne-some}
+use mathlib.Core.Logic.{inl, inr, ⊎-elim}
 use lib.ListN.{length, getD, set, replicate}
 use lib.Seq.{getD-set-same, getD-set-other}
 use lib.Dec.{eqb}
@@ -219,12 +220,12 @@ module _ (p : Program) where
         patterns = λ d x q c h. entry-keep (pattern d) i r v x q z c b h (λ y. e .patterns d q (ap (from p (pattern d ∷ [])) (sym y) ∙ h)) (λ y. a .patterns d x q y h);
       }
 
+-- the row after what stands at row r, by the tag there
+module _ (ws : List ℕ) (s : Sizes) where
   -- a head begins no pattern
   no-pattern : (d r : ℕ) → tag (program ws s) r ≤ 9 → step (program ws s) (pattern d) (tag (program ws s) r) (num (program ws s) r) ≡ none
   no-pattern d r low = pattern-other ws s d (tag (program ws s) r) (num (program ws s) r) (⊎-elim (λ z. omega arith) (λ z. omega arith)) (λ z. omega arith) (λ z. omega arith)
 
--- the row after what stands at row r, by the tag there
-module _ (ws : List ℕ) (s : Sizes) where
   -- a head that binds a name: its lead, then the rest
   pub ends-bound : (r m v : ℕ) (table : List ℕ) → 2 ≤ tag (program ws s) r → tag (program ws s) r ≤ 7 → Rest-at (program ws s) r m → v ≡ getD table m 0 → After-from (program ws s) (r + 1) table → Ends-at (program ws s) r v
   ends-bound r m v table lo hi rest e a =
