@@ -1,5 +1,6 @@
-// The sets of each constructor pattern.
+// The sets of each constructor pattern and of each held name.
 use crate::codes::arguments_code;
+use crate::equals::fill_equals;
 use lists::word;
 use model::Sizes;
 use program::rows::num;
@@ -64,7 +65,7 @@ fn fill_pattern(
     }
 }
 
-// The sets of all constructor patterns, in two tables of zeros.
+// The sets of all constructor patterns and held names, in two tables of zeros.
 pub fn fill_patterns(
     ws: &[u16],
     s: Sizes,
@@ -87,8 +88,11 @@ pub fn fill_patterns(
     let mut q = s.rows;
     while q > 0 {
         q -= 1;
-        if tag(ws, s, q) == 31 {
+        let kind = tag(ws, s, q);
+        if kind == 31 {
             fill_pattern(ws, s, afters, flow, firsts, nexts, may, held, q);
+        } else if kind == 33 {
+            fill_equals(ws, s, flow, firsts, nexts, may, q);
         }
     }
 }
