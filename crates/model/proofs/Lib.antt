@@ -32,3 +32,4 @@ pub mod Longer
 pub mod Controls
 pub mod Transitions
 pub mod Equality
+pub mod HeldScopes

@@ -1,15 +1,16 @@
--- Document 02, (iii), "A held name in a pattern": what is promised of equality and of matching, as types.
-use Prim.Native.Nat.{ℕ}
+-- Document 02, (iii), "A held name in a pattern": what is promised of equality, of matching and of scopes, as types.
+use Prim.Native.Nat.{ℕ, _≤_, _<_}
 use mathlib.Core.Path.{_≡_}
 use mathlib.Core.Bool.{true, false}
-use mathlib.Core.Logic.{_↔_}
+use mathlib.Core.Logic.{_↔_, _⊎_}
 use mathlib.Core.List.{List, List·Memᴰ}
-use mathlib.Core.Option.{some}
+use mathlib.Core.Option.{some, none}
 use lib.ListN.{getElem?}
 use Rattle.model.specs.declared.Verdict.the-variants.{Safe}
 use Rattle.model.specs.Limits.{Limits}
-use Rattle.model.specs.Rows.{Program}
-use Rattle.model.specs.Heads.{head-at, cases, receives}
+use Rattle.model.specs.Rows.{Program, size, tag, row-check}
+use Rattle.model.specs.Scopes.{binds, in-scope}
+use Rattle.model.specs.Heads.{head-at, cases, receives, branch-body}
 use Rattle.model.specs.Values.{Value, closure, built, Bindings, bind, equal, Process}
 use Rattle.model.specs.Run.{run}
 use Rattle.model.specs.Letters.{row-letter, value-letter}
@@ -64,3 +65,14 @@ All-matches-may =
     (most : Limits) (bytes : List ℕ) (lent : ℕ) → Bytes bytes → verdict-within most bytes lent ≡ Safe →
     (numbers : List ℕ) (i : ℕ) (q : Process) → getElem? (run (message bytes .program) numbers) i ≡ some q →
     Matches-may (message bytes .program) (message bytes .tables) q
+
+-- "Names read so must be in scope at the case or receive itself": in rows that fit, a name bound at row b holds at a
+-- row k of a branch's pattern exactly where it holds at the case or receive at row r. So `uses` has tag 33 with the
+-- others, and refusal 5 asks of a held name what it asks of every name read.
+abbrev pub Held-scopes : Type 0
+Held-scopes =
+    (p : Program) → row-check p ≡ none → (r : ℕ) (qs : List ℕ) → r < size p →
+    ((n : ℕ) × (head-at p r ≡ cases n qs)) ⊎ (head-at p r ≡ receives qs) →
+    (q k : ℕ) → List·Memᴰ q qs → q ≤ k → k < branch-body p q →
+    (b : ℕ) → b < size p → binds (tag p b) ≡ true →
+    in-scope p b k ≡ in-scope p b r
