@@ -18,7 +18,15 @@ ghost use Rattle.values.specs.Values.{width, Flow-sets};
 ghost use Rattle.matching.specs.Patterns.{Builds, is-build, Clear, Joined, Alike, equals-some};
 
 // Puts all builds of the constructor k into set q.
-fn put_builds(ws: &[u16], s: Sizes, firsts: &[u16], nexts: &[u16], k: usize, sets: &mut [u64], q: usize)
+fn put_builds(
+    ws: &[u16],
+    s: Sizes,
+    firsts: &[u16],
+    nexts: &[u16],
+    k: usize,
+    sets: &mut [u64],
+    q: usize,
+)
     requires { ⌜ Ready (now ws) s ⌝ }
     requires { ⌜ Builds (program (now ws) s) (now firsts) (now nexts) ⌝ }
     requires { ⌜ k < s .constructors ⌝ }
@@ -35,7 +43,15 @@ fn put_builds(ws: &[u16], s: Sizes, firsts: &[u16], nexts: &[u16], k: usize, set
 }
 
 // Puts the values that may be equal to u into set q. A build row that is there has brought all of its constructor.
-fn put_equals(ws: &[u16], s: Sizes, firsts: &[u16], nexts: &[u16], u: usize, sets: &mut [u64], q: usize)
+fn put_equals(
+    ws: &[u16],
+    s: Sizes,
+    firsts: &[u16],
+    nexts: &[u16],
+    u: usize,
+    sets: &mut [u64],
+    q: usize,
+)
     requires { ⌜ Ready (now ws) s ⌝ }
     requires { ⌜ Builds (program (now ws) s) (now firsts) (now nexts) ⌝ }
     requires { ⌜ u < 64 * width (s .rows) ⌝ }
@@ -60,7 +76,15 @@ fn put_equals(ws: &[u16], s: Sizes, firsts: &[u16], nexts: &[u16], u: usize, set
 }
 
 // The set of the held name at row q.
-pub fn fill_equals(ws: &[u16], s: Sizes, flow: &[u64], firsts: &[u16], nexts: &[u16], may: &mut [u64], q: usize)
+pub fn fill_equals(
+    ws: &[u16],
+    s: Sizes,
+    flow: &[u64],
+    firsts: &[u16],
+    nexts: &[u16],
+    may: &mut [u64],
+    q: usize,
+)
     requires { ⌜ Ready (now ws) s ⌝ }
     requires { ⌜ Flow-sets (program (now ws) s) (tables (now ws) s) (now flow) ⌝ }
     requires { ⌜ Builds (program (now ws) s) (now firsts) (now nexts) ⌝ }

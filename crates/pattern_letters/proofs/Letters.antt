@@ -73,9 +73,9 @@ module _ (p : Program) where
   unfolding row-letter row-shape letter is-class is-function
   letter-class end v c =
       let k : (tag p v ≡ 2 → ⊥) × (tag p v ≡ 3 → ⊥) × (tag p v ≡ 11 → ⊥) =
-          ⊎-elim (λ z. let y = eqb-true (tag p v) 6 z in (λ x. omega arith, λ x. omega arith, λ x. omega arith))
-          (λ z. let y = ap (tag p) (eqb-true v (size p) z) ∙ end in (λ x. omega arith, λ x. omega arith, λ x. omega arith))
-          (or-cases (eqb (tag p v) 6) (eqb v (size p)) c) in
+      ⊎-elim (λ z. let y = eqb-true (tag p v) 6 z in (λ x. omega arith, λ x. omega arith, λ x. omega arith))
+      (λ z. let y = ap (tag p) (eqb-true v (size p) z) ∙ end in (λ x. omega arith, λ x. omega arith, λ x. omega arith))
+      (or-cases (eqb (tag p v) 6) (eqb v (size p)) c) in
       rw (ne-eqb (tag p v) 2 (k .0), row-shape, ne-eqb (tag p v) 3 (k .1), ne-eqb (tag p v) 11 (k .2))
 
   letter-of-built : (v : ℕ) → row-letter p v < p .constructors → tag p v ≡ 2
