@@ -51,6 +51,9 @@ enum Act<'a> {
     Enter { branch: &'a Branch, found: Vec<(Name, ValueId)>, taken: Option<usize> },
 }
 
+/// A branch that matches, and what its names hold then.
+type Matched<'a> = (&'a Branch, Vec<(Name, ValueId)>);
+
 /// A store and the processes that refer to it. Equal processes of one machine, also at different times, are equal in
 /// all that they hold: the store keeps each value once.
 pub struct Machine<'a> {
@@ -196,14 +199,18 @@ impl<'a> Machine<'a> {
     }
 
     fn case(&self, process: &Process, value: Name, branches: &'a [Branch]) -> Result<Act<'a>, Idle> {
-        let first = self.store.first_match(self.program, branches, self.held(process, value)?);
+        let first = self.first_match(process, branches, self.held(process, value)?);
         let (branch, found) = first.ok_or(Idle::Stopped("no branch of the case matches"))?;
         Ok(Act::Enter { branch, found, taken: None })
     }
 
+    fn first_match(&self, process: &Process, branches: &'a [Branch], value: ValueId) -> Option<Matched<'a>> {
+        self.store.first_match(self.program, process.bindings, branches, value)
+    }
+
     fn receive(&self, process: &Process, branches: &'a [Branch]) -> Result<Act<'a>, Idle> {
         let mut mailbox = process.mailbox.iter().enumerate();
-        let earliest = mailbox.find_map(|(i, &v)| Some((i, self.store.first_match(self.program, branches, v)?)));
+        let earliest = mailbox.find_map(|(i, &v)| Some((i, self.first_match(process, branches, v)?)));
         let (i, (branch, found)) = earliest.ok_or(Idle::Waiting)?;
         Ok(Act::Enter { branch, found, taken: Some(i) })
     }

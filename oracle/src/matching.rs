@@ -1,6 +1,6 @@
 //! Which values a pattern may match, and which of them find their names' entries present.
 
-use crate::program::{Pattern, Program, Row};
+use crate::program::{Name, Pattern, Program, Row};
 use crate::refusal::Want;
 use crate::set::Set;
 use crate::tables::Tables;
@@ -21,6 +21,7 @@ impl Matching {
             match program.pattern(row) {
                 Some(Pattern::Any) => m.set(row, Set::ALL, Set::ALL),
                 Some(Pattern::Name(name)) => m.set(row, Set::ALL, tables.flow[*name]),
+                Some(Pattern::Held(name)) => m.set(row, alike(program, tables, &builds, *name), Set::ALL),
                 Some(Pattern::Constructor { constructor, parts }) => {
                     let (may, held) = m.constructor(program, tables, &builds[*constructor], parts);
                     m.set(row, may, held);
@@ -64,7 +65,7 @@ impl Matching {
     /// The entry that is missing when `pattern` takes `value`, which may match it.
     pub fn lack(&self, program: &Program, tables: &Tables, pattern: Row, value: usize) -> Option<Want> {
         match program.pattern(pattern)? {
-            Pattern::Any => None,
+            Pattern::Any | Pattern::Held(_) => None,
             Pattern::Name(name) => {
                 let held = tables.flow[*name].has(value);
                 (!held).then_some(Want::Flow { name: *name, value })
@@ -78,6 +79,23 @@ impl Matching {
             }
         }
     }
+}
+
+/// Values that may equal one of a name's: the same class, or a build of the same constructor.
+fn alike(program: &Program, tables: &Tables, builds: &[Vec<Row>], name: Name) -> Set {
+    let mut values = Set::EMPTY;
+    for value in tables.flow[name].iter() {
+        match program.build(value) {
+            Some((constructor, _)) => builds[constructor].iter().for_each(|&build| {
+                values.insert(build);
+            }),
+            None if program.is_class(value) => {
+                values.insert(value);
+            }
+            None => {}
+        }
+    }
+    values
 }
 
 fn builds_by_constructor(program: &Program) -> Vec<Vec<Row>> {

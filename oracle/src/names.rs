@@ -22,7 +22,7 @@ pub fn check(program: &Program) -> Result<(), Refusal> {
     let binders = binders(program)?;
     for read in &program.uses {
         let binder = binders[read.name];
-        if read.row < binder.from || read.row >= binder.until {
+        if read.at < binder.from || read.at >= binder.until {
             return Err(Refusal::wanted(refusal::SCOPE, 4 + read.row, "a name read within its scope"));
         }
     }

@@ -16,7 +16,12 @@ pub struct Function {
 #[derive(Clone, Debug, PartialEq, Eq)]
 pub enum Pattern {
     Name(Name),
-    Constructor { constructor: usize, parts: Vec<Row> },
+    /// A value equal to the one that the name holds ((iii) of 02).
+    Held(Name),
+    Constructor {
+        constructor: usize,
+        parts: Vec<Row>,
+    },
     Any,
 }
 
@@ -66,6 +71,8 @@ pub struct Binder {
 pub struct Use {
     pub row: Row,
     pub name: Name,
+    /// The row where it must be in scope: the case or receive for a held name in a pattern, else the row itself.
+    pub at: Row,
 }
 
 #[derive(Clone, Debug, Default, PartialEq, Eq)]

@@ -65,7 +65,7 @@ impl Reader<'_> {
     fn take_use(&mut self, wanted: &'static str) -> Result<Name, Refusal> {
         let row = self.at;
         let name = self.take_name(21, wanted)?;
-        self.program.uses.push(Use { row, name });
+        self.program.uses.push(Use { row, name, at: row });
         Ok(name)
     }
 
@@ -168,7 +168,7 @@ impl Reader<'_> {
     fn give_back(&mut self) -> Result<(Head, Option<usize>), Refusal> {
         let row = self.at;
         let value = self.take_name(1, "a row (1, name read)")?;
-        self.program.uses.push(Use { row, name: value });
+        self.program.uses.push(Use { row, name: value, at: row });
         Ok((Head::GiveBack { value }, None))
     }
 
@@ -220,27 +220,29 @@ impl Reader<'_> {
     fn case(&mut self) -> Result<(Head, Option<usize>), Refusal> {
         let row = self.at;
         let value = self.take_name(8, "a row (8, name read)")?;
-        self.program.uses.push(Use { row, name: value });
+        self.program.uses.push(Use { row, name: value, at: row });
         let (least, most) = limits::BRANCHES;
         let count = self.take(25, least as usize, most as usize, "a row (25, branch count from 1 to 16)")?;
-        let branches = self.branches(count)?;
+        let branches = self.branches(row, count)?;
         Ok((Head::Case { value, branches }, None))
     }
 
     fn receive(&mut self) -> Result<(Head, Option<usize>), Refusal> {
+        let row = self.at;
         let (least, most) = limits::BRANCHES;
         let count = self.take(9, least as usize, most as usize, "a row (9, branch count from 1 to 16)")?;
-        let branches = self.branches(count)?;
+        let branches = self.branches(row, count)?;
         Ok((Head::Receive { branches }, None))
     }
 
-    fn branches(&mut self, count: usize) -> Result<Vec<Branch>, Refusal> {
-        (0..count).map(|_| self.branch()).collect()
+    /// The branches of the case or receive at `head`.
+    fn branches(&mut self, head: Row, count: usize) -> Result<Vec<Branch>, Refusal> {
+        (0..count).map(|_| self.branch(head)).collect()
     }
 
-    fn branch(&mut self) -> Result<Branch, Refusal> {
+    fn branch(&mut self, head: Row) -> Result<Branch, Refusal> {
         let first = self.program.binders.len();
-        let pattern = self.pattern(1)?;
+        let pattern = self.pattern(head, 1)?;
         let bound = first..self.program.binders.len();
         let body = self.expression()?;
         for binder in bound {
@@ -249,16 +251,17 @@ impl Reader<'_> {
         Ok(Branch { pattern, body })
     }
 
-    fn pattern(&mut self, level: usize) -> Result<Row, Refusal> {
+    fn pattern(&mut self, head: Row, level: usize) -> Result<Row, Refusal> {
         if level > limits::DEPTH {
             return Err(self.wrong("no pattern deeper than level 4"));
         }
         let row = self.at;
         let pattern = match self.tag() {
             Some(30) => self.name_pattern()?,
-            Some(31) => self.constructor_pattern(level)?,
+            Some(31) => self.constructor_pattern(head, level)?,
             Some(32) => self.any_pattern()?,
-            _ => return Err(self.wrong("a pattern (tag 30, 31 or 32)")),
+            Some(33) => self.held_pattern(head)?,
+            _ => return Err(self.wrong("a pattern (tag 30 to 33)")),
         };
         self.program.nodes[row] = Node::Pattern(pattern);
         Ok(row)
@@ -276,10 +279,17 @@ impl Reader<'_> {
         Ok(Pattern::Any)
     }
 
-    fn constructor_pattern(&mut self, level: usize) -> Result<Pattern, Refusal> {
+    fn held_pattern(&mut self, head: Row) -> Result<Pattern, Refusal> {
+        let row = self.at;
+        let name = self.take_name(33, "a row (33, name read)")?;
+        self.program.uses.push(Use { row, name, at: head });
+        Ok(Pattern::Held(name))
+    }
+
+    fn constructor_pattern(&mut self, head: Row, level: usize) -> Result<Pattern, Refusal> {
         let constructor = self.take_constructor(31, "a row (31, constructor)")?;
         let arity = self.program.arities[constructor];
-        let parts = (0..arity).map(|_| self.pattern(level + 1)).collect::<Result<_, _>>()?;
+        let parts = (0..arity).map(|_| self.pattern(head, level + 1)).collect::<Result<_, _>>()?;
         Ok(Pattern::Constructor { constructor, parts })
     }
 }

@@ -34,6 +34,14 @@ pub struct Frame {
     pub below: Frames,
 }
 
+/// What equality looks at in a value: the process, or the constructor and what it looks at in the arguments. A function,
+/// and what holds one, has none and is equal to nothing.
+#[derive(Clone, Debug, PartialEq, Eq, Hash)]
+enum Shape {
+    Built { constructor: usize, args: Vec<usize> },
+    Address(usize),
+}
+
 /// Things numbered in the order in which they came, each once.
 struct Kept<T> {
     all: Vec<T>,
@@ -57,6 +65,9 @@ impl<T: Clone + Eq + Hash> Kept<T> {
 
 pub struct Store {
     values: Kept<Value>,
+    shapes: Kept<Shape>,
+    /// The shape of each value. Values share their parts, so this is found once for each and never by walking.
+    shape_of: Vec<Option<usize>>,
     bindings: Kept<Binding>,
     frames: Kept<Frame>,
     /// The settled list of each list of pushed calls, where it is known.
@@ -68,12 +79,19 @@ pub struct Store {
 impl Store {
     /// The values of the tag 11 names.
     pub fn new(program: &Program) -> Store {
-        let mut values = Kept::new();
-        let mut named = vec![None; program.names];
+        let mut store = Store {
+            values: Kept::new(),
+            shapes: Kept::new(),
+            shape_of: Vec::new(),
+            bindings: Kept::new(),
+            frames: Kept::new(),
+            settled: HashMap::new(),
+            named: vec![None; program.names],
+        };
         for function in program.named() {
-            named[function.name] = Some(values.number(Value::Function { row: function.row, bindings: None }));
+            store.named[function.name] = Some(store.add_value(Value::Function { row: function.row, bindings: None }));
         }
-        Store { values, bindings: Kept::new(), frames: Kept::new(), settled: HashMap::new(), named }
+        store
     }
 
     pub fn value(&self, id: ValueId) -> &Value {
@@ -81,7 +99,28 @@ impl Store {
     }
 
     pub fn add_value(&mut self, value: Value) -> ValueId {
-        self.values.number(value)
+        let id = self.values.number(value);
+        if id == self.shape_of.len() {
+            let shape = self.shape(id).map(|shape| self.shapes.number(shape));
+            self.shape_of.push(shape);
+        }
+        id
+    }
+
+    fn shape(&self, id: ValueId) -> Option<Shape> {
+        match self.value(id) {
+            Value::Function { .. } => None,
+            Value::Address(process) => Some(Shape::Address(*process)),
+            Value::Built { constructor, args, .. } => {
+                let args = args.iter().map(|&arg| self.shape_of[arg]).collect::<Option<_>>()?;
+                Some(Shape::Built { constructor: *constructor, args })
+            }
+        }
+    }
+
+    /// Equal values ((iii) of 02): the same process, or the same constructor with equal arguments.
+    pub fn equal(&self, one: ValueId, other: ValueId) -> bool {
+        self.shape_of[one].is_some() && self.shape_of[one] == self.shape_of[other]
     }
 
     pub fn bound(&mut self, others: Bindings, name: Name, value: ValueId) -> Bindings {
@@ -144,29 +183,38 @@ impl Store {
         held
     }
 
-    /// The first branch that matches a value, and what its names hold then.
+    /// The first branch that matches a value under these bindings, and what its names hold then.
     pub fn first_match<'b>(
         &self,
         program: &Program,
+        bindings: Bindings,
         branches: &'b [Branch],
         value: ValueId,
     ) -> Option<(&'b Branch, Vec<(Name, ValueId)>)> {
         branches.iter().find_map(|branch| {
             let mut found = Vec::new();
-            self.matches(program, branch.pattern, value, &mut found).then_some((branch, found))
+            self.matches(program, bindings, branch.pattern, value, &mut found).then_some((branch, found))
         })
     }
 
-    fn matches(&self, program: &Program, pattern: Row, value: ValueId, found: &mut Vec<(Name, ValueId)>) -> bool {
+    fn matches(
+        &self,
+        program: &Program,
+        bindings: Bindings,
+        pattern: Row,
+        value: ValueId,
+        found: &mut Vec<(Name, ValueId)>,
+    ) -> bool {
         match program.pattern(pattern) {
             Some(Pattern::Any) => true,
+            Some(Pattern::Held(name)) => self.look_up(bindings, *name).is_some_and(|held| self.equal(held, value)),
             Some(Pattern::Name(name)) => {
                 found.push((*name, value));
                 true
             }
             Some(Pattern::Constructor { constructor, parts }) => match self.value(value) {
                 Value::Built { constructor: built, args, .. } if built == constructor => {
-                    parts.iter().zip(args).all(|(&part, &arg)| self.matches(program, part, arg, found))
+                    parts.iter().zip(args).all(|(&part, &arg)| self.matches(program, bindings, part, arg, found))
                 }
                 _ => false,
             },

@@ -88,6 +88,7 @@ impl<'a> Symbols<'a> {
     pub fn pattern(&self, row: Row) -> String {
         match self.program.pattern(row) {
             Some(Pattern::Name(name)) => self.name(*name).to_string(),
+            Some(Pattern::Held(name)) => format!("^{}", self.name(*name)),
             Some(Pattern::Constructor { constructor, parts }) if parts.is_empty() => {
                 self.constructor(*constructor).to_string()
             }

@@ -103,3 +103,47 @@ fn letters_of_functions_and_addresses() {
         deeds.iter().filter_map(|d| if let Deed::Put { letter, .. } = d { Some(*letter) } else { None }).collect();
     assert_eq!(letters, [4, 3]);
 }
+
+#[test]
+fn a_held_name_matches_what_is_equal_to_what_it_holds() {
+    let ended = |text: &str| ends_with_branch(text).len();
+    assert_eq!(ended("start -> X = box(a), case box(a) of ^X -> X; _ -> self() end."), 5);
+    assert_eq!(ended("start -> X = box(a), case box(b) of ^X -> X; _ -> self() end."), 6);
+    assert_eq!(ended("start -> X = self(), case self() of ^X -> X; _ -> a end."), 3);
+    assert_eq!(ended("start -> X = @w spawn(fun() -> a end), case self() of ^X -> X; _ -> a end."), 5);
+    assert_eq!(ended("start -> X = self(), Y = box(X), case box(X) of box(^X) -> Y; _ -> a end."), 4);
+}
+
+#[test]
+fn functions_and_what_holds_one_are_equal_to_nothing() {
+    // The other branch has a step more.
+    let texts =
+        [("F = fun() -> a end, X = F, case F of ^F", 3), ("X = box(f), case X of ^X", 3), ("X = f, case X of ^f", 2)];
+    for (text, steps) in texts {
+        let text = format!("function f() -> a. start -> {text} -> X; _ -> self() end.");
+        assert_eq!(ends_with_branch(&text).len(), steps, "{text}");
+    }
+}
+
+/// Values share their parts: two trees of 2^60 leaves are compared at once.
+#[test]
+fn equality_does_not_walk_trees() {
+    let grow = |name: &str| {
+        let steps = (1..=60).map(|i| format!("{name}{i} = pair({name}{}, {name}{})", i - 1, i - 1));
+        format!("{name}0 = a, {}", steps.collect::<Vec<_>>().join(", "))
+    };
+    let text = format!(
+        "constructors a/0, pair/2. start -> {}, {}, case X60 of ^Y60 -> X0; _ -> self() end.
+         bad none: start holds address >= 65535.",
+        grow("X"),
+        grow("Y")
+    );
+    let assembled = assemble(&text).expect("a station");
+    let program = reader::read(&message::read(&assembled.message).expect("a message")).expect("a program");
+    let mut machine = Machine::new(&program);
+    let mut steps = 0;
+    while machine.step(0).is_ok() {
+        steps += 1;
+    }
+    assert_eq!(steps, 2 * 61 + 1);
+}

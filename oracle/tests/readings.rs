@@ -213,3 +213,32 @@ fn call_and_give_back_want_states_even_without_a_value() {
     assert_eq!(first_lack(&[(12, 3), (12, 7)]), (8, Some(0)));
     assert_eq!(first_lack(&[(12, 3), (12, 7), (12, 11)]).0, 0);
 }
+
+/// A message of rows with one harmless bad and no evidence: refusals up to 5 show.
+fn rows_verdict(sizes: (usize, usize, usize), rows: &[(usize, usize)]) -> (u32, usize) {
+    let bad = [(40, rows.len()), (42, 0), (43, 1), (44, 0)];
+    let m = oracle::evidence::bare(sizes, rows, 1, &bad);
+    common::verdict(&common::bytes(&oracle::message::write(&m)))
+}
+
+#[test]
+fn a_held_name_is_read_at_its_case_or_receive() {
+    let receive = |pattern: &[(usize, usize)]| {
+        let rows = [&[(10, 2), (7, 0), (9, 1)], pattern, &[(1, 0)]].concat();
+        rows_verdict((2, 1, 0), &rows)
+    };
+    // In scope: no refusal up to 5; what follows is the tables' lack of the start.
+    assert_eq!(receive(&[(31, 0), (30, 1), (33, 0)]).0, 8);
+    // A name of the same pattern, before it or behind it, is not in scope at the receive.
+    assert_eq!(receive(&[(31, 0), (30, 1), (33, 1)]), (5, 4 + 5));
+    assert_eq!(receive(&[(31, 0), (33, 1), (30, 1)]), (5, 4 + 4));
+    // No such name; a held name binds nothing.
+    assert_eq!(receive(&[(31, 0), (30, 1), (33, 2)]), (3, 4 + 5));
+    assert_eq!(receive(&[(31, 0), (33, 0), (33, 0)]), (4, 1));
+    // It has depth 1, so at level 5 it is wrong.
+    let deep = [(10, 1), (7, 0), (9, 1), (31, 0), (31, 0), (31, 0), (31, 0), (33, 0), (1, 0)];
+    assert_eq!(rows_verdict((1, 1, 0), &deep), (3, 4 + 7));
+    // A tag 11 name may stand there, in the front too.
+    let front = [(11, 0), (22, 0), (9, 1), (33, 0), (1, 0), (1, 0)];
+    assert_eq!(rows_verdict((1, 0, 1), &front).0, 8);
+}

@@ -5,7 +5,7 @@ use oracle::listing::verified;
 use std::path::{Path, PathBuf};
 
 /// The folder of the requests in force.
-const STAGE: &str = "1-vi";
+const STAGE: &str = "2-vi-iii";
 
 fn messages(folder: &Path) -> Vec<PathBuf> {
     let entries = std::fs::read_dir(folder).into_iter().flatten().filter_map(|file| Some(file.ok()?.path()));

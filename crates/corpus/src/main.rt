@@ -1,5 +1,5 @@
 // Runs a stored corpus from standard input: prints number, place and two digests for each case, which the other
-// implementation stored in `stdout`. `oracle corpus 1 400 OUT` made both: OUT.bin is `stdin`. Their form is told in
+// implementation stored in `stdout`. `oracle corpus 2 400 OUT` made both: OUT.bin is `stdin`. Their form is told in
 // oracle/README.md.
 mod cases;
 mod digest;

@@ -13,7 +13,7 @@ use model::TAG_GLOBAL;
 use model::TAG_MADE;
 use model::TAG_OPERAND;
 use model::TAG_PARAMETER;
-use model::TAG_PATTERN_ANY;
+use model::TAG_PATTERN_HELD;
 use model::TAG_PATTERN_NAME;
 use model::TAG_RECEIVE;
 use model::TAG_SELF;
@@ -83,7 +83,7 @@ fn expression(ws: &[u16], s: Sizes, r: usize) -> Next
         TAG_CONSTRUCTOR
         | TAG_GLOBAL
         | TAG_MADE..=TAG_BRANCHES
-        | TAG_PATTERN_NAME..=TAG_PATTERN_ANY => Next::Wrong(r),
+        | TAG_PATTERN_NAME..=TAG_PATTERN_HELD => Next::Wrong(r),
         _ => Next::Wrong(r),
     }
 }

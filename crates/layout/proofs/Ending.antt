@@ -6,6 +6,7 @@ use mathlib.Core.Path.{_≡_, refl, sym, _∙_, ap}
 use mathlib.Core.Bool.{Bool, true, false, _&&_}
 use mathlib.Core.List.{List, [], _∷_, _++_, append-nil}
 use mathlib.Core.Option.{some, none, Option·some-injective, Option·none-ne-some}
+use mathlib.Core.Logic.{inl, inr, ⊎-elim}
 use lib.ListN.{length, getD, set, replicate}
 use lib.Seq.{getD-set-same, getD-set-other}
 use lib.Dec.{eqb}
@@ -18,7 +19,7 @@ use Rattle.model.proofs.Reader.{past-wrong, past-row, by-option, read-end}
 use Rattle.program.specs.Rows.{from}
 use Rattle.program.proofs.Columns.{part-at, part-past}
 use Rattle.program.proofs.Reading.{from-none, from-stop, from-go, from-range, from-takes}
-use Rattle.program.proofs.Items.{give-says, bound-says, case-says, receive-says, no-head-says, branches-25, branches-other, pattern-30, pattern-31, pattern-32, pattern-other, pattern-none, lead-of, lead-none}
+use Rattle.program.proofs.Items.{give-says, bound-says, case-says, receive-says, no-head-says, branches-25, branches-other, pattern-named, pattern-31, pattern-32, pattern-other, pattern-none, lead-of, lead-none}
 use Rattle.layout.specs.Tables.{After-from, Ends-at, Rest-at, hop}
 use Rattle.layout.proofs.Visits.{parted}
 
@@ -221,6 +222,10 @@ module _ (p : Program) where
 
 -- the row after what stands at row r, by the tag there
 module _ (ws : List ℕ) (s : Sizes) where
+  -- a head begins no pattern
+  no-pattern : (d r : ℕ) → tag (program ws s) r ≤ 9 → step (program ws s) (pattern d) (tag (program ws s) r) (num (program ws s) r) ≡ none
+  no-pattern d r low = pattern-other ws s d (tag (program ws s) r) (num (program ws s) r) (⊎-elim (λ z. omega arith) (λ z. omega arith)) (λ z. omega arith) (λ z. omega arith)
+
   -- a head that binds a name: its lead, then the rest
   pub ends-bound : (r m v : ℕ) (table : List ℕ) → 2 ≤ tag (program ws s) r → tag (program ws s) r ≤ 7 → Rest-at (program ws s) r m → v ≡ getD table m 0 → After-from (program ws s) (r + 1) table → Ends-at (program ws s) r v
   ends-bound r m v table lo hi rest e a =
@@ -230,7 +235,7 @@ module _ (ws : List ℕ) (s : Sizes) where
             let w = parted p (lead (kind (tag p r))) (expression ∷ []) (r + 1) q k in
             let z = from-range p (lead (kind (tag p r))) (r + 1) (w .at) (omega arith) (w .first) in
             e ∙ (ap (λ i. getD table i 0) (rest .rests (w .at) (w .first)) ∙ a .expressions (w .at) q (z .0) (w .second));
-        patterns = λ d q h. unread p (pattern d) r q (pattern-other ws s d (tag p r) (num p r) (omega arith) (omega arith) (omega arith)) h;
+        patterns = λ d q h. unread p (pattern d) r q (no-pattern d r (omega arith)) h;
       }
 
   -- a case, and a receive
@@ -247,7 +252,7 @@ module _ (ws : List ℕ) (s : Sizes) where
                   hop-branches p (num p (r + 1)) (r + 1) (r + 2) q table a (omega arith) (ap (from p (branch-items (num p (r + 1)))) (sym two) ∙ l))
               | no z ↦ unread p branches (r + 1) q (branches-other ws s (tag p (r + 1)) (num p (r + 1)) z) k
             ];
-        patterns = λ d q h. unread p (pattern d) r q (pattern-other ws s d (tag p r) (num p r) (omega arith) (omega arith) (omega arith)) h;
+        patterns = λ d q h. unread p (pattern d) r q (no-pattern d r (omega arith)) h;
       }
 
   pub ends-receive : (r n v : ℕ) (table : List ℕ) → tag (program ws s) r ≡ 9 → n ≡ num (program ws s) r → v ≡ hop table (2 * n) (r + 1) → After-from (program ws s) (r + 1) table → Ends-at (program ws s) r v
@@ -256,7 +261,7 @@ module _ (ws : List ℕ) (s : Sizes) where
       record {
         expressions = λ q h. let (x, k) = opened-by p expression (branch-items (num p r)) _ r q (receive-says ws s (tag p r) (num p r) t) h in
             f ∙ (ap (λ i. hop table (2 * i) (r + 1)) e ∙ hop-branches p (num p r) (r + 1) (r + 1) q table a (omega arith) k);
-        patterns = λ d q h. unread p (pattern d) r q (pattern-other ws s d (tag p r) (num p r) (omega arith) (omega arith) (omega arith)) h;
+        patterns = λ d q h. unread p (pattern d) r q (no-pattern d r (omega arith)) h;
       }
 
   -- a constructor's pattern
@@ -289,11 +294,14 @@ module _ (ws : List ℕ) (s : Sizes) where
         ];
         patterns = λ d q h. elim (ℕ-discrete d 0) [
           | yes z ↦ unread p (pattern d) r q (pattern-none ws s d (tag p r) (num p r) z) h
-          | no z ↦ elim (ℕ-discrete (tag p r) 30) [
-            | yes y ↦ one q (opened-by p (pattern d) [] _ r q (pattern-30 ws s d (tag p r) (num p r) (omega arith) y) h .1)
-            | no y ↦ elim (ℕ-discrete (tag p r) 32) [
-              | yes x ↦ one q (opened-by p (pattern d) [] _ r q (pattern-32 ws s d (tag p r) (num p r) (omega arith) x) h .1)
-              | no x ↦ unread p (pattern d) r q (pattern-other ws s d (tag p r) (num p r) y no-31 x) h
+          | no z ↦ elim (ℕ-discrete (tag p r) 32) [
+            | yes x ↦ one q (opened-by p (pattern d) [] _ r q (pattern-32 ws s d (tag p r) (num p r) (omega arith) x) h .1)
+            | no x ↦ elim (ℕ-discrete (tag p r) 30) [
+              | yes y ↦ one q (opened-by p (pattern d) [] _ r q (pattern-named ws s d (tag p r) (num p r) (omega arith) (inl y)) h .1)
+              | no y ↦ elim (ℕ-discrete (tag p r) 33) [
+                | yes w ↦ one q (opened-by p (pattern d) [] _ r q (pattern-named ws s d (tag p r) (num p r) (omega arith) (inr w)) h .1)
+                | no w ↦ unread p (pattern d) r q (pattern-other ws s d (tag p r) (num p r) (⊎-elim y w) no-31 x) h
+              ]
             ]
           ]
         ];

@@ -79,14 +79,17 @@ module _ (p : Program) where
   one-tag f t k b xs ys h fails passes =
       true-false passes (ap f (eqb-true t k (and-left (eqb t k) b (fits-some (eqb t k && b) xs ys h))) ∙ fails)
 
-  -- a pattern's tags are three
-  pattern-tag : {A : Type 0} (d t n : ℕ) (more : List Item) → step p (pattern d) t n ≡ some more → (t ≡ 31 → A) → (t ≡ 30 → is-name p n ≡ true → A) → (t ≡ 32 → A) → A
+  -- a pattern's tags are four
+  pattern-tag : {A : Type 0} (d t n : ℕ) (more : List Item) → step p (pattern d) t n ≡ some more → (t ≡ 31 → A) → (t ≡ 30 → is-name p n ≡ true → A) → (t ≡ 32 → A) → (t ≡ 33 → is-name p n ≡ true → A) → A
   unfolding step pattern-step
-  pattern-tag d t n more h f g k =
+  pattern-tag d t n more h f g k l =
       test (eqb t 31) (λ e. f (eqb-true t 31 e))
-      (λ e. let c = and-right (leb 1 d) (eqb t 30 && is-name p n || eqb t 32 && eqb n 0) (fits-some _ _ more (rw (e, pattern-step) at h)) in
+      (λ e. let c = and-right (leb 1 d) _ (fits-some _ _ more (rw (e, pattern-step) at h)) in
       ⊎-elim (λ z. g (eqb-true t 30 (and-left (eqb t 30) (is-name p n) z)) (and-right (eqb t 30) (is-name p n) z))
-      (λ z. k (eqb-true t 32 (and-left (eqb t 32) (eqb n 0) z))) (or-cases (eqb t 30 && is-name p n) (eqb t 32 && eqb n 0) c))
+      (λ y. ⊎-elim (λ z. k (eqb-true t 32 (and-left (eqb t 32) (eqb n 0) z)))
+      (λ z. l (eqb-true t 33 (and-left (eqb t 33) (is-name p n) z)) (and-right (eqb t 33) (is-name p n) z))
+      (or-cases (eqb t 32 && eqb n 0) (eqb t 33 && is-name p n) y))
+      (or-cases (eqb t 30 && is-name p n) (eqb t 32 && eqb n 0 || eqb t 33 && is-name p n) c))
 
   -- a row with a head's tag is read by an expression
   head-item : (item : Item) (t n : ℕ) (more : List Item) → step p item t n ≡ some more → is-head t ≡ true → item ≡ expression
@@ -101,7 +104,7 @@ module _ (p : Program) where
   head-item arguments t n more h e = one-tag is-head t 22 _ _ more h refl e
   head-item branches t n more h e = one-tag is-head t 25 _ _ more h refl e
   head-item (pattern d) t n more h e =
-      pattern-tag d t n more h (λ z. true-false e (ap is-head z)) (λ z m. true-false e (ap is-head z)) (λ z. true-false e (ap is-head z))
+      pattern-tag d t n more h (λ z. true-false e (ap is-head z)) (λ z m. true-false e (ap is-head z)) (λ z. true-false e (ap is-head z)) (λ z m. true-false e (ap is-head z))
 
   -- a row with a head's tag begins an expression, which is read
   pub head-read : (k : ℕ) → row-check p ≡ none → k < size p → is-head (tag p k) ≡ true → (q : ℕ) × (from p (expression ∷ []) k ≡ past q)
@@ -137,7 +140,7 @@ module _ (p : Program) where
   named-item arguments t n more h e = one-tag named t 22 _ _ more h refl e
   named-item branches t n more h e = one-tag named t 25 _ _ more h refl e
   named-item (pattern d) t n more h e =
-      pattern-tag d t n more h (λ z. true-false e (ap named z)) (λ z m. m) (λ z. true-false e (ap named z))
+      pattern-tag d t n more h (λ z. true-false e (ap named z)) (λ z m. m) (λ z. true-false e (ap named z)) (λ z m. m)
 
   -- a name that is bound or read is below the number of names
   name-below : (k : ℕ) → row-check p ≡ none → k < size p → named (tag p k) ≡ true → num p k < p .names
@@ -164,7 +167,7 @@ module _ (p : Program) where
   global-item operand t n more h e = one-tag (λ k. eqb k 11) t 21 _ _ more h refl (eq-eqb t 11 e)
   global-item arguments t n more h e = one-tag (λ k. eqb k 11) t 22 _ _ more h refl (eq-eqb t 11 e)
   global-item branches t n more h e = one-tag (λ k. eqb k 11) t 25 _ _ more h refl (eq-eqb t 11 e)
-  global-item (pattern d) t n more h e = pattern-tag d t n more h (λ z. absurd (omega arith)) (λ z m. absurd (omega arith)) (λ z. absurd (omega arith))
+  global-item (pattern d) t n more h e = pattern-tag d t n more h (λ z. absurd (omega arith)) (λ z m. absurd (omega arith)) (λ z. absurd (omega arith)) (λ z m. absurd (omega arith))
 
   pub global-read : (k : ℕ) → row-check p ≡ none → k < size p → tag p k ≡ 11 → (q : ℕ) × (from p (global ∷ []) k ≡ past q)
   global-read k h a t =

@@ -5,11 +5,12 @@ use native.Mathlib.Omega.{arith}
 use mathlib.Core.Path.{_≡_, refl, sym, _∙_, ap, ap₂}
 use mathlib.Core.Bool.{Bool, true, false, not, _&&_, _||_}
 use mathlib.Core.List.{List}
+use mathlib.Core.Logic.{⊎-elim}
 use lib.Dec.{eqb}
 use lib.ListN.{length, getD}
 use borrow.Author.Tests.{eqb-true, eq-eqb, ne-eqb}
 use Rattle.model.specs.declared.Sizes.{Sizes}
-use Rattle.model.specs.Index.{first}
+use Rattle.model.specs.Index.{implies, first}
 use Rattle.model.specs.Words.{columns}
 use Rattle.model.specs.Rows.{Program, program, size, tag, num}
 use Rattle.model.specs.Tables.{Tables, tables}
@@ -23,9 +24,10 @@ use Rattle.lists.specs.Ready.{Ready}
 use Rattle.lists.proofs.Facts.{rows-fit, columns-whole}
 use Rattle.values.specs.Values.{width, Empty, Room}
 use Rattle.values.proofs.Gathered.{room-row}
-use Rattle.matching.specs.Patterns.{code, pattern-code, Pattern, Standing, Is-code, is-build, Builds, Matched, Matches, Clear, Put-if}
+use Rattle.matching.specs.Patterns.{code, pattern-code, Pattern, Standing, Is-code, is-build, Builds, Matched, Matches, Clear, Put-if, Joined, equals-some}
 use Rattle.matching.proofs.Chains.{build-no}
 use Rattle.matching.proofs.Coding.{code-zero, unmade-code}
+use Rattle.matching.proofs.Joining.{joined-others, joined-here}
 use Rattle.matching.proofs.Subpatterns.{pattern-deep}
 
 -- a code that is not 0, and one that is 1
@@ -196,19 +198,47 @@ empty-clear e = record { none = λ n v l h. e .none n v }
 pub same-room : {w k : ℕ} (u t : List ℕ) → length t ≡ length u → Room w k u → Room w k t
 same-room {w} {k} u t e r = record { row = λ n l. room-row w w k n u t refl r e l }
 
--- a row without a constructor pattern asks for no sets
-pub matches-skip : {p : Program} {t : Tables} {may held : List ℕ} (q x k : ℕ) → q + 1 ≡ x → k ≡ tag p q → (k ≡ 31 → ⊥) → Room (width (size p)) (size p) may → Room (width (size p)) (size p) held → Matches p t may held x → Matches p t may held q
-matches-skip q x k down e ne a b m = record {
+-- a row without a constructor pattern or a held name asks for no sets
+pub matches-skip : {p : Program} {t : Tables} {may held : List ℕ} (q x k : ℕ) → q + 1 ≡ x → k ≡ tag p q → (k ≡ 31 → ⊥) → (k ≡ 33 → ⊥) → Room (width (size p)) (size p) may → Room (width (size p)) (size p) held → Matches p t may held x → Matches p t may held q
+matches-skip q x k down e ne other a b m = record {
   at = λ n l less. elim (ℕ-discrete n q) [
     | yes z ↦ record {
       may-row = a .row n less;
       held-row = b .row n less;
-      may-set = λ d v f h i. absurd (ne (e ∙ (ap (tag _) (sym z) ∙ f)));
+      may-set = λ d v f h i. absurd (⊎-elim (λ g. ne (e ∙ (ap (tag _) (sym z) ∙ g))) (λ g. other (e ∙ (ap (tag _) (sym z) ∙ g))) f);
       held-set = λ d v f h i. absurd (ne (e ∙ (ap (tag _) (sym z) ∙ f)));
     }
     | no z ↦ m .at n (omega arith) less
   ];
 }
+
+-- what a held name may match
+held-match : (p : Program) (t : Tables) (d q v : ℕ) → Pattern p d q → tag p q ≡ 33 → equals-some p t (num p q) v ≡ may-match p t d q v
+unfolding may-match equals-some implies
+held-match p t zero q v h e = let z = pattern-deep h in absurd (omega arith)
+held-match p t (suc d) q v h e = rw (ne-eqb (tag p q) 31 (λ z. omega arith), may-match, eq-eqb (tag p q) 33 e)
+
+-- a row with a held name, whose set has been joined
+pub matches-joined : {p : Program} {t : Tables} {may may′ held : List ℕ} (q x k : ℕ) → q + 1 ≡ x → k ≡ tag p q → k ≡ 33 → Clear (width (size p)) x may → Joined (width (size p)) q (equals-some p t (num p q)) may may′ → Room (width (size p)) (size p) may → Room (width (size p)) (size p) held → Matches p t may held x → Matches p t may′ held q
+matches-joined {p} {t} {may} {may′} q x k down e is clear j a b m =
+    let same = sym e ∙ is in
+    let room = same-room may may′ (j .long) a in
+    record {
+      at = λ n l less. elim (ℕ-discrete n q) [
+        | yes z ↦ rw z (record {
+          may-row = room .row q (omega arith);
+          held-row = b .row q (omega arith);
+          may-set = λ d v f h i. joined-here j (rw (← down) at clear) v i ∙ held-match p t d q v h same;
+          held-set = λ d v f h i. absurd (omega arith);
+        })
+        | no z ↦ let old = m .at n (omega arith) less in record {
+          may-row = room .row n less;
+          held-row = b .row n less;
+          may-set = λ d v f h i. joined-others j n v i z ∙ old .may-set d v f h i;
+          held-set = old .held-set;
+        }
+      ];
+    }
 
 pub matches-none : {p : Program} {t : Tables} {may held : List ℕ} (x : ℕ) → x ≡ size p → Matches p t may held x
 matches-none x e = record { at = λ n l less. absurd (omega arith) }

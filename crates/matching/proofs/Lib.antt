@@ -1,6 +1,7 @@
 pub mod Arguments
 pub mod Chains
 pub mod Coding
+pub mod Joining
 pub mod Filling
 pub mod Leaves
 pub mod Subpatterns

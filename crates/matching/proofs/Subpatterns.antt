@@ -5,7 +5,7 @@ use mathlib.Core.Path.{_≡_, refl, sym, ap}
 use mathlib.Core.Bool.{true, _&&_, _||_}
 use mathlib.Core.Option.{some}
 use mathlib.Core.List.{List, [], _∷_, append-nil}
-use mathlib.Core.Logic.{⊎-elim}
+use mathlib.Core.Logic.{_⊎_, ⊎-elim}
 use lib.ListN.{getD, replicate}
 use lib.Dec.{eqb, leb}
 use borrow.Author.Tests.{eqb-true, ltb-true, ne-eqb, eq-eqb}
@@ -93,8 +93,8 @@ module _ {p : Program} where
       let one : suc d - 1 ≡ d = omega arith in
       rw (one, spans-past (k .before)) (spans-range (k .before) .0)
 
--- only a pattern takes a row with tag 31
-taken-pattern : (p : Program) (item : Item) (t n : ℕ) (more : List Item) → step p item t n ≡ some more → t ≡ 31 → (d : ℕ) × (item ≡ pattern d)
+-- only a pattern takes a row with a tag from 30 on
+taken-pattern : (p : Program) (item : Item) (t n : ℕ) (more : List Item) → step p item t n ≡ some more → 30 ≤ t → (d : ℕ) × (item ≡ pattern d)
 unfolding step
 taken-pattern p constructor t n more h e = let z = fits-tag t 10 _ _ more h .0 in absurd (omega arith)
 taken-pattern p global t n more h e = let z = fits-tag t 11 _ _ more h .0 in absurd (omega arith)
@@ -107,28 +107,33 @@ taken-pattern p arguments t n more h e = let z = fits-tag t 22 _ _ more h .0 in 
 taken-pattern p branches t n more h e = let z = fits-tag t 25 _ _ more h .0 in absurd (omega arith)
 taken-pattern p (pattern d) t n more h e = (d, refl)
 
-pub pattern-stands : {p : Program} → Rows-fit p → (q : ℕ) → q < size p → tag p q ≡ 31 → Standing p q
-pattern-stands {p} fit q l e =
+pub stands-from : {p : Program} → Rows-fit p → (q : ℕ) → q < size p → 30 ≤ tag p q → Standing p q
+stands-from {p} fit q l e =
     let (item, below, end, s) = row-taken fit q l in
     let (more, says, others) = stands-only s in
     let (d, same) = taken-pattern p item (tag p q) (num p q) more says e in
     record { depth = d; stands = record { end = end; reads = (rw same at s) .spans .reads } }
 
--- the number of a constructor pattern is a constructor, that of a pattern with tag 30 a name
+pub pattern-stands : {p : Program} → Rows-fit p → (q : ℕ) → q < size p → tag p q ≡ 31 → Standing p q
+pattern-stands fit q l e = stands-from fit q l (omega arith)
+
+-- the number of a constructor pattern is a constructor, that of a pattern with tag 30 or 33 a name
 made-step : (p : Program) (d t n : ℕ) (more : List Item) → step p (pattern d) t n ≡ some more → eqb t 31 ≡ true → n < p .constructors
 unfolding step pattern-step
 made-step p d t n more h e = ltb-true n (p .constructors) (and-right (leb 1 d) _ (fits-some _ _ more (rw (e, pattern-step) at h) .0))
 
-name-step : (p : Program) (d t n : ℕ) (more : List Item) → step p (pattern d) t n ≡ some more → t ≡ 30 → n < p .names
+name-step : (p : Program) (d t n : ℕ) (more : List Item) → step p (pattern d) t n ≡ some more → (t ≡ 30) ⊎ (t ≡ 33) → n < p .names
 unfolding step pattern-step is-name
 name-step p d t n more h e =
-    let no = ne-eqb t 31 (λ z. omega arith) in
+    let no = ne-eqb t 31 (λ z. ⊎-elim (λ x. omega arith) (λ x. omega arith) e) in
     let leaf = and-right (leb 1 d) _ (fits-some _ _ more (rw (no, pattern-step) at h) .0) in
-    ⊎-elim (λ a. ltb-true n (p .names) (and-right (eqb t 30) _ a)) (λ b. let z = eqb-true t 32 (and-left (eqb t 32) (eqb n 0) b) in absurd (omega arith))
-    (or-cases (eqb t 30 && is-name p n) (eqb t 32 && eqb n 0) leaf)
+    ⊎-elim (λ a. ltb-true n (p .names) (and-right (eqb t 30) _ a))
+    (λ k. ⊎-elim (λ b. let z = eqb-true t 32 (and-left (eqb t 32) (eqb n 0) b) in absurd (⊎-elim (λ x. omega arith) (λ x. omega arith) e))
+    (λ b. ltb-true n (p .names) (and-right (eqb t 33) _ b)) (or-cases (eqb t 32 && eqb n 0) (eqb t 33 && is-name p n) k))
+    (or-cases (eqb t 30 && is-name p n) (eqb t 32 && eqb n 0 || eqb t 33 && is-name p n) leaf)
 
 pub pattern-constructor : {p : Program} {q : ℕ} → Standing p q → tag p q ≡ 31 → num p q < p .constructors
 pattern-constructor {p} {q} h e = let f = spans-first {p = p} (record { reads = h .stands .reads }) in made-step p (h .depth) (tag p q) (num p q) (f .more) (f .says) (eq-eqb (tag p q) 31 e)
 
-pub pattern-name : {p : Program} {q : ℕ} → Standing p q → tag p q ≡ 30 → num p q < p .names
+pub pattern-name : {p : Program} {q : ℕ} → Standing p q → (tag p q ≡ 30) ⊎ (tag p q ≡ 33) → num p q < p .names
 pattern-name {p} {q} h e = let f = spans-first {p = p} (record { reads = h .stands .reads }) in name-step p (h .depth) (tag p q) (num p q) (f .more) (f .says) e

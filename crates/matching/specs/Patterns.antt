@@ -1,9 +1,10 @@
 -- The codes of patterns of any depth; for each constructor pattern the set of values that it may match, and of those
--- that find its names' values there.
+-- that find its names' values there; for each held name the set of values that it may match.
 use Prim.Native.Nat.{ℕ, _+_, _*_, _-_, _≤_, _<_}
 use mathlib.Core.Path.{_≡_}
 use mathlib.Core.Bool.{Bool, true, false, _&&_, _||_}
 use mathlib.Core.List.{List, [], _∷_}
+use mathlib.Core.Logic.{_⊎_}
 use lib.Dec.{eqb}
 use lib.ListN.{length, getD}
 use Rattle.model.specs.Index.{implies, first}
@@ -11,7 +12,8 @@ use Rattle.model.specs.Words.{Columns}
 use Rattle.model.specs.Reader.{past, read}
 use Rattle.model.specs.Rows.{Program, size, tag, num, pattern, step}
 use Rattle.model.specs.Tables.{Tables, each, some-of}
-use Rattle.model.specs.Closed.{may-match, names-hold}
+use Rattle.model.specs.Heads.{is-class}
+use Rattle.model.specs.Closed.{may-equal, may-match, names-hold}
 use Rattle.bits.specs.Bits.{member, Row}
 use Rattle.values.specs.Values.{width, Values}
 
@@ -62,12 +64,12 @@ pub record Builds (p : Program) (firsts nexts : List ℕ) : Type 0 where
   pub next-build :
       (v : ℕ) → v < size p → tag p v ≡ 2 → getD nexts v 0 ≡ first (v + 1) (size p) (is-build p (num p (v + 1)))
 
--- set q of `may` has the values that the pattern at row q may match, set q of `held` those of them whose parts its
--- names hold
+-- where the pattern at row q is a constructor's or a held name, set q of `may` has the values that it may match; where
+-- it is a constructor's, set q of `held` has those of them whose parts its names hold. (A held name binds nothing.)
 pub record Matched (p : Program) (t : Tables) (may held : List ℕ) (q : ℕ) : Type 0 where
   pub may-row : Row may (width (size p)) q
   pub held-row : Row held (width (size p)) q
-  pub may-set : (d v : ℕ) → tag p q ≡ 31 → Pattern p d q → v < 64 * width (size p) →
+  pub may-set : (d v : ℕ) → (tag p q ≡ 31) ⊎ (tag p q ≡ 33) → Pattern p d q → v < 64 * width (size p) →
       member may (width (size p)) q v ≡ may-match p t d q v
   pub held-set : (d v : ℕ) → tag p q ≡ 31 → Pattern p d q → v < 64 * width (size p) →
       member held (width (size p)) q v ≡ (may-match p t d q v && names-hold p t d q v)
@@ -84,3 +86,17 @@ pub record Clear (w x : ℕ) (sets : List ℕ) : Type 0 where
 pub record Put-if (w n v : ℕ) (b : Bool) (u t : List ℕ) : Type 0 where
   pub long : length t ≡ length u
   pub members : (n2 v2 : ℕ) → v2 < 64 * w → member t w n2 v2 ≡ (member u w n2 v2 || (b && (eqb n2 n && eqb v2 v)))
+
+-- t is u, and the values that pass are in set n besides
+pub record Joined (w n : ℕ) (f : ℕ → Bool) (u t : List ℕ) : Type 0 where
+  pub long : length t ≡ length u
+  pub members : (n2 v : ℕ) → v < 64 * w → member t w n2 v ≡ (member u w n2 v || (eqb n2 n && f v))
+
+-- set n has with a build row all those of its constructor
+pub record Alike (p : Program) (w n : ℕ) (sets : List ℕ) : Type 0 where
+  pub alike : (a b : ℕ) → a < 64 * w → b < 64 * w → is-class p a ≡ false → tag p a ≡ 2 → member sets w n a ≡ true →
+      is-build p (num p (a + 1)) b ≡ true → member sets w n b ≡ true
+
+-- Document 02, (iii): the value v may match the held name n
+unfoldable pub equals-some : Program → Tables → ℕ → ℕ → Bool
+equals-some p t n v = some-of (t .flow) n (may-equal p v)

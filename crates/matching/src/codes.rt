@@ -2,6 +2,7 @@
 use lists::word;
 use model::Sizes;
 use model::TAG_PATTERN_CONSTRUCTOR;
+use model::TAG_PATTERN_HELD;
 use model::TAG_PATTERN_NAME;
 use program::rows::num;
 use program::rows::tag;
@@ -11,15 +12,16 @@ use sets::within;
 use values::width;
 ghost use mathlib.Core.Path.{_≡_};
 ghost use mathlib.Core.Bool.{true};
-ghost use Prim.Native.Nat.{_+_, _<_, max};
+ghost use Prim.Native.Nat.{_+_, _*_, _<_, max};
+ghost use Rattle.model.specs.Index.{any};
 ghost use Rattle.model.specs.Rows.{program, size, tag};
 ghost use Rattle.model.specs.Tables.{tables};
 ghost use Rattle.model.specs.Closed.{same-constructor};
-ghost use Rattle.bits.specs.Bits.{Row};
+ghost use Rattle.bits.specs.Bits.{Row, shared};
 ghost use Rattle.lists.specs.Ready.{Ready};
 ghost use Rattle.positions.specs.Positions.{Ends};
 ghost use Rattle.values.specs.Values.{width, Flow-sets};
-ghost use Rattle.matching.specs.Patterns.{Standing, Is-code, Is-values-code, Matched, Matches};
+ghost use Rattle.matching.specs.Patterns.{code, Standing, Is-code, Is-values-code, Matched, Matches};
 
 // The worse of two codes.
 pub fn worse(a: usize, b: usize) -> usize
@@ -28,7 +30,7 @@ pub fn worse(a: usize, b: usize) -> usize
     if a < b { b } else { a }
 }
 
-// The code of the pattern at row q, which binds no constructor's parts, with the values of set k.
+// The code of the pattern at row q, a name bound or any value, with the values of set k.
 fn leaf_code(
     ws: &[u16],
     s: Sizes,
@@ -42,7 +44,7 @@ fn leaf_code(
     requires { ⌜ Flow-sets (program (now ws) s) (tables (now ws) s) (now flow) ⌝ }
     requires { ⌜ Row (now sets) (width (s .rows)) k ⌝ }
     requires { ⌜ Standing (program (now ws) s) q ⌝ }
-    requires { ⌜ (kind ≡ tag (program (now ws) s) q) × (kind ≡ 31 → ⊥) ⌝ }
+    requires { ⌜ (kind ≡ tag (program (now ws) s) q) × (kind ≡ 31 → ⊥) × (kind ≡ 33 → ⊥) ⌝ }
     ensures { λ c. ⌜ Is-values-code (program (now (ws .entry)) s) (tables (now (ws .entry)) s)
         (now (sets .entry)) k q c ⌝ }
 {
@@ -55,6 +57,14 @@ fn leaf_code(
     }
     let name = num(ws, s, q);
     if within(sets, flow, w, k, name) { 1 } else { 2 }
+}
+
+// The code of a held name, which binds nothing: whether set n of a and set m of may have a value in common.
+fn met_code(a: &[u64], may: &[u64], w: usize, n: usize, m: usize) -> usize
+    requires { ⌜ Row (now a) w n × Row (now may) w m ⌝ }
+    ensures { λ c. ⌜ c ≡ code (any 0 (64 * w) (shared (now (a .entry)) (now (may .entry)) w n m)) true ⌝ }
+{
+    if meets(a, may, w, n, m) { 1 } else { 0 }
 }
 
 // The code of the pattern at row q with the values of set k.
@@ -80,6 +90,10 @@ pub fn values_code(
     if kind == TAG_PATTERN_CONSTRUCTOR {
         let w = width(s);
         return common(sets, may, held, w, k, q);
+    }
+    if kind == TAG_PATTERN_HELD {
+        let w = width(s);
+        return met_code(sets, may, w, k, q);
     }
     leaf_code(ws, s, flow, sets, k, q, kind)
 }

@@ -1,8 +1,10 @@
-// The sets of each constructor pattern.
+// The sets of each constructor pattern and of each held name.
 use crate::codes::arguments_code;
+use crate::equals::fill_equals;
 use lists::word;
 use model::Sizes;
 use model::TAG_PATTERN_CONSTRUCTOR;
+use model::TAG_PATTERN_HELD;
 use program::rows::num;
 use program::rows::tag;
 use sets::put;
@@ -65,7 +67,7 @@ fn fill_pattern(
     }
 }
 
-// The sets of all constructor patterns, in two tables of zeros.
+// The sets of all constructor patterns and held names, in two tables of zeros.
 pub fn fill_patterns(
     ws: &[u16],
     s: Sizes,
@@ -88,8 +90,11 @@ pub fn fill_patterns(
     let mut q = s.rows;
     while q > 0 {
         q -= 1;
-        if tag(ws, s, q) == TAG_PATTERN_CONSTRUCTOR {
+        let kind = tag(ws, s, q);
+        if kind == TAG_PATTERN_CONSTRUCTOR {
             fill_pattern(ws, s, afters, flow, firsts, nexts, may, held, q);
+        } else if kind == TAG_PATTERN_HELD {
+            fill_equals(ws, s, flow, firsts, nexts, may, q);
         }
     }
 }

@@ -8,9 +8,9 @@ use Rattle.model.specs.Rows.{Program, tag, num, arity, kind}
 use Rattle.model.specs.Rows.{give, build, function, call, send, spawn, self, case, receive, other}
 use Rattle.model.specs.Scopes.{rest}
 use Rattle.model.specs.Heads.{nums, call-at, branch-rows}
-use Rattle.model.specs.Values.{closure, built, address, bind, value-of, values-of, Process, process, Processes}
+use Rattle.model.specs.Values.{closure, built, address, bind, value-of, values-of, Process, process, Processes, process-of}
 use Rattle.model.specs.Matching.{first-branch, receive-from}
-use Rattle.model.specs.Run.{_>>=_, moved, function-of, process-of, deliver, give-back, enter, spawned, act}
+use Rattle.model.specs.Run.{_>>=_, moved, function-of, deliver, give-back, enter, spawned, act}
 use Rattle.model.proofs.Heads.{head-give, head-build, head-function, head-call, head-send, head-spawn, head-self, head-case, head-receive, head-other}
 
 module _ (p : Program) (qs : Processes) (i : ℕ) (q : Process) where

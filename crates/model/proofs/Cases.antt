@@ -1,9 +1,10 @@
--- The cases of specs/Cases.antt and specs/LongerCases.antt, by computation: one theorem a table.
+-- The cases of specs/Cases.antt, LongerCases.antt and HeldCases.antt, by computation: one theorem a table.
 use mathlib.Core.Path.{_≡_, refl}
 use mathlib.Core.List.{map}
 use Rattle.model.proofs.Opens.{model-opens}
 use Rattle.model.specs.Cases.{obtained, proved-cases, own-cases}
 use Rattle.model.specs.LongerCases.{obtained-each, expected-each, limit-cases}
+use Rattle.model.specs.HeldCases.{reached, held-cases, held-runs}
 
 pub proved-cases-hold : map obtained proved-cases ≡ map (λ k. k .expected) proved-cases
 unfolding model-opens
@@ -16,3 +17,11 @@ own-cases-hold = refl
 pub limit-cases-hold : obtained-each limit-cases ≡ expected-each limit-cases
 unfolding model-opens
 limit-cases-hold = refl
+
+pub held-cases-hold : map obtained held-cases ≡ map (λ k. k .expected) held-cases
+unfolding model-opens
+held-cases-hold = refl
+
+pub held-runs-hold : map reached held-runs ≡ map (λ k. k .expected) held-runs
+unfolding model-opens
+held-runs-hold = refl

@@ -74,7 +74,7 @@ system-written most bytes lent safe = rw safe
 column-whole : (ws : List ℕ) (n at : ℕ) → at + n ≤ length ws → length (take n (drop at ws)) ≡ n
 column-whole ws n at h = omega (arith, length-take n (drop at ws), length-drop at ws)
 
-rows-whole : (bytes : List ℕ) → length bytes ≡ 2 * end-at (message bytes .sizes) → Columns-whole (message bytes .program)
+pub rows-whole : (bytes : List ℕ) → length bytes ≡ 2 * end-at (message bytes .sizes) → Columns-whole (message bytes .program)
 unfolding message program columns end-at ceilings-at
 rows-whole bytes h =
     let (a, b) = words-length bytes in
@@ -82,7 +82,7 @@ rows-whole bytes h =
     record { tags = column-whole (words bytes) n 4 (omega arith); numbers = column-whole (words bytes) n (4 + n) (omega arith) }
 
 -- the row past the end has no tag
-past-the-end : (bytes : List ℕ) → tag (message bytes .program) (size (message bytes .program)) ≡ 0
+pub past-the-end : (bytes : List ℕ) → tag (message bytes .program) (size (message bytes .program)) ≡ 0
 unfolding message
 past-the-end bytes = program-end (words bytes) (sizes (words bytes)) _ (omega arith)
 

@@ -31,3 +31,5 @@ pub mod Refusals
 pub mod Longer
 pub mod Controls
 pub mod Transitions
+pub mod Equality
+pub mod HeldScopes

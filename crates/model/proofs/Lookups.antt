@@ -47,7 +47,7 @@ module _ (p : Program) (t : Tables) (closed : Closed p t) (classes : List ℕ) w
     (or-right (eqb (tag p g) 3) (eqb (tag p g) 11) (eq-eqb (tag p g) 11 (r .tagged)), tt),
   )
 
-  held-value : {held : Bindings} {n : ℕ} {v : Value} → Held p t classes held → Has-value p held n v → Holds n v
+  pub held-value : {held : Bindings} {n : ℕ} {v : Value} → Held p t classes held → Has-value p held n v → Holds n v
   held-value h (global r before) = global-held r
   held-value h (local none-global k) = newest-held h k
 

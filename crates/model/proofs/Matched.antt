@@ -3,6 +3,7 @@ use Prim.Native.Nat.{ℕ, zero, suc, _+_, _-_, _≤_, _<_}
 use native.Mathlib.Omega.{arith}
 use mathlib.Core.Path.{_≡_, refl, sym, _∙_, ap}
 use mathlib.Core.Bool.{true, false}
+use mathlib.Core.Logic.{inl, inr, ⊎-elim}
 use mathlib.Core.List.{List, [], _∷_, _++_, append-nil}
 use mathlib.Core.Option.{some, Option·some-injective, Option·none-ne-some}
 use lib.ListN.{length, getD, replicate}
@@ -10,14 +11,18 @@ use lib.Dec.{eqb}
 use borrow.Author.Tests.{eqb-true, eq-eqb}
 use Rattle.model.specs.Rows.{Program, size, tag, num, is-head, pattern, arity}
 use Rattle.model.specs.Heads.{nums}
-use Rattle.model.specs.Values.{Value, closure, built, address, Bindings, empty, bind, join}
-use Rattle.model.specs.Matching.{arguments-of, match-rows, match}
+use Rattle.model.specs.Values.{Value, closure, built, address, Bindings, empty, bind, join, arguments-of}
+use Rattle.model.specs.Matching.{passes-over, match-rows, match}
+use Rattle.model.specs.Patterns.{Equal, one-process, one-constructor}
 use Rattle.model.specs.Tables.{Tables}
 use Rattle.model.specs.Closed.{subpattern, argument, same-constructor}
-use Rattle.model.specs.Wanted.{Member, MayMatch, AtSpot}
+use Rattle.model.specs.Wanted.{Member, MayEqual, MayMatch, AtSpot, Closed}
 use Rattle.model.proofs.Logic.{test, and-intro}
 use Rattle.model.proofs.Reader.{by-option}
 use Rattle.model.proofs.Covering.{row-for, names-of, Covered, Held}
+use Rattle.model.proofs.Lookups.{held-value}
+use Rattle.model.proofs.Transitions.Equality.{Equals-held, passes-over-iff}
+use Rattle.model.proofs.Steps.Letters.{Classes}
 use Rattle.model.proofs.Parse.Reached.{Rows-fit}
 use Rattle.model.proofs.Parse.Grammar.{pattern-made, pattern-leaf}
 use Rattle.model.proofs.Parse.Lengths.{Columns-whole, row-location, nums-at, build-length}
@@ -116,9 +121,9 @@ module _ (p : Program) (t : Tables) (classes : List ℕ) where
       (each-map a d k (h .2) (λ i l x u b y m. f (suc i) (omega arith) x u (spans-join s b) y m))
 
   -- what a pattern that is no constructor's may match, and what a constructor's may
-  may-leaf : (d q v : ℕ) → eqb (tag p q) 31 ≡ false → MayMatch p t d q v
-  may-leaf zero q v e = tt
-  may-leaf (suc d) q v e = rw (e, MayMatch) tt
+  may-leaf : (d q v : ℕ) → eqb (tag p q) 31 ≡ false → (tag p q ≡ 33 → (w : ℕ) × Member (t .flow) (num p q) w × MayEqual p v w) → MayMatch p t d q v
+  may-leaf zero q v e equal = tt
+  may-leaf (suc d) q v e equal = rw (e, MayMatch) equal
 
   may-made : (d q v : ℕ) → eqb (tag p q) 31 ≡ true → same-constructor p q v ≡ true → ((i : ℕ) → i < arity p (num p q) → (w : ℕ) × Member (t .flow) (argument p v i) w × MayMatch p t (d - 1) (subpattern p d q i) w) → MayMatch p t d q v
   may-made zero q v e same each = tt
@@ -136,22 +141,23 @@ module _ (p : Program) (t : Tables) (classes : List ℕ) where
       rw (e, AtSpot) (i, b, (u, m, rw z at may, rw z at spot))
 
 -- one row of a match
-module _ (p : Program) (n q m : ℕ) (v : Value) (vs held held′ : Bindings) (h : match-rows p (suc n) q (bind m v vs) held ≡ some held′) where
-  turn-made : eqb (tag p q) 31 ≡ true → (inner : Bindings) × (arguments-of (num p q) v ≡ some inner) × (match-rows p n (q + 1) (join inner vs) held ≡ some held′)
+module _ (p : Program) (held : Bindings) (n q m : ℕ) (v : Value) (vs found found′ : Bindings) (h : match-rows p held (suc n) q (bind m v vs) found ≡ some found′) where
+  turn-made : eqb (tag p q) 31 ≡ true → (inner : Bindings) × (arguments-of (num p q) v ≡ some inner) × (match-rows p held n (q + 1) (join inner vs) found ≡ some found′)
   unfolding match-rows
   turn-made e =
       by-option (arguments-of (num p q) v)
-      (λ a. absurd (Option·none-ne-some held′ (rw (e, match-rows, a) at h)))
+      (λ a. absurd (Option·none-ne-some found′ (rw (e, match-rows, a) at h)))
       (λ inner a. (inner, a, rw (e, match-rows, a) at h))
 
-  turn-name : eqb (tag p q) 31 ≡ false → eqb (tag p q) 30 ≡ true → match-rows p n (q + 1) vs (bind (num p q) v held) ≡ some held′
+  turn-name : eqb (tag p q) 31 ≡ false → eqb (tag p q) 30 ≡ true → match-rows p held n (q + 1) vs (bind (num p q) v found) ≡ some found′
   unfolding match-rows
   turn-name e f = rw (e, match-rows, f) at h
 
-  turn-any : eqb (tag p q) 31 ≡ false → eqb (tag p q) 30 ≡ false → match-rows p n (q + 1) vs held ≡ some held′
+  turn-over : eqb (tag p q) 31 ≡ false → eqb (tag p q) 30 ≡ false → (passes-over p held q v ≡ true) × (match-rows p held n (q + 1) vs found ≡ some found′)
   unfolding match-rows
-  turn-any e f =
-      test (eqb (tag p q) 32) (λ g. rw (e, match-rows, f, g) at h) (λ g. absurd (Option·none-ne-some held′ (rw (e, match-rows, f, g) at h)))
+  turn-over e f =
+      test (passes-over p held q v) (λ g. (g, rw (e, match-rows, f, g) at h))
+      (λ g. absurd (Option·none-ne-some found′ (rw (e, match-rows, f, g) at h)))
 
 module _ {p : Program} (fit : Rows-fit p) (w : Columns-whole p) (t : Tables) (classes : List ℕ) where
   -- a match of values with patterns: each may match, and what is bound is held where flow has the spots
@@ -206,48 +212,66 @@ module _ {p : Program} (fit : Rows-fit p) (w : Columns-whole p) (t : Tables) (cl
       let (l, leaf, same) = pattern-leaf p d (tag p q) (num p q) (f .more) e (f .says) in
       (l, spans-unique (spans-none (q + 1)) (rw (append-nil, ← same) at (f .rest)))
 
-  -- row by row
-  match-each : (n : ℕ) {ds : List ℕ} {q e : ℕ} {vs : Bindings} (held held′ : Bindings) → Each p (Cover p t classes) ds q vs e → match-rows p n q vs held ≡ some held′ → Matches ds q vs e held held′
-  unfolding match-rows
-  match-each zero held held′ (done q) h = match-none q held held′ (Option·some-injective held held′ h)
-  match-each zero held held′ (more s c k) h = absurd (Option·none-ne-some held′ h)
-  match-each (suc n) held held′ (done q) h = match-none q held held′ (Option·some-injective held held′ h)
-  match-each (suc n) held held′ (more {d = d} {n = m} {q = q} {v = v} {ds = ds} {vs = vs} s c k) h =
-      test (eqb (tag p q) 31)
-      (λ e.
-      let (inner, a, h′) = turn-made p n q m v vs held held′ h e in
-      let made = made-from p t classes q v inner c a in
-      let (l, cover) = made-inner v s e made in
-      let g = match-each n held held′ (each-join cover k) h′ in
-      let (mi, mv) = each-split ds vs cover (g .may) in
-      record {
-        may = more s (made-may d v e made mi) mv;
-        holds = λ sp hl. g .holds (each-join (made-spots d v l e made mi (each-first sp)) (each-rest s sp)) hl;
-      })
-      (λ e.
-      let (l, z) = leaf-next s e in
-      let may = may-leaf p t classes d q (row-for classes v) e in
-      test (eqb (tag p q) 30)
-      (λ f.
-      let g = rw z at (match-each n (bind (num p q) v held) held′ (rw (← z) at k) (turn-name p n q m v vs held held′ h e f)) in
-      let spot = spot-leaf p t classes d q (row-for classes v) l e (eqb-true (tag p q) 30 f) in
-      record {
-        may = more s may (g .may);
-        holds = λ sp hl. g .holds (each-rest s sp) (each-first sp (num p q) (row-for classes v) spot, c, hl);
-      })
-      (λ f.
-      let g = rw z at (match-each n held held′ (rw (← z) at k) (turn-any p n q m v vs held held′ h e f)) in
-      record { may = more s may (g .may); holds = λ sp hl. g .holds (each-rest s sp) hl }))
+  module _ (closed : Closed p t) (classed : Classes p classes) where
+    -- equal values are of one class, or of one constructor
+    equal-may : {v u : Value} → Covered p t classes v → Covered p t classes u → Equal v u → MayEqual p (row-for classes v) (row-for classes u)
+    unfolding row-for same-constructor
+    equal-may c b (one-process {i = i}) = inl (classed i c, refl)
+    equal-may c b (one-constructor {r = r} {s = s} x) =
+        inr (b .0, and-intro (eqb (tag p r) 2) (eqb (num p (r + 1)) (num p (s + 1))) (eq-eqb (tag p r) 2 (c .0)) (eq-eqb _ _ (c .1 ∙ sym (b .1))))
 
-  -- one value
-  match-one : {d q e : ℕ} (v : Value) (held held′ : Bindings) → Spans p (pattern d ∷ []) q e → Covered p t classes v → match p held q v ≡ some held′ → Matches (d ∷ []) q (bind 0 v empty) e held held′
-  unfolding match
-  match-one {d} {q} {e} v held held′ s c h = match-each (size p - q) held held′ (more s c (done e)) h
+    module _ (held : Bindings) (kept : Held p t classes held) where
+      -- a value equal to the one held: some value of the name may equal it
+      held-may : (n : ℕ) (v : Value) → Covered p t classes v → Equals-held p held n v → (u : ℕ) × Member (t .flow) n u × MayEqual p (row-for classes v) u
+      held-may n v c (u, k, x) =
+          let (member, covered) = held-value p t closed classes kept k in
+          (row-for classes u, member, equal-may c covered x)
 
-  -- a value that matches may match
-  pub match-may : {d q e : ℕ} (v : Value) (held held′ : Bindings) → Spans p (pattern d ∷ []) q e → Covered p t classes v → match p held q v ≡ some held′ → MayMatch p t d q (row-for classes v)
-  match-may v held held′ s c h = each-first (match-one v held held′ s c h .may)
+      -- row by row
+      match-each : (n : ℕ) {ds : List ℕ} {q e : ℕ} {vs : Bindings} (found found′ : Bindings) → Each p (Cover p t classes) ds q vs e → match-rows p held n q vs found ≡ some found′ → Matches ds q vs e found found′
+      unfolding match-rows
+      match-each zero found found′ (done q) h = match-none q found found′ (Option·some-injective found found′ h)
+      match-each zero found found′ (more s c k) h = absurd (Option·none-ne-some found′ h)
+      match-each (suc n) found found′ (done q) h = match-none q found found′ (Option·some-injective found found′ h)
+      match-each (suc n) found found′ (more {d = d} {n = m} {q = q} {v = v} {ds = ds} {vs = vs} s c k) h =
+          test (eqb (tag p q) 31)
+          (λ e.
+          let (inner, a, h′) = turn-made p held n q m v vs found found′ h e in
+          let made = made-from p t classes q v inner c a in
+          let (l, cover) = made-inner v s e made in
+          let g = match-each n found found′ (each-join cover k) h′ in
+          let (mi, mv) = each-split ds vs cover (g .may) in
+          record {
+            may = more s (made-may d v e made mi) mv;
+            holds = λ sp hl. g .holds (each-join (made-spots d v l e made mi (each-first sp)) (each-rest s sp)) hl;
+          })
+          (λ e.
+          let (l, z) = leaf-next s e in
+          test (eqb (tag p q) 30)
+          (λ f.
+          let g = rw z at (match-each n (bind (num p q) v found) found′ (rw (← z) at k) (turn-name p held n q m v vs found found′ h e f)) in
+          let named = eqb-true (tag p q) 30 f in
+          let spot = spot-leaf p t classes d q (row-for classes v) l e named in
+          record {
+            may = more s (may-leaf p t classes d q (row-for classes v) e (λ z. absurd (omega arith))) (g .may);
+            holds = λ sp hl. g .holds (each-rest s sp) (each-first sp (num p q) (row-for classes v) spot, c, hl);
+          })
+          (λ f.
+          let (over, h′) = turn-over p held n q m v vs found found′ h e f in
+          let g = rw z at (match-each n found found′ (rw (← z) at k) h′) in
+          let equals : tag p q ≡ 33 → Equals-held p held (num p q) v = λ y. ⊎-elim (λ x. absurd (omega arith)) (λ x. x .1) (passes-over-iff p held q v .0 over) in
+          let may = may-leaf p t classes d q (row-for classes v) e (λ y. held-may (num p q) v c (equals y)) in
+          record { may = more s may (g .may); holds = λ sp hl. g .holds (each-rest s sp) hl }))
 
-  -- and where flow has what is at the pattern's spots, the bindings are held
-  pub match-held : {d q e : ℕ} (v : Value) (held held′ : Bindings) → Spans p (pattern d ∷ []) q e → Covered p t classes v → match p held q v ≡ some held′ → Held p t classes held → ((n w : ℕ) → AtSpot p t d q (row-for classes v) n w → Member (t .flow) n w) → Held p t classes held′
-  match-held {d} {q} {e} v held held′ s c h hl spots = match-one v held held′ s c h .holds (more s spots (done e)) hl
+      -- one value
+      match-one : {d q e : ℕ} (v : Value) (held′ : Bindings) → Spans p (pattern d ∷ []) q e → Covered p t classes v → match p held q v ≡ some held′ → Matches (d ∷ []) q (bind 0 v empty) e held held′
+      unfolding match
+      match-one {d} {q} {e} v held′ s c h = match-each (size p - q) held held′ (more s c (done e)) h
+
+      -- a value that matches may match
+      pub match-may : {d q e : ℕ} (v : Value) (held′ : Bindings) → Spans p (pattern d ∷ []) q e → Covered p t classes v → match p held q v ≡ some held′ → MayMatch p t d q (row-for classes v)
+      match-may v held′ s c h = each-first (match-one v held′ s c h .may)
+
+      -- and where flow has what is at the pattern's spots, the bindings are held
+      pub match-held : {d q e : ℕ} (v : Value) (held′ : Bindings) → Spans p (pattern d ∷ []) q e → Covered p t classes v → match p held q v ≡ some held′ → ((n w : ℕ) → AtSpot p t d q (row-for classes v) n w → Member (t .flow) n w) → Held p t classes held′
+      match-held {d} {q} {e} v held′ s c h spots = match-one v held′ s c h .holds (more s spots (done e)) kept

@@ -152,6 +152,16 @@ module _ (m : Message) (fit : Rows-fit (m .program)) (w : Columns-whole (m .prog
     tt,
   )
 
+  -- the invariant holds of every run
+  kept-on : (qs : Processes) → Kept qs → (is : List ℕ) → Kept (run-from p qs is)
+  unfolding run-from
+  kept-on qs g [] = g
+  kept-on qs g (i ∷ is) = kept-on (next p qs i) (turn qs g i .good) is
+
+  pub run-good : (is : List ℕ) → Kept (run p is)
+  unfolding run
+  run-good is = kept-on (starting p) start-good is
+
   start-agrees : Agrees m (starting p) (initial p t)
   start-agrees = record { equal = equal-start m (closed (state (size p) (start p)) (by-opening first-state)); bounded = inductive .contain-start }
 

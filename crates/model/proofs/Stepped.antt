@@ -65,7 +65,7 @@ classes-append [] q = refl
 classes-append (x ∷ qs) q = ap {B = List ℕ} (λ l. x .class ∷ l) (classes-append qs q)
 
 -- every process has a class
-classed : (p : Program) (t : Tables) (classes : List ℕ) (qs : Processes) → All-good p t classes qs → Classes p (classes-of qs)
+pub classed : (p : Program) (t : Tables) (classes : List ℕ) (qs : Processes) → All-good p t classes qs → Classes p (classes-of qs)
 unfolding classes-of
 classed p t classes [] g i h = absurd (omega arith)
 classed p t classes (q ∷ qs) g zero h = g .0 .class
@@ -204,7 +204,7 @@ module _ (p : Program) (t : Tables) (fit : Rows-fit p) (w : Columns-whole p) (pa
       (λ k. sending (send-step p t fit w past-end low closed classes cs qs i q qs′ g k h))
       (λ k. spawning (spawn-step p t fit w closed classes qs (sized qs) i q qs′ g k h))
       (λ k. quietly (self-step p t fit w closed classes qs i q qs′ g h own inside k))
-      (λ k. quietly (case-step p t fit w closed classes qs i q qs′ g h k))
+      (λ k. quietly (case-step p t fit w closed classes qs i q qs′ g h cs k))
       (λ k. receiving (receive-step p t fit w past-end low closed classes cs qs i q qs′ g k h))
       (λ k. absurd (Option·none-ne-some qs′ (sym (act-other p qs i q k) ∙ h)))
 

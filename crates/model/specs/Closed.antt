@@ -1,6 +1,6 @@
 -- Document 01, "Closed tables": what each state wants; refusal 8 (open).
 use Prim.Native.Nat.{ℕ, zero, suc, _+_, _-_}
-use mathlib.Core.Bool.{Bool, true, false, not, _&&_}
+use mathlib.Core.Bool.{Bool, true, false, not, _&&_, _||_}
 use mathlib.Core.List.{List, [], _∷_}
 use mathlib.Core.Option.{Option, some, none}
 use lib.ListN.{getD, replicate}
@@ -9,6 +9,7 @@ use Rattle.model.specs.declared.Sizes.{Sizes}
 use Rattle.model.specs.declared.Verdict.the-variants.{Open}
 use Rattle.model.specs.Limits.{maxDepth}
 use Rattle.model.specs.Tags.{tag-build, tag-call, tag-global, tag-pattern-name, tag-pattern-constructor}
+use Rattle.model.specs.Tags.{tag-pattern-held}
 use Rattle.model.specs.Index.{implies, all, first}
 use Rattle.model.specs.Verdict.{Check, _>>_, unless}
 use Rattle.model.specs.Message.{tables-at}
@@ -29,8 +30,13 @@ argument p v i = num p (v + 2 + i)
 unfoldable pub same-constructor : Program → ℕ → ℕ → Bool
 same-constructor p q v = eqb (tag p v) tag-build && eqb (num p (v + 1)) (num p q)
 
+-- Document 02, (iii): v "is the same class, or both are build rows of one constructor"
+unfoldable pub may-equal : Program → ℕ → ℕ → Bool
+may-equal p v w = is-class p v && eqb v w || eqb (tag p w) tag-build && same-constructor p (w + 1) v
+
 -- "A name or any-pattern may match everything. A constructor pattern may match a build row of that constructor if each
--- subpattern may match some value of the argument name." The pattern at row q may be d levels deep.
+-- subpattern may match some value of the argument name." Document 02, (iii): a held name "may match where a value of
+-- the name is" as above. The pattern at row q may be d levels deep.
 unfoldable pub may-match : Program → Tables → ℕ → ℕ → ℕ → Bool
 may-match p t zero q v = true
 may-match p t (suc d) q v =
@@ -39,7 +45,7 @@ may-match p t (suc d) q v =
           same-constructor p q v &&
           all 0 (arity p (num p q))
           (λ i. some-of (t .flow) (argument p v i) (may-match p t d (subpattern p (suc d) q i)))
-      | false ↦ true
+      | false ↦ implies (eqb (tag p q) tag-pattern-held) (some-of (t .flow) (num p q) (may-equal p v))
     ]
 
 -- "A pattern name holds each value at its spot, reached only through values that may match": the names of the pattern

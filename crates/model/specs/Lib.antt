@@ -34,3 +34,5 @@ pub mod Demands
 pub mod Refusals
 pub mod Longer
 pub mod LongerCases
+pub mod Equality
+pub mod HeldCases

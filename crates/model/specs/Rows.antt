@@ -10,6 +10,7 @@ use Rattle.model.specs.declared.Verdict.the-variants.{Row}
 use Rattle.model.specs.Limits.{maxArity, maxBranches, maxDepth}
 use Rattle.model.specs.Tags.{tag-constructor, tag-global, tag-made, tag-operand, tag-count, tag-parameter}
 use Rattle.model.specs.Tags.{tag-branches, tag-pattern-name, tag-pattern-constructor, tag-pattern-any}
+use Rattle.model.specs.Tags.{tag-pattern-held}
 use Rattle.model.specs.Words.{Columns, left, right, columns}
 use Rattle.model.specs.Verdict.{Check}
 use Rattle.model.specs.Reader.{Grammar, fits, read, after, first-wrong}
@@ -116,13 +117,18 @@ expression-step p t n =
       | other ↦ none
     ]
 
--- "Patterns: (30, name bound); (31, constructor), then its arity of patterns; (32, 0) any value", d levels deep at the
--- most
+-- "Patterns: (30, name bound); (31, constructor), then its arity of patterns; (32, 0) any value"; document 02, (iii):
+-- "pattern (33, name read)"; d levels deep at the most
 unfoldable pub pattern-step : Program → ℕ → ℕ → ℕ → Option (List Item)
 pattern-step p d t n =
     elim (eqb t tag-pattern-constructor) [
       | true ↦ fits (leb 1 d && ltb n (p .constructors)) (replicate (arity p n) (pattern (d - 1)))
-      | false ↦ fits (leb 1 d && (eqb t tag-pattern-name && is-name p n || eqb t tag-pattern-any && eqb n 0)) []
+      | false ↦
+          fits
+          (leb 1 d &&
+          (eqb t tag-pattern-name && is-name p n ||
+          (eqb t tag-pattern-any && eqb n 0 || eqb t tag-pattern-held && is-name p n)))
+          []
     ]
 
 unfoldable pub step : Program → Grammar Item

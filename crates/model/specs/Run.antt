@@ -8,7 +8,7 @@ use Rattle.model.specs.Rows.{Program, size}
 use Rattle.model.specs.Heads.{call-at, head-at, gives, builds, makes, calls, sends, spawns, selfs, cases}
 use Rattle.model.specs.Heads.{receives, no-head, parameters, body, takes, start}
 use Rattle.model.specs.Values.{Value, closure, built, address, Bindings, empty, bind, value-of, values-of}
-use Rattle.model.specs.Values.{bind-all, Frame, Process, process, Processes}
+use Rattle.model.specs.Values.{bind-all, process-of, Frame, Process, process, Processes}
 use Rattle.model.specs.Matching.{first-branch, receive-from}
 
 unfoldable pub _>>=_ : {A B : Type 0} → Option A → (A → Option B) → Option B
@@ -28,11 +28,6 @@ unfoldable pub function-of : Program → ℕ → Value → Option Function
 function-of p n (closure f held) = elim (takes p f n) [ true ↦ some (record { row = f; held = held }) | false ↦ none ]
 function-of p n (built r k vs) = none
 function-of p n (address i) = none
-
-unfoldable pub process-of : Value → Option ℕ
-process-of (closure f held) = none
-process-of (built r k vs) = none
-process-of (address i) = some i
 
 -- "Send puts the message last in the target's mailbox"
 unfoldable pub deliver : Processes → ℕ → Value → Option Processes

@@ -507,13 +507,50 @@ arguments-kept =
     (9, 1) ∷ (31, 1) ∷ (30, 4) ∷ (2, 5) ∷ (20, 1) ∷ (21, 4) ∷ (8, 5) ∷ (25, 1) ∷ (31, 1) ∷ (30, 6) ∷ (3, 7) ∷
     (22, 0) ∷ (1, 6) ∷ (5, 8) ∷ (21, 0) ∷ (21, 7) ∷ (1, 8) ∷ [])
 
+-- A held name in a pattern: the same process, or the same constructor with equal arguments.
+--     constructors a/0, b/0, from/2.
+--     start ->
+--         Me = self(),
+--         P = spawn(fun() -> a end),
+--         Q = spawn(fun() -> a end),
+--         Me ! from(Q, a),
+--         Me ! from(P, b),
+--         receive from(^P, X) -> receive from(^Q, ^X) -> Me; from(_, Y) -> case a of ^Y -> Y; _ -> P end end end.
+unfoldable pub held-names : Program
+held-names =
+    station 16 3 0
+    ((10, 0) ∷ (10, 0) ∷ (10, 2) ∷ (7, 0) ∷ (3, 1) ∷ (22, 0) ∷ (2, 2) ∷ (20, 0) ∷ (1, 2) ∷ (6, 3) ∷ (21, 1) ∷ (3, 4) ∷
+    (22, 0) ∷ (2, 5) ∷ (20, 0) ∷ (1, 5) ∷ (6, 6) ∷ (21, 4) ∷ (2, 7) ∷ (20, 0) ∷ (2, 8) ∷ (20, 2) ∷ (21, 6) ∷ (21, 7) ∷
+    (5, 9) ∷ (21, 0) ∷ (21, 8) ∷ (2, 10) ∷ (20, 1) ∷ (2, 11) ∷ (20, 2) ∷ (21, 3) ∷ (21, 10) ∷ (5, 12) ∷ (21, 0) ∷
+    (21, 11) ∷ (9, 1) ∷ (31, 2) ∷ (33, 3) ∷ (30, 13) ∷ (9, 2) ∷ (31, 2) ∷ (33, 6) ∷ (33, 13) ∷ (1, 0) ∷ (31, 2) ∷
+    (32, 0) ∷ (30, 14) ∷ (2, 15) ∷ (20, 0) ∷ (8, 15) ∷ (25, 2) ∷ (33, 14) ∷ (1, 14) ∷ (32, 0) ∷ (1, 3) ∷ [])
+
+-- A function is equal to nothing, not even to itself, and neither is what holds one.
+--     constructors box/1.
+--     function idle() -> idle.
+--     start ->
+--         F = fun() -> idle end,
+--         B = box(F),
+--         case B of
+--             ^B -> B;
+--             box(^F) -> F;
+--             box(^idle) -> F;
+--             X -> self()
+--         end.
+unfoldable pub held-functions : Program
+held-functions =
+    station 5 1 1
+    ((10, 1) ∷ (11, 0) ∷ (22, 0) ∷ (1, 0) ∷ (3, 1) ∷ (22, 0) ∷ (1, 0) ∷ (2, 2) ∷ (20, 0) ∷ (21, 1) ∷ (8, 2) ∷
+    (25, 4) ∷ (33, 2) ∷ (1, 2) ∷ (31, 0) ∷ (33, 1) ∷ (1, 1) ∷ (31, 0) ∷ (33, 0) ∷ (1, 1) ∷ (30, 3) ∷ (7, 4) ∷ (1, 4) ∷
+    [])
+
 unfoldable pub run-stations : List Program
 run-stations =
     (one-message ∷ three-letters ∷ passed-over ∷ any-branch ∷ both-branches ∷ case-branches ∷ half-match ∷
     deep-pattern ∷ fresh-names ∷ yields-message ∷ kept-bindings ∷ global-function ∷ closure-over-closure ∷
     callees-bindings ∷ callers-bindings ∷ arguments-in-order ∷ pushed-calls ∷ calls-itself ∷ endless ∷
     receives-inside ∷ spawned ∷ two-of-one-row ∷ numbers-as-spawned ∷ own-address ∷ function-sent ∷ sent-on ∷ waits ∷
-    no-target ∷ wrong-count ∷ no-spawn ∷ no-match ∷ other-values ∷ arguments-kept ∷ [])
+    no-target ∷ wrong-count ∷ no-spawn ∷ no-match ∷ other-values ∷ arguments-kept ∷ held-names ∷ held-functions ∷ [])
 
 unfoldable pub run-cases : List Run-case
 run-cases =
@@ -865,6 +902,21 @@ run-cases =
     -- The function keeps all that the path to it bound: the address, the values built and sent, X and Y.
     after arguments-kept ((0, 9) ∷ [])
     ("28@27 : f@21{0=#0 1=c0@3 2=c1@5(c0@3) 3=c1@5(c0@3) 4=c0@3 5=c1@14(c0@3) 6=c0@3}" ∷ []) ∷
+    -- Two messages wait, the first from Q.
+    after held-names ((0, 11) ∷ [])
+    ("56@36 : c2@20(#2 c0@18) c2@29(#1 c1@27)" ∷ "9@6" ∷ "16@13" ∷ []) ∷
+    -- The first is from another process than P and is passed over; the second is taken, and X holds its b.
+    after held-names ((0, 12) ∷ [])
+    ("56@40 : c2@20(#2 c0@18)" ∷ "9@6" ∷ "16@13" ∷ []) ∷
+    -- The other one holds an a where X holds a b: the second branch takes it.
+    after held-names ((0, 13) ∷ [])
+    ("56@48" ∷ "9@6" ∷ "16@13" ∷ []) ∷
+    -- An a is equal to another that was built at another row.
+    after held-names ((0, 15) ∷ [])
+    ("56@53" ∷ "9@6" ∷ "16@13" ∷ []) ∷
+    -- The last branch is taken: neither the box is equal to itself, nor the function in it, nor to one of the front.
+    after held-functions ((0, 3) ∷ [])
+    ("23@21" ∷ []) ∷
     []
 
 -- the definitions above opened at once, for the theorems that compute the table
@@ -873,5 +925,5 @@ unfolding one-message three-letters passed-over any-branch both-branches case-br
     fresh-names yields-message kept-bindings global-function closure-over-closure callees-bindings callers-bindings
     arguments-in-order pushed-calls calls-itself endless receives-inside spawned two-of-one-row numbers-as-spawned
     own-address function-sent sent-on waits no-target wrong-count no-spawn no-match other-values arguments-kept
-    run-stations run-cases
+    held-names held-functions run-stations run-cases
 run-cases-opens = tt

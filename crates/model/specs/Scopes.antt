@@ -6,7 +6,7 @@ use mathlib.Core.Option.{none}
 use lib.Dec.{leb, ltb, eqb}
 use Rattle.model.specs.declared.Verdict.the-variants.{Name, Scope}
 use Rattle.model.specs.Tags.{tag-give, tag-build, tag-self, tag-case, tag-global, tag-operand, tag-parameter}
-use Rattle.model.specs.Tags.{tag-pattern-name}
+use Rattle.model.specs.Tags.{tag-pattern-name, tag-pattern-held}
 use Rattle.model.specs.Index.{any, all, first}
 use Rattle.model.specs.Verdict.{Check, _>>_, unless}
 use Rattle.model.specs.Rows.{Program, size, tag, num, kind, is-head, lead, expression, past-items}
@@ -15,9 +15,10 @@ use Rattle.model.specs.Rows.{Program, size, tag, num, kind, is-head, lea
 unfoldable pub binds : ℕ → Bool
 binds t = leb tag-build t && leb t tag-self || (eqb t tag-global || (eqb t tag-parameter || eqb t tag-pattern-name))
 
--- "name read": the rows with tags 1, 8 and 21
+-- "name read": the rows with tags 1, 8 and 21; document 02, (iii): and 33. A scope is a whole expression: it has a
+-- pattern's row exactly where it has "the case or receive itself", and a name of the same pattern holds behind it.
 unfoldable pub uses : ℕ → Bool
-uses t = eqb t tag-give || (eqb t tag-case || eqb t tag-operand)
+uses t = eqb t tag-give || (eqb t tag-case || (eqb t tag-operand || eqb t tag-pattern-held))
 
 -- row r binds the name n
 unfoldable pub binds-name : Program → ℕ → ℕ → Bool

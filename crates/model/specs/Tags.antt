@@ -81,6 +81,10 @@ tag-pattern-constructor = 31
 abbrev pub tag-pattern-any : ℕ
 tag-pattern-any = 32
 
+-- a pattern: a held name
+abbrev pub tag-pattern-held : ℕ
+tag-pattern-held = 33
+
 -- the rows of bads
 -- an item of a bad: its class
 abbrev pub tag-class : ℕ

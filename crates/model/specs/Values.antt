@@ -1,6 +1,6 @@
 -- Document 01, "How a station runs": values, bindings, pushed calls, processes.
 use Prim.Native.Nat.{ℕ}
-use mathlib.Core.Bool.{true, false, _&&_}
+use mathlib.Core.Bool.{Bool, true, false, _&&_}
 use mathlib.Core.List.{List, [], _∷_}
 use mathlib.Core.Option.{Option, some, none}
 use lib.Dec.{ltb, eqb}
@@ -20,6 +20,36 @@ mutual
   pub data Bindings : Type 0 where
     empty : Bindings
     bind : (name : ℕ) → Value → Bindings → Bindings
+
+-- the arguments of a value that has this constructor
+unfoldable pub arguments-of : ℕ → Value → Option Bindings
+arguments-of k (closure f held) = none
+arguments-of k (built r k′ vs) = elim (eqb k k′) [ true ↦ some vs | false ↦ none ]
+arguments-of k (address i) = none
+
+-- the process that a value is the address of
+unfoldable pub process-of : Value → Option ℕ
+process-of (closure f held) = none
+process-of (built r k vs) = none
+process-of (address i) = some i
+
+-- Document 02, (iii): "Equal means the same process, or the same constructor with equal arguments; functions are never
+-- equal."
+unfoldable mutual
+  pub equal : Value → Value → Bool
+  equal (closure f held) w = false
+  equal (built r k vs) (closure f held) = false
+  equal (built r k vs) (built s l ws) = eqb k l && equal-each vs ws
+  equal (built r k vs) (address j) = false
+  equal (address i) (closure f held) = false
+  equal (address i) (built s l ws) = false
+  equal (address i) (address j) = eqb i j
+
+  pub equal-each : Bindings → Bindings → Bool
+  equal-each empty empty = true
+  equal-each empty (bind m w ws) = false
+  equal-each (bind n v vs) empty = false
+  equal-each (bind n v vs) (bind m w ws) = equal v w && equal-each vs ws
 
 unfoldable pub lookup : Bindings → ℕ → Option Value
 lookup empty n = none

@@ -776,6 +776,146 @@ read-before-listing =
     (50 ∷ 51 ∷ 50 ∷ 51 ∷ 50 ∷ 51 ∷ 50 ∷ 51 ∷ 50 ∷ 51 ∷ 50 ∷ 51 ∷ 50 ∷ 51 ∷ []) ++
     (0 ∷ 2 ∷ 1 ∷ 6 ∷ 2 ∷ 1 ∷ 3 ∷ 4 ∷ 4 ∷ 7 ∷ 5 ∷ 0 ∷ 6 ∷ 3 ∷ [])
 
+-- A receive of a constructor with two arguments, after self (name 0); the branch's pattern stands in rows 3 to 5.
+unfoldable pub held-scope-program : List ℕ
+held-scope-program =
+    program-words 2 1 0
+    ((10, 2) ∷ (7, 0) ∷ (9, 1) ∷ (31, 0) ∷ (30, 1) ∷ (33, 0) ∷ (1, 0) ∷ [])
+
+unfoldable pub held-scope-words : List ℕ
+held-scope-words =
+    held-scope-program ++
+    bad-words 1
+    ((40, 7) ∷ (42, 0) ∷ (43, 1) ∷ (44, 0) ∷ []) ++
+    table-words
+    []
+    []
+    [] ++
+    ceiling-words 0
+    []
+
+-- A held name at the fourth level of a pattern.
+unfoldable pub held-depth-program : List ℕ
+held-depth-program =
+    program-words 1 1 0
+    ((10, 1) ∷ (7, 0) ∷ (9, 1) ∷ (31, 0) ∷ (31, 0) ∷ (31, 0) ∷ (33, 0) ∷ (1, 0) ∷ [])
+
+unfoldable pub held-depth-words : List ℕ
+held-depth-words =
+    held-depth-program ++
+    bad-words 1
+    ((40, 8) ∷ (42, 0) ∷ (43, 1) ∷ (44, 0) ∷ []) ++
+    table-words
+    []
+    []
+    [] ++
+    ceiling-words 0
+    []
+
+-- A held name at the fifth level.
+unfoldable pub held-too-deep-program : List ℕ
+held-too-deep-program =
+    program-words 1 1 0
+    ((10, 1) ∷ (7, 0) ∷ (9, 1) ∷ (31, 0) ∷ (31, 0) ∷ (31, 0) ∷ (31, 0) ∷ (33, 0) ∷ (1, 0) ∷ [])
+
+unfoldable pub held-too-deep-words : List ℕ
+held-too-deep-words =
+    held-too-deep-program ++
+    bad-words 1
+    ((40, 9) ∷ (42, 0) ∷ (43, 1) ∷ (44, 0) ∷ []) ++
+    table-words
+    []
+    []
+    [] ++
+    ceiling-words 0
+    []
+
+-- May match goes by the same class, or by build rows of one constructor.
+--     constructors a/0, b/0, from/2.
+--     function idle() -> receive X -> X end.
+--     start ->
+--         Me = self(),
+--         P = spawn(idle),
+--         Q = spawn(idle),
+--         A = a,
+--         case P of
+--             ^Q -> A;
+--             ^A -> A;
+--             ^idle -> A;
+--             ^P -> case a of ^A -> P; _ -> Q end
+--         end.
+--     bad none: start holds b >= 1.
+unfoldable pub held-classes-program : List ℕ
+held-classes-program =
+    program-words 7 3 1
+    ((10, 0) ∷ (10, 0) ∷ (10, 2) ∷ (11, 0) ∷ (22, 0) ∷ (9, 1) ∷ (30, 1) ∷ (1, 1) ∷ (7, 2) ∷ (6, 3) ∷ (21, 0) ∷
+    (6, 4) ∷ (21, 0) ∷ (2, 5) ∷ (20, 0) ∷ (8, 3) ∷ (25, 4) ∷ (33, 4) ∷ (1, 5) ∷ (33, 5) ∷ (1, 5) ∷ (33, 0) ∷ (1, 5) ∷
+    (33, 3) ∷ (2, 6) ∷ (20, 0) ∷ (8, 6) ∷ (25, 2) ∷ (33, 5) ∷ (1, 3) ∷ (32, 0) ∷ (1, 4) ∷ [])
+
+unfoldable pub held-classes-words : List ℕ
+held-classes-words =
+    held-classes-program ++
+    bad-words 1
+    ((40, 32) ∷ (42, 1) ∷ (43, 1) ∷ (44, 0) ∷ []) ++
+    table-words
+    ((0, 3) ∷ (2, 32) ∷ (3, 9) ∷ (4, 11) ∷ (5, 13) ∷ (6, 24) ∷ [])
+    []
+    ((9, 5) ∷ (11, 5) ∷ (32, 8) ∷ (32, 9) ∷ (32, 11) ∷ (32, 13) ∷ (32, 15) ∷ (32, 24) ∷ (32, 26) ∷ (32, 29) ∷
+    (32, 31) ∷ []) ++
+    ceiling-words 1
+    ((0, 65535) ∷ (1, 65535) ∷ (2, 65535) ∷ (3, 65535) ∷ (4, 65535) ∷ (5, 65535) ∷ (6, 65535) ∷ (7, 65535) ∷
+    (8, 65535) ∷ (9, 65535) ∷ (10, 65535) ∷ (11, 0) ∷ [])
+
+unfoldable pub held-classes-listing : List ℕ
+held-classes-listing =
+    (11 ∷ 0 ∷ 8 ∷ 18 ∷ []) ++
+    (50 ∷ 51 ∷ 50 ∷ 51 ∷ 54 ∷ 50 ∷ 51 ∷ 54 ∷ 50 ∷ 51 ∷ 50 ∷ 51 ∷ 50 ∷ 51 ∷ 50 ∷ 51 ∷ 50 ∷ 51 ∷ []) ++
+    (2 ∷ 3 ∷ 3 ∷ 4 ∷ 0 ∷ 4 ∷ 5 ∷ 1 ∷ 5 ∷ 6 ∷ 6 ∷ 7 ∷ 7 ∷ 8 ∷ 8 ∷ 9 ∷ 8 ∷ 10 ∷ [])
+
+-- Arguments are not compared, and the held name may have values of two constructors.
+--     constructors a/0, b/0, box/1, none/0.
+--     function send(To, X) -> To ! X.
+--     start ->
+--         Me = self(),
+--         A = a,
+--         B = b,
+--         C = box(A),
+--         D = box(B),
+--         send(Me, C),
+--         send(Me, A),
+--         receive ^D -> Me; box(^B) -> Me; ^B -> Me; X -> X end.
+--     bad none: start holds none >= 1.
+unfoldable pub held-arguments-program : List ℕ
+held-arguments-program =
+    program-words 12 4 1
+    ((10, 0) ∷ (10, 0) ∷ (10, 1) ∷ (10, 0) ∷ (11, 0) ∷ (22, 2) ∷ (23, 1) ∷ (23, 2) ∷ (5, 3) ∷ (21, 1) ∷ (21, 2) ∷
+    (1, 3) ∷ (7, 4) ∷ (2, 5) ∷ (20, 0) ∷ (2, 6) ∷ (20, 1) ∷ (2, 7) ∷ (20, 2) ∷ (21, 5) ∷ (2, 8) ∷ (20, 2) ∷ (21, 6) ∷
+    (4, 9) ∷ (21, 0) ∷ (22, 2) ∷ (21, 4) ∷ (21, 7) ∷ (4, 10) ∷ (21, 0) ∷ (22, 2) ∷ (21, 4) ∷ (21, 5) ∷ (9, 4) ∷
+    (33, 8) ∷ (1, 4) ∷ (31, 2) ∷ (33, 6) ∷ (1, 4) ∷ (33, 6) ∷ (1, 4) ∷ (30, 11) ∷ (1, 11) ∷ [])
+
+unfoldable pub held-arguments-words : List ℕ
+held-arguments-words =
+    held-arguments-program ++
+    bad-words 1
+    ((40, 43) ∷ (42, 3) ∷ (43, 1) ∷ (44, 0) ∷ []) ++
+    table-words
+    ((0, 4) ∷ (1, 43) ∷ (2, 13) ∷ (2, 17) ∷ (3, 13) ∷ (3, 17) ∷ (4, 43) ∷ (5, 13) ∷ (6, 15) ∷ (7, 17) ∷ (8, 20) ∷
+    (9, 13) ∷ (9, 17) ∷ (10, 13) ∷ (10, 17) ∷ (11, 13) ∷ (11, 17) ∷ [])
+    ((43, 13) ∷ (43, 17) ∷ [])
+    ((43, 8) ∷ (43, 11) ∷ (43, 12) ∷ (43, 13) ∷ (43, 15) ∷ (43, 17) ∷ (43, 20) ∷ (43, 23) ∷ (43, 28) ∷ (43, 33) ∷
+    (43, 35) ∷ (43, 42) ∷ []) ++
+    ceiling-words 1
+    ((0, 65535) ∷ (1, 65535) ∷ (2, 65535) ∷ (3, 65535) ∷ (4, 65535) ∷ (5, 65535) ∷ (6, 65535) ∷ (7, 65535) ∷
+    (8, 65535) ∷ (9, 65535) ∷ (10, 65535) ∷ (11, 65535) ∷ (12, 65535) ∷ (13, 65535) ∷ (14, 0) ∷ [])
+
+unfoldable pub held-arguments-listing : List ℕ
+held-arguments-listing =
+    (12 ∷ 2 ∷ 14 ∷ 33 ∷ []) ++
+    (50 ∷ 51 ∷ 53 ∷ 50 ∷ 51 ∷ 53 ∷ 50 ∷ 51 ∷ 50 ∷ 51 ∷ 50 ∷ 51 ∷ 50 ∷ 51 ∷ 50 ∷ 51 ∷ 50 ∷ 51 ∷ 50 ∷ 51 ∷ 50 ∷ 51 ∷
+    50 ∷ 51 ∷ 50 ∷ 51 ∷ 52 ∷ 50 ∷ 51 ∷ 52 ∷ 50 ∷ 51 ∷ 52 ∷ []) ++
+    (0 ∷ 1 ∷ 12 ∷ 0 ∷ 1 ∷ 13 ∷ 1 ∷ 8 ∷ 1 ∷ 9 ∷ 2 ∷ 3 ∷ 3 ∷ 4 ∷ 4 ∷ 5 ∷ 5 ∷ 6 ∷ 6 ∷ 7 ∷ 7 ∷ 0 ∷ 8 ∷ 0 ∷ 9 ∷ 10 ∷ 13 ∷
+    9 ∷ 11 ∷ 12 ∷ 9 ∷ 11 ∷ 13 ∷ [])
+
 unfoldable pub verdict-cases : List Verdict-case
 verdict-cases =
     -- R 0: too few rows.
@@ -1133,6 +1273,22 @@ verdict-cases =
     at 3 18 (to-bytes (changed scopes-words ((33, 6) ∷ []))) ∷
     -- 3: a spawn binds a name from V up.
     at 3 7 (to-bytes (changed spawned-name-words ((13, 2) ∷ []))) ∷
+    -- A held name that is in scope at the receive: what is refused is the tables.
+    at 8 28 (to-bytes held-scope-words) ∷
+    -- A name of the same pattern, bound before it.
+    at 5 9 (to-bytes (changed held-scope-words ((16, 1) ∷ []))) ∷
+    -- The held name before the one that binds it, in the same pattern.
+    at 5 8 (to-bytes (changed held-scope-words ((8, 33) ∷ (9, 30) ∷ (15, 1) ∷ (16, 1) ∷ []))) ∷
+    -- No such name: the row is wrong.
+    at 3 9 (to-bytes (changed held-scope-words ((16, 2) ∷ []))) ∷
+    -- Two held names: name 1 is never bound.
+    at 4 1 (to-bytes (changed held-scope-words ((8, 33) ∷ (15, 0) ∷ []))) ∷
+    -- In the place of the constructor a held name is a whole pattern: what follows is no expression.
+    at 3 8 (to-bytes (changed held-scope-words ((7, 33) ∷ (14, 0) ∷ []))) ∷
+    -- Depth 4: what is refused is the tables.
+    at 8 30 (to-bytes held-depth-words) ∷
+    -- Depth 5: the row is wrong.
+    at 3 11 (to-bytes held-too-deep-words) ∷
     []
 
 unfoldable pub listing-cases : List Case
@@ -1172,6 +1328,11 @@ listing-cases =
     safe 2 class-before-letter-program (to-bytes class-before-letter-words) class-before-letter-listing ∷
     -- The first function calls the second, which gives back the third.
     safe 2 read-before-program (to-bytes read-before-words) read-before-listing ∷
+    -- A rule for the last branch alone, as P and Q are spawned at two rows; then one for each of the two branches.
+    safe 2 held-classes-program (to-bytes held-classes-words) held-classes-listing ∷
+    -- The first branch may take the box whatever it holds, the second none, as what the box holds is no b, the third
+    -- none.
+    safe 2 held-arguments-program (to-bytes held-arguments-words) held-arguments-listing ∷
     []
 
 -- the definitions above opened at once, for the theorems that compute the table
@@ -1190,5 +1351,7 @@ unfolding bads-sizes-program bads-sizes-words tables-sizes-program tables-sizes-
     two-letters-words two-letters-listing classes-then-letters-program classes-then-letters-words
     classes-then-letters-listing one-letter-program one-letter-words one-letter-listing class-before-letter-program
     class-before-letter-words class-before-letter-listing read-before-program read-before-words read-before-listing
-    verdict-cases listing-cases
+    held-scope-program held-scope-words held-depth-program held-depth-words held-too-deep-program held-too-deep-words
+    held-classes-program held-classes-words held-classes-listing held-arguments-program held-arguments-words
+    held-arguments-listing verdict-cases listing-cases
 verdict-cases-opens = tt

@@ -1,8 +1,9 @@
 -- Document 01, "Closed tables", said outright: each sentence is a way to want an entry, and tables are closed when
 -- each wanted entry is there. (Closed.antt says the same as a test.)
-use Prim.Native.Nat.{ℕ, zero, suc, _<_}
+use Prim.Native.Nat.{ℕ, zero, suc, _+_, _<_}
 use mathlib.Core.Path.{_≡_}
 use mathlib.Core.Bool.{true, false}
+use mathlib.Core.Logic.{_⊎_}
 use mathlib.Core.List.{List, List·Memᴰ}
 use mathlib.Core.Option.{some}
 use lib.ListN.{getD}
@@ -34,8 +35,13 @@ Present t (flow n v) = Member (t .flow) n v
 Present t (mail c v) = Member (t .mail) c v
 Present t (state c r) = Member (t .states) c r
 
+-- Document 02, (iii): "the same class, or both are build rows of one constructor"
+abbrev pub MayEqual : Program → ℕ → ℕ → Type 0
+MayEqual p v w = ((is-class p v ≡ true) × (v ≡ w)) ⊎ ((tag p w ≡ 2) × (same-constructor p (w + 1) v ≡ true))
+
 -- "A name or any-pattern may match everything. A constructor pattern may match a build row of that constructor if each
--- subpattern may match some value of the argument name."
+-- subpattern may match some value of the argument name." Document 02, (iii): a held name "may match where a value of
+-- the name is" as above.
 abbrev pub MayMatch : Program → Tables → ℕ → ℕ → ℕ → Type 0
 MayMatch p t zero q v = Unit {0}
 MayMatch p t (suc d) q v =
@@ -44,7 +50,7 @@ MayMatch p t (suc d) q v =
           (same-constructor p q v ≡ true) ×
           ((i : ℕ) → i < arity p (num p q) →
           (w : ℕ) × Member (t .flow) (argument p v i) w × MayMatch p t d (subpattern p (suc d) q i) w)
-      | false ↦ Unit {0}
+      | false ↦ tag p q ≡ 33 → (w : ℕ) × Member (t .flow) (num p q) w × MayEqual p v w
     ]
 
 -- "A pattern name holds each value at its spot, reached only through values that may match": where the pattern at row

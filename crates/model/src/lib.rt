@@ -122,6 +122,8 @@ pub const TAG_PATTERN_CONSTRUCTOR: usize = 31;
 
 pub const TAG_PATTERN_ANY: usize = 32;
 
+pub const TAG_PATTERN_HELD: usize = 33;
+
 pub const TAG_CLASS: usize = 40;
 
 pub const TAG_HEAD: usize = 41;

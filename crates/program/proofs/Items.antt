@@ -5,7 +5,7 @@ use mathlib.Core.Path.{_≡_, refl, sym, _∙_, ap}
 use mathlib.Core.Bool.{Bool, true, false, _&&_, _||_}
 use mathlib.Core.List.{List, [], _∷_, _++_}
 use mathlib.Core.Option.{none}
-use mathlib.Core.Logic.{⊎-elim}
+use mathlib.Core.Logic.{_⊎_, inl, inr, ⊎-elim}
 use lib.ListN.{replicate}
 use lib.Dec.{leb, ltb, eqb}
 use borrow.Author.Tests.{eqb-true, eq-eqb, ne-eqb, le-leb}
@@ -59,9 +59,10 @@ module _ (ws : List ℕ) (s : Sizes) where
   branches-other t n e = rw (ne-eqb t 25 e)
 
   -- a pattern, by its tag
-  pub pattern-30 : (d t n : ℕ) → 0 < d → t ≡ 30 → step (program ws s) (pattern d) t n ≡ fits (ltb n (s .names)) []
+  pub pattern-named : (d t n : ℕ) → 0 < d → (t ≡ 30) ⊎ (t ≡ 33) → step (program ws s) (pattern d) t n ≡ fits (ltb n (s .names)) []
   unfolding program step pattern-step is-name
-  pattern-30 d t n h e = rw (e, le-leb 1 d h) (ap (λ b. fits b []) (or-none (ltb n (s .names))))
+  pattern-named d t n h (inl e) = rw (e, le-leb 1 d h) (ap (λ b. fits b []) (or-none (ltb n (s .names))))
+  pattern-named d t n h (inr e) = rw (e, le-leb 1 d h)
 
   pub pattern-31 : (d t n : ℕ) → 0 < d → t ≡ 31 → step (program ws s) (pattern d) t n ≡ fits (ltb n (s .constructors)) (replicate (arity (program ws s) n) (pattern (d - 1)))
   unfolding program step pattern-step
@@ -69,11 +70,11 @@ module _ (ws : List ℕ) (s : Sizes) where
 
   pub pattern-32 : (d t n : ℕ) → 0 < d → t ≡ 32 → step (program ws s) (pattern d) t n ≡ fits (eqb n 0) []
   unfolding program step pattern-step
-  pattern-32 d t n h e = rw (e, le-leb 1 d h)
+  pattern-32 d t n h e = rw (e, le-leb 1 d h) (ap (λ b. fits b []) (or-none (eqb n 0)))
 
-  pub pattern-other : (d t n : ℕ) → (t ≡ 30 → ⊥) → (t ≡ 31 → ⊥) → (t ≡ 32 → ⊥) → step (program ws s) (pattern d) t n ≡ none
+  pub pattern-other : (d t n : ℕ) → ((t ≡ 30) ⊎ (t ≡ 33) → ⊥) → (t ≡ 31 → ⊥) → (t ≡ 32 → ⊥) → step (program ws s) (pattern d) t n ≡ none
   unfolding program step pattern-step fits
-  pattern-other d t n a b c = rw (ne-eqb t 31 b, pattern-step, ne-eqb t 30 a, ne-eqb t 32 c) (test (leb 1 d) (λ e. rw e) (λ e. rw e))
+  pattern-other d t n a b c = rw (ne-eqb t 31 b, pattern-step, ne-eqb t 30 (λ e. a (inl e)), ne-eqb t 32 c, ne-eqb t 33 (λ e. a (inr e))) (test (leb 1 d) (λ e. rw e) (λ e. rw e))
 
   pub pattern-none : (d t n : ℕ) → d ≡ 0 → step (program ws s) (pattern d) t n ≡ none
   unfolding program step pattern-step fits

@@ -10,6 +10,7 @@ use model::TAG_MADE;
 use model::TAG_OPERAND;
 use model::TAG_PATTERN_ANY;
 use model::TAG_PATTERN_CONSTRUCTOR;
+use model::TAG_PATTERN_HELD;
 use model::TAG_PATTERN_NAME;
 ghost use mathlib.Core.Path.{_≡_};
 ghost use mathlib.Core.Bool.{true};
@@ -111,7 +112,7 @@ pub fn pattern(ws: &[u16], s: Sizes, r: usize, d: usize) -> Next
     let n = num(ws, s, r);
     let next = r + 1;
     match tag(ws, s, r) {
-        TAG_PATTERN_NAME => if n < s.names {
+        TAG_PATTERN_NAME | TAG_PATTERN_HELD => if n < s.names {
             Next::Past(next)
         } else {
             Next::Wrong(r)

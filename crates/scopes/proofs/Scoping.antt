@@ -30,13 +30,14 @@ use Rattle.layout.proofs.Visits.{past-is, parted, head-between, head-read}
 use Rattle.layout.proofs.Ending.{opened-by}
 
 -- the tags of uses
-pub uses-these : (t : ℕ) → (t ≡ 1) ⊎ ((t ≡ 8) ⊎ (t ≡ 21)) → true ≡ uses t
+pub uses-these : (t : ℕ) → (t ≡ 1) ⊎ ((t ≡ 8) ⊎ ((t ≡ 21) ⊎ (t ≡ 33))) → true ≡ uses t
 unfolding uses
-uses-these t h = ⊎-elim (λ e. rw e) (λ k. ⊎-elim (λ e. rw e) (λ e. rw e) k) h
+uses-these t h = ⊎-elim (λ e. rw e) (⊎-elim (λ e. rw e) (⊎-elim (λ e. rw e) (λ e. rw e))) h
 
-pub uses-none : (t : ℕ) → ((t ≡ 1) ⊎ ((t ≡ 8) ⊎ (t ≡ 21)) → ⊥) → false ≡ uses t
+pub uses-none : (t : ℕ) → ((t ≡ 1) ⊎ ((t ≡ 8) ⊎ ((t ≡ 21) ⊎ (t ≡ 33))) → ⊥) → false ≡ uses t
 unfolding uses
-uses-none t k = rw (ne-eqb t 1 (λ e. k (inl e)), ne-eqb t 8 (λ e. k (inr (inl e))), ne-eqb t 21 (λ e. k (inr (inr e))))
+uses-none t k =
+    rw (ne-eqb t 1 (λ e. k (inl e)), ne-eqb t 8 (λ e. k (inr (inl e))), ne-eqb t 21 (λ e. k (inr (inr (inl e)))), ne-eqb t 33 (λ e. k (inr (inr (inr e)))))
 
 module _ (p : Program) where
   -- next heads, from the last row to the first

@@ -8,6 +8,7 @@ use model::TAG_CASE;
 use model::TAG_GIVE;
 use model::TAG_GLOBAL;
 use model::TAG_OPERAND;
+use model::TAG_PATTERN_HELD;
 use model::Verdict;
 use program::rows::num;
 use program::rows::tag;
@@ -35,7 +36,7 @@ fn uses(t: usize) -> bool
     ensures { λ b. ⌜ b ≡ uses t ⌝ }
 {
     match t {
-        TAG_GIVE | TAG_CASE | TAG_OPERAND => true,
+        TAG_GIVE | TAG_CASE | TAG_OPERAND | TAG_PATTERN_HELD => true,
         _ => false,
     }
 }

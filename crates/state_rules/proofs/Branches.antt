@@ -37,9 +37,11 @@ use Rattle.system_letters.proofs.Pairs.{pairs-told}
 use Rattle.rules.specs.Derived.{Entered, Rule-room}
 use Rattle.rules.proofs.Classes.{class-low}
 use Rattle.rules.proofs.Gather.{gather-same, gather-none, rows-range}
-use Rattle.state_rules.specs.Heads.{Pair-room, case-turn, class-turn, receive-turn, takes-letter}
+use Rattle.state_rules.specs.Heads.{Pair-room, case-turn, class-turn, receive-turn}
+use Rattle.pattern_letters.specs.Takes.{takes-letter}
+use Rattle.pattern_letters.proofs.Letters.{taken-letter, taken-there, taken-some}
 use Rattle.state_rules.proofs.Heads.{only-both, only-no, skipped, kept, tag-head, here}
-use Rattle.state_rules.proofs.Letters.{letters-paired, taken-letter, taken-there, taken-some}
+use Rattle.state_rules.proofs.Letters.{letters-paired}
 
 -- the rows of branches
 rows-length : (p : Program) (m q : ℕ) → length (branch-rows p m q) ≡ m
@@ -144,10 +146,10 @@ module _ {ws : List ℕ} {s : Sizes} (h : Ready ws s) where
   case-kept branches at x q₀ m b q e here i y a f n u v = kept y _ _ _ f n (λ z. ap (λ k. rule i k quiet) (ap (λ k. getD at (branch-body p k) 0) (a .at) ∙ (ap (λ k. getD at k 0) (sym u) ∙ sym v)))
 
   -- the rules of a receive
-  receive-turned : (starts ls : List ℕ) → Class-letters p t starts ls → (k : Class) (at : List ℕ) (q to i : ℕ) (b : Bool) → k .number ≤ size p → b ≡ some-of (t .mail) (k .number) (may-take p t q) → elim b [ true ↦ class-turn (s .states) starts ls (takes-letter p q) reads to (k .number) i | false ↦ [] ] ≡ from-letters p (letter-of-some p (t .mail) (k .number) (may-take p t q)) (λ l. rule i to (reads (letter-index p t (k .number) l)))
+  receive-turned : (starts ls : List ℕ) → Class-letters p t starts ls → (k : Class) (at : List ℕ) (q to i : ℕ) (b : Bool) → k .number ≤ size p → b ≡ some-of (t .mail) (k .number) (may-take p t q) → elim b [ true ↦ class-turn (s .states) starts ls (takes-letter p t (k .number) q) reads to (k .number) i | false ↦ [] ] ≡ from-letters p (letter-of-some p (t .mail) (k .number) (may-take p t q)) (λ l. rule i to (reads (letter-index p t (k .number) l)))
   unfolding from-letters
   receive-turned starts ls g k at q to i true low e =
-      sym (letters-paired h starts ls g (k .number) low (letter-of-some p (t .mail) (k .number) (may-take p t q)) (takes-letter p q) reads to i
+      sym (letters-paired h starts ls g (k .number) low (letter-of-some p (t .mail) (k .number) (may-take p t q)) (takes-letter p t (k .number) q) reads to i
       (λ l o w. taken-there h (k .number) q l w)
       (λ l o w. taken-letter h (k .number) q (sym e) l o w))
   receive-turned starts ls g k at q to i false low e =
@@ -162,12 +164,12 @@ module _ {ws : List ℕ} {s : Sizes} (h : Ready ws s) where
       let q = branch-row p (r + 1) b in
       let run : Run p q 1 = run-last b (r + 1) (run-prefix (suc b) m (r + 1) (omega arith) (rw u (receive-rows r e))) in
       let bit′ : bit (getD bits x 0) b ≡ some-of (t .mail) (k .number) (may-take p t q) = g .receive-bit x b (branch-rows p m (r + 1)) low (rw (← same) head) (omega (arith, rows-length p m (r + 1))) ∙ (ap (λ q. some-of (t .mail) (left (t .states) x) (may-take p t q)) (rows-at p m (r + 1) b z) ∙ ap (λ c. some-of (t .mail) c (may-take p t q)) (sym class)) in
-      ap (λ to. elim (bit (getD bits x 0) b) [ true ↦ class-turn (s .states) starts ls (takes-letter p q) reads to (k .number) i | false ↦ [] ]) (d .index (branch-body p q) (run-body p afters q ends run .2)) ∙
+      ap (λ to. elim (bit (getD bits x 0) b) [ true ↦ class-turn (s .states) starts ls (takes-letter p t (k .number) q) reads to (k .number) i | false ↦ [] ]) (d .index (branch-body p q) (run-body p afters q ends run .2)) ∙
       receive-turned starts ls n k at q (state-index t (state (k .number) (branch-body p q))) i (bit (getD bits x 0) b) row bit′) ∙
       sym (rows-range p m (r + 1) (λ q. from-letters p (letter-of-some p (t .mail) (k .number) (may-take p t q)) (λ l. rule i (state-index t (state (k .number) (branch-body p q))) (reads (letter-index p t (k .number) l))))))
 
   module _ (at starts ls bits : List ℕ) (c x q₀ m b q i : ℕ) (y : Bool) (a : Branch-at p q₀ m b q) (f : y ≡ bit (getD bits x 0) b) where
-    pub receive-kept : (e to : ℕ) → not y ≡ false → e ≡ branch-body p q → to ≡ getD at e 0 → class-turn (s .states) starts ls (takes-letter p q) reads to c i ≡ receive-turn p t at starts ls c (getD bits x 0) q₀ i b
+    pub receive-kept : (e to : ℕ) → not y ≡ false → e ≡ branch-body p q → to ≡ getD at e 0 → class-turn (s .states) starts ls (takes-letter p t c q) reads to c i ≡ receive-turn p t at starts ls c (getD bits x 0) q₀ i b
     unfolding receive-turn tables entries columns
     receive-kept e to n u v = rw (sym f ∙ not-false y n, receive-turn, a .at, ← u, ← v)
 

@@ -40,6 +40,7 @@ use Rattle.values.specs.Values.{width, Flow-sets}
 use Rattle.values.proofs.Gathered.{width-above}
 use Rattle.rules.specs.Derived.{Entered}
 use Rattle.rules.proofs.Gather.{gather-same, gather-part, each-range}
+use Rattle.pattern_letters.proofs.Entries.{set-room}
 use Rattle.state_rules.specs.Heads.{Led, Plain, give-turn, call-turn, spawn-turn}
 
 -- a rule that is there only where the test passes
@@ -73,10 +74,6 @@ skipped b c x e n = only-no c x (sym e ∙ not-true b n)
 
 pub kept : {A : Type 0} (b c : Bool) (x y : A) → b ≡ c → not b ≡ false → (c ≡ true → x ≡ y) → only c x ≡ y ∷ []
 kept b c x y e n f = let z = sym e ∙ not-false b n in only-yes c x z ∙ ap (λ v. v ∷ []) (f z)
-
--- a set of the first m sets of w words
-pub set-room : (w n m : ℕ) (sets : List ℕ) → n < m → m * w ≤ length sets → Row sets w n
-set-room w n m sets l k = record { room = omega (arith, key-room w n m l) }
 
 -- a head by its tag
 pub tag-head : (t k : ℕ) → t ≡ k → 1 ≤ k → k ≤ 9 → is-head t ≡ true

@@ -38,8 +38,10 @@ use Rattle.system_letters.proofs.Pairs.{next-key, letter-low, start-order, star
 use Rattle.rules.specs.declared.Class.{Class}
 use Rattle.rules.specs.Derived.{Entered}
 use Rattle.rules.proofs.Gather.{gather-same, gather-counted, gather-from, each-range}
-use Rattle.state_rules.specs.Heads.{letter-turn, class-turn, send-turn, takes-letter}
-use Rattle.state_rules.proofs.Heads.{only-same, only-no, only-both, led-send, rising, set-room, skipped, kept, value-from}
+use Rattle.pattern_letters.proofs.Entries.{set-room, some-elim}
+use Rattle.pattern_letters.proofs.Letters.{mail-letter}
+use Rattle.state_rules.specs.Heads.{letter-turn, class-turn, send-turn}
+use Rattle.state_rules.proofs.Heads.{only-same, only-no, only-both, led-send, rising, skipped, kept, value-from}
 
 module _ {ws : List ℕ} {s : Sizes} (h : Ready ws s) where
   abbrev p : Program
@@ -90,15 +92,6 @@ pub pair-kept : (states : ℕ) (ls : List ℕ) (T : ℕ → Bool) (effect : ℕ 
 unfolding letter-turn
 pair-kept states ls T effect to i y l x b same e n u = rw (← same) (kept b _ _ _ e n (λ z. ap (λ k. rule i to (effect k)) (sym u)))
 
--- the letter that a pattern takes, by its tag
-pub pattern-built : (p : Program) (q l x k : ℕ) → x ≡ tag p q → x ≡ 31 → k ≡ num p q → eqb l k ≡ takes-letter p q l
-unfolding takes-letter
-pattern-built p q l x k same e u = rw (eq-eqb (tag p q) 31 (sym same ∙ e), takes-letter, u)
-
-pub pattern-any : (p : Program) (q l x : ℕ) → x ≡ tag p q → (x ≡ 31 → ⊥) → true ≡ takes-letter p q l
-unfolding takes-letter
-pattern-any p q l x same ne = rw (ne-eqb (tag p q) 31 (λ z. ne (same ∙ z)), takes-letter)
-
 implies-elim : (a b : Bool) → implies a b ≡ true → a ≡ true → b ≡ true
 unfolding implies
 implies-elim true b e f = e
@@ -109,26 +102,6 @@ module _ {ws : List ℕ} {s : Sizes} (h : Ready ws s) where
   each-elim : (c : Columns) (a j : ℕ) (f : ℕ → Bool) → each c a f ≡ true → j < c .size → left c j ≡ a → f (right c j) ≡ true
   unfolding each
   each-elim c a j f e l same = implies-elim (eqb (left c j) a) (f (right c j)) (all-elim 0 (c .size) j _ e (omega arith) l) (eq-eqb (left c j) a same)
-
-  some-elim : (c : Columns) (a : ℕ) (f : ℕ → Bool) → some-of c a f ≡ true → (j : ℕ) × (j < c .size) × (left c j ≡ a) × (f (right c j) ≡ true)
-  unfolding some-of
-  some-elim c a f e =
-      let (j, w, z) = any-elim 0 (c .size) _ e in
-      (j, w .1, eqb-true (left c j) a (and-left (eqb (left c j) a) (f (right c j)) z), and-right (eqb (left c j) a) (f (right c j)) z)
-
-  some-intro : (c : Columns) (a j : ℕ) (f : ℕ → Bool) → j < c .size → left c j ≡ a → f (right c j) ≡ true → some-of c a f ≡ true
-  unfolding some-of
-  some-intro c a j f l same e = any-intro 0 (c .size) j _ (omega arith) l (and-intro (eqb (left c j) a) (f (right c j)) (eq-eqb (left c j) a same) e)
-
-  mail-letter : (c j l : ℕ) → j < t h .mail .size → left (t h .mail) j ≡ c → row-letter (p h) (right (t h .mail) j) ≡ l → has-letter (p h) (t h) (letter-key (p h) c l) ≡ true
-  unfolding has-letter
-  mail-letter c j l b e f = any-intro 0 (t h .mail .size) j _ (omega arith) b (eq-eqb (letter-key (p h) (left (t h .mail) j) (row-letter (p h) (right (t h .mail) j))) (letter-key (p h) c l) (rw (e, f)))
-
-  letter-mail : (c l : ℕ) → l < letters (p h) → has-letter (p h) (t h) (letter-key (p h) c l) ≡ true → (j : ℕ) × (j < t h .mail .size) × (left (t h .mail) j ≡ c) × (row-letter (p h) (right (t h .mail) j) ≡ l)
-  letter-mail c l b e =
-      let (j, m, z) = letter-entry (p h) (t h) (letter-key (p h) c l) e in
-      let (u, v) = letter-key-injective (p h) (left (t h .mail) j) (row-letter (p h) (right (t h .mail) j)) c l (letter-low h (right (t h .mail) j)) b z in
-      (j, m, u, v)
 
   -- "mail (d, v)": the letters of a message are letters of each class that the target may be
   pub send-there : (c r j l : ℕ) → state-closed (p h) (t h) (state c r) ≡ true → tag (p h) r ≡ 5 → j < t h .flow .size → left (t h .flow) j ≡ num (p h) (r + 1) → is-class (p h) (right (t h .flow) j) ≡ true → letter-of-some (p h) (t h .flow) (num (p h) (r + 2)) (λ v. true) l ≡ true → has-letter (p h) (t h) (letter-key (p h) (right (t h .flow) j) l) ≡ true
@@ -142,7 +115,7 @@ module _ {ws : List ℕ} {s : Sizes} (h : Ready ws s) where
       let (k, w, z) = any-elim 0 (t h .mail .size) _ three in
       let x = eqb-true (left (t h .mail) k) (right (t h .flow) j) (and-left (eqb (left (t h .mail) k) (right (t h .flow) j)) _ z) in
       let y = eqb-true (right (t h .mail) k) (right (t h .flow) i) (and-right (eqb (left (t h .mail) k) (right (t h .flow) j)) _ z) in
-      mail-letter (right (t h .flow) j) k l (w .1) x (ap (row-letter (p h)) y ∙ eqb-true (row-letter (p h) (right (t h .flow) i)) l (and-left (eqb (row-letter (p h) (right (t h .flow) i)) l) true v))
+      mail-letter h (right (t h .flow) j) k l (w .1) x (ap (row-letter (p h)) y ∙ eqb-true (row-letter (p h) (right (t h .flow) i)) l (and-left (eqb (row-letter (p h) (right (t h .flow) i)) l) true v))
 
   class-rows : (d : ℕ) → is-class (p h) d ≡ true → d ≤ size (p h)
   class-rows d e = class-at-most (p h) (λ r u. tag-inside ws s r (omega arith)) d e
@@ -173,50 +146,6 @@ module _ {ws : List ℕ} {s : Sizes} (h : Ready ws s) where
       rw (head-send (p h) r (rw e), state-rules, x, y, z, u, v)
       (gather-same (range-from (t h .flow) a′) (range-to (t h .flow) a′) _ _ (λ j b c. send-turned names starts ls n g r a′ m′ next′ k i e closed refl refl (omega arith) j b c) ∙
       sym (each-range (t h .flow) a′ (λ f. elim (is-class (p h) f) [ true ↦ from-letters (p h) (letter-of-some (p h) (t h .flow) m′ (λ v. true)) (λ l. rule i next′ (puts (letter-index (p h) (t h) f l))) | false ↦ [] ]) (rising h)))
-
-  -- the letters that a pattern takes are those of the values that it may match
-  module _ (c q : ℕ) (some : some-of (t h .mail) c (may-take (p h) (t h) q) ≡ true) where
-    built-letter : (v : ℕ) → tag (p h) q ≡ 31 → may-take (p h) (t h) q v ≡ true → row-letter (p h) v ≡ num (p h) q
-    unfolding may-take may-match same-constructor row-letter row-shape letter
-    built-letter v e f =
-        let same = and-left (eqb (tag (p h) v) 2 && eqb (num (p h) (v + 1)) (num (p h) q)) _ (rw (eq-eqb (tag (p h) q) 31 e, may-match) at f) in
-        let two = and-left (eqb (tag (p h) v) 2) (eqb (num (p h) (v + 1)) (num (p h) q)) same in
-        rw (two, row-shape) (eqb-true (num (p h) (v + 1)) (num (p h) q) (and-right (eqb (tag (p h) v) 2) (eqb (num (p h) (v + 1)) (num (p h) q)) same))
-
-    any-may : (v : ℕ) → (tag (p h) q ≡ 31 → ⊥) → may-take (p h) (t h) q v ≡ true
-    unfolding may-take may-match
-    any-may v ne = rw (ne-eqb (tag (p h) q) 31 ne, may-match)
-
-    pub taken-letter : (l : ℕ) → l < letters (p h) → has-letter (p h) (t h) (letter-key (p h) c l) ≡ true → letter-of-some (p h) (t h .mail) c (may-take (p h) (t h) q) l ≡ takes-letter (p h) q l
-    unfolding letter-of-some
-    taken-letter l low there = elim (ℕ-discrete (tag (p h) q) 31) [
-      | yes e ↦
-          let (j, b, u, v) = some-elim (t h .mail) c _ some in
-          let k = built-letter (right (t h .mail) j) e v in
-          both _ _
-          (λ z. let (i, m, x, y) = some-elim (t h .mail) c _ z in
-          let w = built-letter (right (t h .mail) i) e (and-right (eqb (row-letter (p h) (right (t h .mail) i)) l) _ y) in
-          let o = eqb-true (row-letter (p h) (right (t h .mail) i)) l (and-left (eqb (row-letter (p h) (right (t h .mail) i)) l) _ y) in
-          sym (pattern-built (p h) q l (tag (p h) q) (num (p h) q) refl e refl) ∙ eq-eqb l (num (p h) q) (omega arith))
-          (λ z. let o = eqb-true l (num (p h) q) (pattern-built (p h) q l (tag (p h) q) (num (p h) q) refl e refl ∙ z) in
-          some-intro (t h .mail) c j _ b u (and-intro (eqb (row-letter (p h) (right (t h .mail) j)) l) _ (eq-eqb _ l (omega arith)) v))
-      | no ne ↦
-          let (j, b, u, v) = letter-mail c l low there in
-          some-intro (t h .mail) c j _ b u (and-intro (eqb (row-letter (p h) (right (t h .mail) j)) l) _ (eq-eqb _ l v) (any-may (right (t h .mail) j) ne)) ∙
-          pattern-any (p h) q l (tag (p h) q) refl ne
-    ]
-
-  pub taken-there : (c q l : ℕ) → letter-of-some (p h) (t h .mail) c (may-take (p h) (t h) q) l ≡ true → has-letter (p h) (t h) (letter-key (p h) c l) ≡ true
-  unfolding letter-of-some
-  taken-there c q l e =
-      let (j, b, u, v) = some-elim (t h .mail) c _ e in
-      mail-letter c j l b u (eqb-true (row-letter (p h) (right (t h .mail) j)) l (and-left (eqb (row-letter (p h) (right (t h .mail) j)) l) _ v))
-
-  pub taken-some : (c q l : ℕ) → letter-of-some (p h) (t h .mail) c (may-take (p h) (t h) q) l ≡ true → some-of (t h .mail) c (may-take (p h) (t h) q) ≡ true
-  unfolding letter-of-some
-  taken-some c q l e =
-      let (j, b, u, v) = some-elim (t h .mail) c _ e in
-      some-intro (t h .mail) c j _ b u (and-right (eqb (row-letter (p h) (right (t h .mail) j)) l) _ v)
 
   -- later entries of a name have later classes
   pub later-value : (starts ls : List ℕ) → Class-letters (p h) (t h) starts ls → (a j : ℕ) → range-from (t h .flow) a ≤ j → j + 1 < range-to (t h .flow) a → (getD starts (right (t h .flow) j + 1) 0 ≤ getD starts (right (t h .flow) (j + 1)) 0) × (getD starts (right (t h .flow) j) 0 ≤ getD starts (right (t h .flow) (j + 1)) 0)

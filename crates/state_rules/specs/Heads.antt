@@ -16,6 +16,7 @@ use Rattle.model.specs.Tables.{Tables, state, state-index}
 use Rattle.model.specs.Closed.{returns-to}
 use Rattle.model.specs.Rules.{Effect, quiet, reads, puts, starts, Rule, rule}
 use Rattle.positions.specs.Positions.{branch-row}
+use Rattle.pattern_letters.specs.Takes.{takes-letter}
 
 -- the head at row r has a rest: it is no give back, case or receive
 pub record Led (p : Program) (r : ℕ) : Type 0 where
@@ -67,16 +68,12 @@ send-turn p t names letter-at letters m to i j =
 unfoldable pub case-turn : Program → List ℕ → ℕ → ℕ → ℕ → ℕ → List Rule
 case-turn p at bits q i b = only (bit bits b) (rule i (getD at (branch-body p (branch-row p q b)) 0) quiet)
 
--- "A constructor pattern" takes one letter, its constructor's; any other pattern takes every letter
-unfoldable pub takes-letter : Program → ℕ → ℕ → Bool
-takes-letter p q l = elim (eqb (tag p q) 31) [ true ↦ eqb l (num p q) | false ↦ true ]
-
 -- branch b of a receive of class c whose branches stand from row q
 unfoldable pub receive-turn : Program → Tables → List ℕ → List ℕ → List ℕ → ℕ → ℕ → ℕ → ℕ → ℕ → List Rule
 receive-turn p t at letter-at letters c bits q i b =
     elim (bit bits b) [
       | true ↦
-          class-turn (t .states .size) letter-at letters (takes-letter p (branch-row p q b)) reads
+          class-turn (t .states .size) letter-at letters (takes-letter p t c (branch-row p q b)) reads
           (getD at (branch-body p (branch-row p q b)) 0) c i
       | false ↦ []
     ]

@@ -7,10 +7,10 @@ use model::Sizes;
 use model::TAG_CALL;
 use model::TAG_CASE;
 use model::TAG_GIVE;
-use model::TAG_PATTERN_CONSTRUCTOR;
 use model::TAG_RECEIVE;
 use model::TAG_SEND;
 use model::TAG_SPAWN;
+use pattern_letters::takes_letter;
 use positions::body;
 use positions::branch_body;
 use positions::is_class;
@@ -45,7 +45,8 @@ ghost use Rattle.rules.specs.Derived.{Entered, Rule-room, Rule-tables};
 ghost use Rattle.lists.specs.Lists.{Starts};
 ghost use Rattle.system_letters.specs.Letters.{Name-letters, Class-letters};
 ghost use Rattle.lists.specs.Ready.{Ready};
-ghost use Rattle.state_rules.specs.Heads.{Led, Plain, Pair-room, class-turn, takes-letter};
+ghost use Rattle.state_rules.specs.Heads.{Led, Plain, Pair-room, class-turn};
+ghost use Rattle.pattern_letters.specs.Takes.{takes-letter};
 
 // Does giving back from the function f lead to state j, of its class?
 fn returns_to(ws: &[u16], s: Sizes, w: usize, flows: &[u64], f: usize, j: usize) -> bool
@@ -359,22 +360,13 @@ fn case_rules(
     n
 }
 
-// Does the pattern at row q take the letter l?
-fn takes_letter(ws: &[u16], s: Sizes, q: usize, l: usize) -> bool
-    requires { ⌜ Whole (now ws) s ⌝ }
-    ensures { λ b. ⌜ b ≡ takes-letter (program (now (ws .entry)) s) q l ⌝ }
-{
-    if tag(ws, s, q) == TAG_PATTERN_CONSTRUCTOR {
-        l == num(ws, s, q)
-    } else {
-        true
-    }
-}
-
 // The letters of class d that the pattern at row q takes; n rules stand in the lists.
 fn take_letters(
     ws: &[u16],
     s: Sizes,
+    w: usize,
+    flows: &[u64],
+    names: &[u64],
     letter_at: &[u16],
     letters: &[u16],
     q: usize,
@@ -388,9 +380,11 @@ fn take_letters(
     requires { ⌜ Class-letters (program (now ws) s) (tables (now ws) s) (now «letter_at») (now letters) ⌝ }
     requires { ⌜ d ≤ s .rows ⌝ }
     requires { ⌜ Pair-room (now «letter_at») (now tos) (now others) n d ⌝ }
+    requires { ⌜ (w ≡ width (s .rows)) × Flow-sets (program (now ws) s) (tables (now ws) s) (now flows) ⌝ }
+    requires { ⌜ Name-letters (program (now ws) s) (tables (now ws) s) (now names) ⌝ }
     ensures { λ e. ⌜ Added receive (now (tos .entry)) (now (others .entry)) n (now (tos .exit)) (now (others .exit)) e
         (class-turn (s .states) (now («letter_at» .entry)) (now (letters .entry))
-        (takes-letter (program (now (ws .entry)) s) q) reads next d) ⌝ }
+        (takes-letter (program (now (ws .entry)) s) (tables (now (ws .entry)) s) d q) reads next d) ⌝ }
     ensures { λ e. ⌜ e + getD (now («letter_at» .entry)) d 0 ≤ n + getD (now («letter_at» .entry)) (d + 1) 0 ⌝ }
 {
     let from = word(letter_at, d);
@@ -398,7 +392,7 @@ fn take_letters(
     let mut e = n;
     for y in from..to {
         let l = word(letters, y);
-        if !takes_letter(ws, s, q, l) {
+        if !takes_letter(ws, s, w, flows, names, d, q, l) {
             continue;
         }
         let x = s.states + y;
@@ -414,6 +408,9 @@ fn receive_rules(
     ws: &[u16],
     s: Sizes,
     afters: &[u16],
+    w: usize,
+    flows: &[u64],
+    names: &[u64],
     letter_at: &[u16],
     letters: &[u16],
     branches: &[u16],
@@ -433,6 +430,8 @@ fn receive_rules(
     requires { ⌜ (i < s .states) × (r ≡ right (tables (now ws) s .states) i) ×
         (k .number ≡ left (tables (now ws) s .states) i) ⌝ }
     requires { ⌜ Rule-room s (now tos) (now others) ⌝ }
+    requires { ⌜ (w ≡ width (s .rows)) × Flow-sets (program (now ws) s) (tables (now ws) s) (now flows) ⌝ }
+    requires { ⌜ Name-letters (program (now ws) s) (tables (now ws) s) (now names) ⌝ }
     ensures { λ n. ⌜ Added receive (now (tos .entry)) (now (others .entry)) 0 (now (tos .exit)) (now (others .exit)) n
         (λ e. state-rules (program (now (ws .entry)) s) (tables (now (ws .entry)) s) e (state (k .number) r)) ⌝ }
 {
@@ -450,6 +449,9 @@ fn receive_rules(
         n = take_letters(
             ws,
             s,
+            w,
+            flows,
+            names,
             letter_at,
             letters,
             row,
@@ -514,6 +516,9 @@ pub fn state_rules(
             ws,
             s,
             afters,
+            w,
+            flows,
+            names,
             letter_at,
             letters,
             branches,

@@ -162,7 +162,7 @@ fn structured(rng: &mut Rng, m: &mut Message, station: &Station) {
 }
 
 fn row(rng: &mut Rng, m: &mut Message) {
-    const TAGS: [u16; 20] = [1, 2, 3, 4, 5, 6, 7, 8, 9, 10, 11, 20, 21, 22, 23, 24, 25, 30, 31, 32];
+    const TAGS: [u16; 21] = [1, 2, 3, 4, 5, 6, 7, 8, 9, 10, 11, 20, 21, 22, 23, 24, 25, 30, 31, 32, 33];
     let i = rng.below(m.program.len());
     match rng.below(6) {
         0..=1 => m.program.first[i] = TAGS[rng.below(TAGS.len())],
@@ -173,7 +173,7 @@ fn row(rng: &mut Rng, m: &mut Message) {
 
 /// A row with a count or a number that stands at its limit, or just past it.
 fn row_limit(rng: &mut Rng, m: &mut Message) {
-    let rows = rows_with(m, &[9, 10, 22, 25, 20, 31, 1, 21]);
+    let rows = rows_with(m, &[9, 10, 22, 25, 20, 31, 1, 21, 33]);
     let Some(&i) = rng.pick(&rows) else { return };
     let most = match m.program.first[i] {
         9 | 25 => 16,
@@ -186,7 +186,7 @@ fn row_limit(rng: &mut Rng, m: &mut Message) {
 
 /// Some rows at random.
 fn soup(rng: &mut Rng, m: &mut Message) {
-    const TAGS: [u16; 21] = [1, 1, 2, 3, 4, 5, 6, 7, 8, 9, 10, 11, 20, 21, 21, 22, 23, 25, 30, 31, 32];
+    const TAGS: [u16; 22] = [1, 1, 2, 3, 4, 5, 6, 7, 8, 9, 10, 11, 20, 21, 21, 22, 23, 25, 30, 31, 32, 33];
     let begin = rng.below(m.program.len());
     for i in begin..(begin + rng.range(1, 12)).min(m.program.len()) {
         m.program.first[i] = TAGS[rng.below(TAGS.len())];
@@ -196,7 +196,7 @@ fn soup(rng: &mut Rng, m: &mut Message) {
 
 /// A pattern put into constructors of one argument, perhaps too deep.
 fn deepen(rng: &mut Rng, m: &mut Message) {
-    let rows = rows_with(m, &[30, 31, 32]);
+    let rows = rows_with(m, &[30, 31, 32, 33]);
     let of_one: Vec<usize> =
         (0..m.constructors.min(m.program.len())).filter(|&c| m.program.pair(c) == (10, 1)).collect();
     let (Some(&i), Some(&constructor)) = (rng.pick(&rows), rng.pick(&of_one)) else { return };
@@ -245,10 +245,20 @@ fn binder(rng: &mut Rng, m: &mut Message) {
 
 /// A reading row reads another name.
 fn read(rng: &mut Rng, m: &mut Message) {
-    let rows = rows_with(m, &[1, 8, 21]);
+    let tags: &[u16] = if rng.chance(1, 3) { &[33] } else { &[1, 8, 21] };
+    let rows = rows_with(m, tags);
     if let Some(&i) = rng.pick(&rows) {
-        m.program.second[i] = rng.below(m.names) as u16;
+        m.program.second[i] = match rng.chance(1, 3) {
+            true => nearest_binder(m, i),
+            false => rng.below(m.names) as u16,
+        };
     }
+}
+
+/// The name that a pattern's row binds nearest to this row, before it or behind it.
+fn nearest_binder(m: &Message, row: usize) -> u16 {
+    let binders = rows_with(m, &[30]);
+    binders.iter().min_by_key(|binder| binder.abs_diff(row)).map_or(0, |&binder| m.program.second[binder])
 }
 
 fn bad(rng: &mut Rng, m: &mut Message) {

@@ -35,6 +35,8 @@ struct Maker<'r> {
     rows: Vec<(usize, Operand)>,
     binders: usize,
     scope: Vec<(Binder, Kind)>,
+    /// Names in scope at the case or receive whose pattern is made.
+    outside: usize,
     /// Names that some row so far builds, with the constructor.
     built: Vec<(Binder, usize)>,
 }
@@ -55,7 +57,8 @@ fn attempt(rng: &mut Rng, size: usize) -> Rows {
     let functions = if rng.chance(1, 30) { rng.range(0, 64.min(size / 8)) } else { rng.range(0, 4.min(size / 8)) };
     let arities =
         (0..constructors).map(|_| if rng.chance(1, 20) { rng.range(0, 8) } else { rng.range(0, 3) }).collect();
-    let mut maker = Maker { rng, arities, rows: Vec::new(), binders: 0, scope: Vec::new(), built: Vec::new() };
+    let mut maker =
+        Maker { rng, arities, rows: Vec::new(), binders: 0, scope: Vec::new(), outside: 0, built: Vec::new() };
     maker.whole(size, functions);
     let numbers = maker.numbers();
     let rows = maker.rows.iter().map(|&(tag, operand)| match operand {
@@ -195,6 +198,7 @@ impl Maker<'_> {
         for i in 0..count {
             let outside = self.scope.len();
             let begin = self.rows.len();
+            self.outside = outside;
             match made {
                 Some(constructor) if i == 0 && self.rng.chance(3, 4) => self.pattern_of(1, constructor),
                 _ if i + 1 == count && self.rng.chance(1, 2) => self.row(32, 0),
@@ -218,6 +222,9 @@ impl Maker<'_> {
         let deep = level < limits::DEPTH && !self.arities.is_empty();
         let flat = !self.arities.is_empty() && self.arities.contains(&0);
         let (names, any) = if level == 1 { (3, 7) } else { (4, 6) };
+        if self.rng.chance(1, if level == 1 { 8 } else { 4 }) && self.held_pattern() {
+            return;
+        }
         match self.rng.below(8) {
             n if n < names => {
                 let binder = self.fresh();
@@ -229,6 +236,15 @@ impl Maker<'_> {
             _ if flat => self.constructor_pattern(level, true),
             _ => self.row(32, 0),
         }
+    }
+
+    /// A held name, mostly of an address or a build; false if there is none.
+    fn held_pattern(&mut self) -> bool {
+        let data = |kind: Kind| !matches!(kind, Kind::Function(_)) || self.outside.is_multiple_of(7);
+        let names: Vec<Binder> = self.scope[..self.outside].iter().filter(|(_, k)| data(*k)).map(|&(b, _)| b).collect();
+        let held = self.rng.pick(&names).copied();
+        held.into_iter().for_each(|name| self.named(33, name));
+        held.is_some()
     }
 
     fn constructor_pattern(&mut self, level: usize, flat: bool) {

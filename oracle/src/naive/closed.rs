@@ -38,6 +38,7 @@ impl Pairs {
 pub fn may_match(program: &Program, pairs: &Pairs, pattern: Row, value: usize) -> bool {
     match program.pattern(pattern) {
         Some(Pattern::Name(_) | Pattern::Any) => true,
+        Some(Pattern::Held(name)) => pairs.values(*name).into_iter().any(|held| alike(program, held, value)),
         Some(Pattern::Constructor { constructor, parts }) => match program.build(value) {
             Some((built, args)) if built == *constructor => args
                 .iter()
@@ -49,9 +50,24 @@ pub fn may_match(program: &Program, pairs: &Pairs, pattern: Row, value: usize) -
     }
 }
 
-/// What the names of a pattern want of a value that may match it.
-fn spot_wants(program: &Program, pairs: &Pairs, pattern: Row, value: usize, wants: &mut Vec<Want>) {
-    if !may_match(program, pairs, pattern, value) {
+/// The same class, or both build rows of one constructor.
+fn alike(program: &Program, held: usize, value: usize) -> bool {
+    match (program.build(held), program.build(value)) {
+        (Some((one, _)), Some((other, _))) => one == other,
+        _ => held == value && program.is_class(value),
+    }
+}
+
+/// What the names of a pattern want of a value that may match it; a pattern and a value are looked at once.
+fn spot_wants(
+    program: &Program,
+    pairs: &Pairs,
+    pattern: Row,
+    value: usize,
+    seen: &mut BTreeSet<(Row, usize)>,
+    wants: &mut Vec<Want>,
+) {
+    if !seen.insert((pattern, value)) || !may_match(program, pairs, pattern, value) {
         return;
     }
     match (program.pattern(pattern), program.build(value)) {
@@ -59,7 +75,7 @@ fn spot_wants(program: &Program, pairs: &Pairs, pattern: Row, value: usize, want
         (Some(Pattern::Constructor { parts, .. }), Some((_, args))) => {
             for (&arg, &part) in args.iter().zip(parts) {
                 for v in pairs.values(arg) {
-                    spot_wants(program, pairs, part, v, wants);
+                    spot_wants(program, pairs, part, v, seen, wants);
                 }
             }
         }
@@ -158,10 +174,11 @@ fn branch_wants(
     class: usize,
     wants: &mut Vec<Want>,
 ) {
+    let mut seen = BTreeSet::new();
     for &value in values {
         for branch in branches {
             if may_match(program, pairs, branch.pattern, value) {
-                spot_wants(program, pairs, branch.pattern, value, wants);
+                spot_wants(program, pairs, branch.pattern, value, &mut seen, wants);
                 wants.push(Want::State { class, head: branch.body });
             }
         }

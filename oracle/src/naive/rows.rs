@@ -98,6 +98,13 @@ impl Walk<'_> {
         name < self.m.names
     }
 
+    /// A read that must be seen outside of the branch that was opened last, at its case or receive.
+    fn reads_outside(&mut self, row: usize, name: usize) -> bool {
+        let outside = self.opened.last().copied().unwrap_or(0);
+        self.read.push((row, name, self.seen[..outside].contains(&name)));
+        name < self.m.names
+    }
+
     fn takes(&mut self, next: Coming, row: usize, tag: usize, number: usize) -> bool {
         use Coming::*;
         match (next, tag) {
@@ -153,6 +160,7 @@ impl Walk<'_> {
                 arity.is_some()
             }
             32 => number == 0,
+            33 => self.reads_outside(row, number),
             _ => false,
         };
         right && level <= 4

@@ -4,6 +4,7 @@ pub mod bounds;
 pub mod finish;
 pub mod flow;
 pub mod growth;
+pub mod held;
 pub mod honest;
 pub mod long;
 pub mod rows;
@@ -27,7 +28,10 @@ fn sample(name: &str, about: &'static str, verdict: u32, message: Result<Vec<u8>
 
 /// Messages that make each check work hard.
 pub fn hostile() -> Result<Vec<Sample>, String> {
-    Ok([rows::hostile()?, flow::hostile()?, sends::hostile()?, long::hostile()?].into_iter().flatten().collect())
+    Ok([rows::hostile()?, flow::hostile()?, held::hostile()?, sends::hostile()?, long::hostile()?]
+        .into_iter()
+        .flatten()
+        .collect())
 }
 
 /// Rows, flow, mail, states, ceilings and ceiling entries of a message; zeros if it is not whole.

@@ -35,6 +35,8 @@ pub type Body = Vec<Step>;
 pub enum Pattern {
     Any,
     Name(String),
+    /// `^` and a name: a value equal to the one held.
+    Held(String),
     Constructor(String, Vec<Pattern>),
 }
 

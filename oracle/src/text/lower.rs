@@ -343,6 +343,7 @@ impl<'a> Lower<'a> {
         match pattern {
             Pattern::Any => self.row(32, 0),
             Pattern::Name(name) => self.pattern_name(branch, name, outside)?,
+            Pattern::Held(name) => self.held_name(branch, name, outside)?,
             Pattern::Constructor(name, parts) => {
                 let (constructor, arity) = self.constructors.get(name.as_str()).copied().unwrap_or((0, usize::MAX));
                 if arity != parts.len() {
@@ -362,13 +363,24 @@ impl<'a> Lower<'a> {
             return Err(format!("line {}: {name} twice in one pattern; each would bind afresh", branch.line));
         }
         if self.in_scope(name).is_some() {
-            let warning =
-                format!("line {}: {name} binds afresh here, it is not compared with {name} above", branch.line);
+            let warning = format!(
+                "line {}: {name} binds afresh here, it is not compared with {name} above (that is ^{name})",
+                branch.line
+            );
             self.warnings.push(warning);
         }
         let binder = self.fresh(Some(name));
         self.named_row(30, binder);
         self.visible(name, binder);
+        Ok(())
+    }
+
+    /// A name that is in scope at the case or receive, where names of the pattern are not.
+    fn held_name(&mut self, branch: &Branch, name: &str, outside: usize) -> Lowering<()> {
+        let held = self.scope[..outside].iter().rev().find(|(word, _)| word == name).map(|&(_, binder)| binder);
+        let binder = held.or_else(|| self.functions.get(name).copied());
+        let unknown = || format!("line {}: {name} is not known before this case or receive", branch.line);
+        self.named_row(33, binder.ok_or_else(unknown)?);
         Ok(())
     }
 

@@ -312,6 +312,10 @@ impl Parser {
                 Ok(Pattern::Any)
             }
             Some(Token::Name(_)) => Ok(Pattern::Name(self.name()?)),
+            Some(Token::Sign("^")) => {
+                self.at += 1;
+                Ok(Pattern::Held(self.name_or_word()?))
+            }
             _ => {
                 let constructor = self.fresh_word("a pattern")?;
                 let parts = if self.is_sign("(") { self.in_brackets(Self::pattern)? } else { Vec::new() };

@@ -1,14 +1,15 @@
 -- What a pattern may match, and what its names then hold: the tests say what specs/Wanted.antt says.
-use Prim.Native.Nat.{ℕ, zero, suc}
+use Prim.Native.Nat.{ℕ, zero, suc, _+_}
 use mathlib.Core.Path.{_≡_, refl, sym, _∙_, ap₂}
-use mathlib.Core.Bool.{Bool, true, false}
+use mathlib.Core.Bool.{Bool, true, false, _&&_}
 use mathlib.Core.Logic.{_↔_, Iff·rfl}
 use lib.Dec.{eqb}
 use Rattle.model.specs.Rows.{Program, tag, num, arity}
+use Rattle.model.specs.Heads.{is-class}
 use Rattle.model.specs.Tables.{Tables, has}
-use Rattle.model.specs.Closed.{subpattern, argument, same-constructor, may-match, names-hold}
-use Rattle.model.specs.Wanted.{MayMatch, AtSpot, Entry, flow}
-use Rattle.model.proofs.Exact.Tests.{eqb-iff, and-iff, all-iff}
+use Rattle.model.specs.Closed.{subpattern, argument, same-constructor, may-equal, may-match, names-hold}
+use Rattle.model.specs.Wanted.{MayEqual, MayMatch, AtSpot, Entry, flow}
+use Rattle.model.proofs.Exact.Tests.{eqb-iff, and-iff, or-iff, implies-iff, all-iff}
 use Rattle.model.proofs.Exact.Members.{some-of-iff}
 use Rattle.model.proofs.Exact.Finds.{Finds, finds-map, finds-none, finds-flow, finds-where, finds-all, finds-each}
 
@@ -26,14 +27,21 @@ finds-choice t true x y f g = f
 finds-choice t false x y f g = g
 
 module _ (p : Program) (t : Tables) where
+  -- what a held name may be equal to
+  may-equal-iff : (v w : ℕ) → (may-equal p v w ≡ true) ↔ MayEqual p v w
+  unfolding may-equal
+  may-equal-iff v w =
+      or-iff (is-class p v && eqb v w) _ (and-iff (is-class p v) (eqb v w) Iff·rfl (eqb-iff v w))
+      (and-iff (eqb (tag p w) 2) (same-constructor p (w + 1) v) (eqb-iff (tag p w) 2) Iff·rfl)
+
   pub may-match-iff : (d q v : ℕ) → (may-match p t d q v ≡ true) ↔ MayMatch p t d q v
   unfolding may-match
   may-match-iff zero q v = (λ h. tt, λ h. refl)
   may-match-iff (suc d) q v =
-      choice-iff (eqb (tag p q) 31) _ true
+      choice-iff (eqb (tag p q) 31) _ _
       (and-iff (same-constructor p q v) _ Iff·rfl
       (all-iff (arity p (num p q)) _ (λ i. some-of-iff (t .flow) (argument p v i) (may-match p t d (subpattern p (suc d) q i)) (may-match-iff d (subpattern p (suc d) q i)))))
-      (λ h. tt, λ h. refl)
+      (implies-iff (eqb (tag p q) 33) _ (eqb-iff (tag p q) 33) (some-of-iff (t .flow) (num p q) (may-equal p v) (may-equal-iff v)))
 
   pub finds-names : (d q v : ℕ) → Finds t (names-hold p t d q v) (Held (AtSpot p t d q v))
   unfolding names-hold

@@ -6,8 +6,8 @@ use mathlib.Core.Bool.{Bool, true, false, not, _&&_, _||_}
 use mathlib.Core.Logic.{_↔_, _⊎_, inl, inr, ⊎-elim}
 use lib.Dec.{leb, ltb, eqb}
 use borrow.Author.Tests.{leb-true, le-leb, ltb-true, lt-ltb, eqb-true, eq-eqb, not-true, not-false}
-use Rattle.model.specs.Index.{any, all, first}
-use Rattle.model.proofs.Logic.{true-false, test, not-failing, and-left, and-right, and-intro, or-cases, or-left, or-right, not-fails}
+use Rattle.model.specs.Index.{implies, any, all, first}
+use Rattle.model.proofs.Logic.{true-false, test, not-failing, and-left, and-right, and-intro, or-cases, or-left, or-right, implies-elim, implies-intro, not-fails}
 use Rattle.model.proofs.Index.{all-elim, all-intro, any-elim, any-intro, any-none, first-is, first-below}
 
 pub leb-iff : (a b : ℕ) → (leb a b ≡ true) ↔ (a ≤ b)
@@ -37,6 +37,9 @@ or-iff a b e f = (
   λ h. ⊎-elim (λ x. inl (e .0 x)) (λ x. inr (f .0 x)) (or-cases a b h),
   ⊎-elim (λ x. or-left a b (e .1 x)) (λ x. or-right a b (f .1 x)),
 )
+
+pub implies-iff : (a b : Bool) {A B : Type 0} → (a ≡ true) ↔ A → (b ≡ true) ↔ B → (implies a b ≡ true) ↔ (A → B)
+implies-iff a b e f = (λ h x. f .0 (implies-elim a b h (e .1 x)), λ h. implies-intro a b (λ x. f .1 (h (e .0 x))))
 
 pub all-iff : (n : ℕ) (f : ℕ → Bool) {A : ℕ → Type 0} → ((i : ℕ) → (f i ≡ true) ↔ A i) → (all 0 n f ≡ true) ↔ ((i : ℕ) → i < n → A i)
 all-iff n f e = (

@@ -7,7 +7,7 @@ use mathlib.Core.List.{List, [], _∷_, List·Memᴰ, List·Memᴰ·cases-cons, 
 use mathlib.Core.Logic.{⊎-elim}
 use native.Mathlib.Decide.{ℕ-discrete}
 use Rattle.model.specs.Limits.{maxDepth}
-use Rattle.model.specs.Rows.{Program, tag, num, Item, expression, pattern, branch, branch-items, step}
+use Rattle.model.specs.Rows.{Program, tag, num, is-head, Item, expression, pattern, branch, branch-items, step}
 use Rattle.model.specs.Heads.{cases, receives, head-at, branch-rows, branch-body, is-function}
 use Rattle.model.proofs.Heads.{head-case, head-receive}
 use Rattle.model.proofs.Parse.Spans.{spans-past, spans-range}
@@ -17,7 +17,7 @@ use Rattle.model.proofs.Parse.Heads.{known-kind, known-tag}
 use Rattle.model.proofs.Parse.Locations.{Location, location-follows}
 use Rattle.model.proofs.Parse.Functions.{Enclosed, stands-enclosed, enclosed-append}
 
--- the branches of the head at row r stand from row `from` up to row e; no function's row is before them
+-- the branches of the head at row r stand from row `from` up to row e; no function's row is before them, and no head's
 pub record Branches (p : Program) (r : ℕ) (qs : List ℕ) (below : List Item) (e : ℕ) : Type 0 where
   pub count : ℕ
   pub from : ℕ
@@ -25,6 +25,7 @@ pub record Branches (p : Program) (r : ℕ) (qs : List ℕ) (below : List Item) 
   pub stands : Stands p (branch-items count) below from e
   pub behind : r < from
   pub no-function : (f : ℕ) → r ≤ f → f < from → is-function p f ≡ false
+  pub no-head : (f : ℕ) → r < f → f < from → is-head (tag p f) ≡ false
 
 -- the branch whose pattern stands at row q, among branches that stand from row s up to row e
 pub record Branch (p : Program) (s q e : ℕ) : Type 0 where
@@ -93,7 +94,7 @@ module _ {p : Program} where
 
   -- the branches of a case, and of a receive
   pub case-branches : {r n : ℕ} {qs : List ℕ} (l : Location p r) → head-at p r ≡ cases n qs → Branches p r qs (l .below) (l .end)
-  unfolding is-function step
+  unfolding is-function is-head step
   case-branches {r} {n} {qs} l h =
       let k = known-kind p r (cases n qs) h in
       let t : tag p r ≡ 8 = known-tag p r (cases n qs) h (omega arith) in
@@ -110,6 +111,7 @@ module _ {p : Program} where
         stands = rw (← same, two) at others;
         behind = omega arith;
         no-function = λ f lo hi. elim (ℕ-discrete f r) [ yes z ↦ ap (is-function p) z ∙ a | no z ↦ ap (is-function p) (only-next lo z hi) ∙ b ];
+        no-head = λ f lo hi. let z : f ≡ r + 1 = omega arith in ap (λ x. is-head (tag p x)) z ∙ ap is-head t′;
       }
 
   pub receive-branches : {r : ℕ} {qs : List ℕ} (l : Location p r) → head-at p r ≡ receives qs → Branches p r qs (l .below) (l .end)
@@ -126,4 +128,5 @@ module _ {p : Program} where
         stands = rw k at (location-follows l);
         behind = omega arith;
         no-function = λ f lo hi. let z : f ≡ r = omega arith in ap (is-function p) z ∙ a;
+        no-head = λ f lo hi. absurd (omega arith);
       }

@@ -2,7 +2,7 @@
 use Prim.Native.Nat.{ℕ, _-_, _≤_}
 use native.Mathlib.Omega.{arith}
 use mathlib.Core.Path.{_≡_, refl}
-use mathlib.Core.Bool.{Bool, true, false, _&&_}
+use mathlib.Core.Bool.{Bool, true, false, _&&_, _||_}
 use mathlib.Core.List.{List, [], _∷_, _++_}
 use mathlib.Core.Logic.{_⊎_, inl, inr, ⊎-elim}
 use mathlib.Core.Option.{some, Option·none-ne-some}
@@ -73,21 +73,24 @@ module _ (p : Program) where
       let (passes, same) = fits-some _ _ more (rw (e, pattern-step) at h) in
       (leb-true 1 d (and-left (leb 1 d) _ passes), same)
 
-  pub pattern-leaf : (d t n : ℕ) (more : List Item) → eqb t 31 ≡ false → step p (pattern d) t n ≡ some more → (1 ≤ d) × ((t ≡ 30) ⊎ (t ≡ 32)) × ([] ≡ more)
+  pub pattern-leaf : (d t n : ℕ) (more : List Item) → eqb t 31 ≡ false → step p (pattern d) t n ≡ some more → (1 ≤ d) × ((t ≡ 30) ⊎ ((t ≡ 32) ⊎ ((t ≡ 33) × (is-name p n ≡ true)))) × ([] ≡ more)
   unfolding step pattern-step
   pattern-leaf d t n more e h =
       let (passes, same) = fits-some _ _ more (rw (e, pattern-step) at h) in
       let leaf = and-right (leb 1 d) _ passes in (
         leb-true 1 d (and-left (leb 1 d) _ passes),
-        ⊎-elim (λ a. inl (eqb-true t 30 (and-left (eqb t 30) (is-name p n) a))) (λ b. inr (eqb-true t 32 (and-left (eqb t 32) (eqb n 0) b)))
-            (or-cases (eqb t 30 && is-name p n) (eqb t 32 && eqb n 0) leaf),
+        ⊎-elim (λ a. inl (eqb-true t 30 (and-left (eqb t 30) (is-name p n) a)))
+            (λ a. inr (⊎-elim (λ b. inl (eqb-true t 32 (and-left (eqb t 32) (eqb n 0) b)))
+            (λ b. inr (eqb-true t 33 (and-left (eqb t 33) (is-name p n) b), and-right (eqb t 33) (is-name p n) b))
+            (or-cases (eqb t 32 && eqb n 0) (eqb t 33 && is-name p n) a)))
+            (or-cases (eqb t 30 && is-name p n) (eqb t 32 && eqb n 0 || eqb t 33 && is-name p n) leaf),
         same,
       )
 
   pattern-tag : (d t n : ℕ) (more : List Item) → step p (pattern d) t n ≡ some more → 30 ≤ t
   pattern-tag d t n more h =
       test (eqb t 31) (λ e. let z = eqb-true t 31 e in omega arith)
-      (λ e. ⊎-elim (λ z. omega arith) (λ z. omega arith) (pattern-leaf d t n more e h .1))
+      (λ e. ⊎-elim (λ z. omega arith) (⊎-elim (λ z. omega arith) (λ z. omega arith)) (pattern-leaf d t n more e h .1))
 
   -- a row with a tag from 1 to 9 is taken by an expression, one with tag 11 by a function
   pub head-or-global : (item : Item) (t n : ℕ) (more : List Item) → step p item t n ≡ some more → 1 ≤ t → t ≤ 11 → (t ≡ 10 → ⊥) → ((item ≡ expression) × (t ≤ 9)) ⊎ ((item ≡ global) × (t ≡ 11))

@@ -15,12 +15,13 @@ use Rattle.model.proofs.Parse.Reached.{Rows-fit}
 use Rattle.model.proofs.Parse.Branches.{Branches, branch-in, branch-location}
 use Rattle.model.proofs.Parse.Lengths.{Columns-whole}
 use Rattle.model.proofs.Parse.Innermost.{innermost-branch}
+use Rattle.model.proofs.Steps.Letters.{Classes}
 use Rattle.model.proofs.Matched.{match-may, match-held}
 use Rattle.model.proofs.Invariant.{Mailed, Good, frames-moved}
 
-module _ (p : Program) (t : Tables) (fit : Rows-fit p) (w : Columns-whole p) (closed : Closed p t) (classes : List ℕ) (q : Process) (g : Good p t classes q) (bs : List ℕ) (at : Branches p (q .location) bs (g .location .below) (g .location .end)) (b : ℕ) (listed : List·Memᴰ b bs) (v : Value) (covered : Covered p t classes v) (held : Bindings) (m : match p (q .held) b v ≡ some held) where
+module _ (p : Program) (t : Tables) (fit : Rows-fit p) (w : Columns-whole p) (closed : Closed p t) (classes : List ℕ) (classed : Classes p classes) (q : Process) (g : Good p t classes q) (bs : List ℕ) (at : Branches p (q .location) bs (g .location .below) (g .location .end)) (b : ℕ) (listed : List·Memᴰ b bs) (v : Value) (covered : Covered p t classes v) (held : Bindings) (m : match p (q .held) b v ≡ some held) where
   pub branch-may : MayMatch p t maxDepth b (row-for classes v)
-  branch-may = match-may fit w t classes v (q .held) held (branch-in at listed .pattern-stands .spans) covered m
+  branch-may = match-may fit w t classes closed classed (q .held) (g .held) v held (branch-in at listed .pattern-stands .spans) covered m
 
   pub branch-good : (vs : List Value) → MayTake p t (q .class) (q .location) b (row-for classes v) → Mailed p t classes (q .class) vs → Good p t classes (process (q .class) (branch-body p b) held (q .frames) vs)
   branch-good vs take mailed =
@@ -30,7 +31,7 @@ module _ (p : Program) (t : Tables) (fit : Rows-fit p) (w : Columns-whole p) (cl
         location = branch-location (branch-in at listed);
         class = g .class;
         present = closed (state c (branch-body p b)) (by-state (g .present) (branch-state b (row-for classes v) take));
-        held = match-held fit w t classes v (q .held) held (branch-in at listed .pattern-stands .spans) covered m (g .held)
+        held = match-held fit w t classes closed classed (q .held) (g .held) v held (branch-in at listed .pattern-stands .spans) covered m
             (λ n u spot. closed (flow n u) (by-state (g .present) (branch-name b (row-for classes v) n u take spot)));
         frames = frames-moved p t classes c r (branch-body p b) (q .frames) (innermost-branch p fit (g .location) at listed) (g .frames);
         mailbox = mailed;

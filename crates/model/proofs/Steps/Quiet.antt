@@ -32,6 +32,7 @@ use Rattle.model.proofs.Parse.Branches.{case-branches}
 use Rattle.model.proofs.Parse.Lengths.{Columns-whole, function-within}
 use Rattle.model.proofs.Parse.Innermost.{innermost-rest, innermost-body}
 use Rattle.model.proofs.Counting.Receives.{Chosen, chosen}
+use Rattle.model.proofs.Steps.Letters.{Classes}
 use Rattle.model.proofs.Steps.Branch.{branch-may, branch-good}
 use Rattle.model.proofs.Invariant.{Frames, Good, frames-moved}
 use Rattle.model.proofs.RuleAt.{moving, rule-build, rule-function, rule-self, rule-call, rule-give, rule-case}
@@ -223,31 +224,31 @@ module _ (p : Program) (t : Tables) (fit : Rows-fit p) (w : Columns-whole p) (cl
         (sym (ap (λ (x : Process). set qs i x) (Option·some-injective _ (d .value) (subst (λ (l : List Frame). give-back p q (b .value) l ≡ some (d .value)) e (d .given))) ∙ Option·some-injective (set qs i (d .value)) qs′ (d .then))))
 
     -- a branch of a case, which may take the value
-    taken : kind (tag p (q .location)) ≡ case → (v : Value) (x : Taken) → value-of p (q .held) (num p (q .location)) ≡ some v → Chosen p (q .held) (branch-rows p (num p (q .location + 1)) (q .location + 2)) v x → qs′ ≡ set qs i (moved q (x .location) (x .held)) → Quietly p t classes qs i q qs′
+    taken : Classes p classes → kind (tag p (q .location)) ≡ case → (v : Value) (x : Taken) → value-of p (q .held) (num p (q .location)) ≡ some v → Chosen p (q .held) (branch-rows p (num p (q .location + 1)) (q .location + 2)) v x → qs′ ≡ set qs i (moved q (x .location) (x .held)) → Quietly p t classes qs i q qs′
     unfolding moved
-    taken k v x given ch e =
+    taken classed k v x given ch e =
         let c : ℕ = q .class in
         let r : ℕ = q .location in
         let n : ℕ = num p r in
         let bs : List ℕ = branch-rows p (num p (r + 1)) (r + 2) in
         let (value, covered) = value-held p t closed classes (q .held) n v (g .held) given in
         let at = case-branches (g .location) (head-case p r k) in
-        let may = branch-may p t fit w closed classes q g bs at (ch .branch) (ch .listed) v covered (x .held) (ch .matches) in
+        let may = branch-may p t fit w closed classes classed q g bs at (ch .branch) (ch .listed) v covered (x .held) (ch .matches) in
         record {
           to = branch-body p (ch .branch);
           held = x .held;
           frames = q .frames;
           result = e ∙ ap (λ (y : ℕ). set qs i (process c y (x .held) (q .frames) (q .mailbox))) (ch .goes-on);
-          good = branch-good p t fit w closed classes q g bs at (ch .branch) (ch .listed) v covered (x .held) (ch .matches) (q .mailbox)
+          good = branch-good p t fit w closed classes classed q g bs at (ch .branch) (ch .listed) v covered (x .held) (ch .matches) (q .mailbox)
               (by-case n bs (ch .branch) (row-for classes v) (head-case p r k) (ch .listed) value may) (g .mailbox);
           follows = rule-case p t c r (g .present) (ch .branch) (row-for classes v) k (ch .listed) value may;
         }
 
-    pub case-step : kind (tag p (q .location)) ≡ case → Quietly p t classes qs i q qs′
-    case-step k =
+    pub case-step : Classes p classes → kind (tag p (q .location)) ≡ case → Quietly p t classes qs i q qs′
+    case-step classed k =
         let r : ℕ = q .location in
         let n : ℕ = num p r in
         let bs : List ℕ = branch-rows p (num p (r + 1)) (r + 2) in
         let b = bind-some (value-of p (q .held) n) (λ v. _>>=_ (first-branch p (q .held) bs v) (λ x. some (set qs i (moved q (x .location) (x .held))))) qs′ (sym (act-case p qs i q k) ∙ h) in
         let d = bind-some (first-branch p (q .held) bs (b .value)) (λ x. some (set qs i (moved q (x .location) (x .held)))) qs′ (b .then) in
-        taken k (b .value) (d .value) (b .given) (chosen p (q .held) bs (b .value) (d .value) (d .given)) (sym (Option·some-injective (set qs i (moved q (d .value .location) (d .value .held))) qs′ (d .then)))
+        taken classed k (b .value) (d .value) (b .given) (chosen p (q .held) bs (b .value) (d .value) (d .given)) (sym (Option·some-injective (set qs i (moved q (d .value .location) (d .value .held))) qs′ (d .then)))

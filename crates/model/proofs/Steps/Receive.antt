@@ -51,7 +51,7 @@ module _ (p : Program) (t : Tables) (fit : Rows-fit p) (w : Columns-whole p) (pa
       let v : Value = x .message in
       let (mailed, covered) = g .mailbox v (x .was-there) in
       let at = receive-branches (g .location) (head-receive p r k) in
-      let may = branch-may p t fit w closed classes q g branches-here at (ch .branch) (ch .listed) v covered (m .taken .held) (ch .matches) in
+      let may = branch-may p t fit w closed classes classed q g branches-here at (ch .branch) (ch .listed) v covered (m .taken .held) (ch .matches) in
       let same = letter-kept p t classes v past-end classed covered in
       record {
         to = branch-body p (ch .branch);
@@ -60,7 +60,7 @@ module _ (p : Program) (t : Tables) (fit : Rows-fit p) (w : Columns-whole p) (pa
         received = m;
         taken = x;
         result = e ∙ ap (λ (y : ℕ). set qs i (process c y (m .taken .held) (q .frames) (m .mailbox))) (ch .goes-on);
-        good = branch-good p t fit w closed classes q g branches-here at (ch .branch) (ch .listed) v covered (m .taken .held) (ch .matches) (m .mailbox)
+        good = branch-good p t fit w closed classes classed q g branches-here at (ch .branch) (ch .listed) v covered (m .taken .held) (ch .matches) (m .mailbox)
             (by-receive branches-here (ch .branch) (row-for classes v) (head-receive p r k) (ch .listed) mailed may)
             (λ u there. g .mailbox u (x .stays u there));
         mailed = (mailed, same);

@@ -9,8 +9,8 @@ use Rattle.model.specs.Rows.{Program, size, tag, num, kind}
 use Rattle.model.specs.Rows.{send}
 use Rattle.model.specs.Scopes.{rest}
 use Rattle.model.specs.Letters.{letters, row-letter, value-letter}
-use Rattle.model.specs.Values.{Value, Bindings, bind, value-of, Process, Processes}
-use Rattle.model.specs.Run.{_>>=_, moved, process-of, deliver, act}
+use Rattle.model.specs.Values.{Value, Bindings, bind, value-of, Process, Processes, process-of}
+use Rattle.model.specs.Run.{_>>=_, moved, deliver, act}
 use Rattle.model.specs.Tables.{Tables}
 use Rattle.model.specs.Rules.{puts, rules}
 use Rattle.model.specs.Counters.{letter-index}

@@ -8,8 +8,8 @@ use lib.Dec.{eqb}
 use borrow.Author.Tests.{eqb-true, eq-eqb}
 use Rattle.model.specs.Rows.{Program, tag, num}
 use Rattle.model.specs.Heads.{is-function, takes}
-use Rattle.model.specs.Values.{Value, closure, built, address}
-use Rattle.model.specs.Run.{Function, function-of, process-of}
+use Rattle.model.specs.Values.{Value, closure, built, address, process-of}
+use Rattle.model.specs.Run.{Function, function-of}
 use Rattle.model.specs.Transitions.{Takes}
 use Rattle.model.proofs.Logic.{test, and-left, and-right, and-intro, or-cases, or-left, or-right}
 use Rattle.model.proofs.Transitions.Exactly.{Exactly}

@@ -10,8 +10,8 @@ use lib.ListN.{length, set, length-set}
 use Rattle.model.specs.Rows.{Program}
 use Rattle.model.specs.Heads.{Head}
 use Rattle.model.specs.Heads.{gives, builds, makes, calls, sends, spawns, selfs, cases, receives, no-head}
-use Rattle.model.specs.Values.{Value, address, bind, value-of, values-of, Process, Processes}
-use Rattle.model.specs.Run.{_>>=_, moved, function-of, process-of, deliver, give-back, act, step-of}
+use Rattle.model.specs.Values.{Value, address, bind, value-of, values-of, Process, Processes, process-of}
+use Rattle.model.specs.Run.{_>>=_, moved, function-of, deliver, give-back, act, step-of}
 use Rattle.model.specs.Transitions.{Acting, read-at, No-step, no-process, ended, no-target, not-callable, not-spawnable, no-match, waits, holds-nothing, nowhere}
 use Rattle.model.proofs.Transitions.Exactly.{has-none}
 use Rattle.model.proofs.Transitions.Names.{value-exactly}

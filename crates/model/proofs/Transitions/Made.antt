@@ -7,9 +7,9 @@ use lib.ListN.{getElem?, set}
 use Rattle.model.specs.Rows.{Program}
 use Rattle.model.specs.Heads.{Call, Head, head-at, parameters}
 use Rattle.model.specs.Heads.{gives, builds, makes, calls, sends, spawns, selfs, cases, receives, no-head}
-use Rattle.model.specs.Values.{Value, Bindings, bind, value-of, values-of, Frame, Process, process, Processes}
+use Rattle.model.specs.Values.{Value, Bindings, bind, value-of, values-of, Frame, Process, process, Processes, process-of}
 use Rattle.model.specs.Matching.{first-branch, receive-from}
-use Rattle.model.specs.Run.{_>>=_, moved, function-of, process-of, give-back, enter, spawned, act, step-of}
+use Rattle.model.specs.Run.{_>>=_, moved, function-of, give-back, enter, spawned, act, step-of}
 use Rattle.model.specs.Transitions.{Acting, Step, builds-value, makes-function, yields-self, calls-function, gives-back, sends-message, spawns-process, takes-branch, takes-message}
 use Rattle.model.proofs.Lookups.{bind-some}
 use Rattle.model.proofs.Reader.{by-option}

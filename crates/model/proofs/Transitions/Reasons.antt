@@ -8,9 +8,9 @@ use lib.ListN.{length, getElem?, set, length-set}
 use Rattle.model.specs.Rows.{Program}
 use Rattle.model.specs.Heads.{Call, Head, head-at}
 use Rattle.model.specs.Heads.{gives, builds, makes, calls, sends, spawns, selfs, cases, receives, no-head}
-use Rattle.model.specs.Values.{Value, address, Bindings, bind, value-of, values-of, Frame, Process, process, Processes}
+use Rattle.model.specs.Values.{Value, address, Bindings, bind, value-of, values-of, Frame, Process, process, Processes, process-of}
 use Rattle.model.specs.Matching.{first-branch, receive-from}
-use Rattle.model.specs.Run.{_>>=_, give-back, moved, function-of, process-of, act, step-of}
+use Rattle.model.specs.Run.{_>>=_, give-back, moved, function-of, act, step-of}
 use Rattle.model.specs.Transitions.{Acting, No-step, no-process, ended, no-target, not-callable, not-spawnable, no-match, waits, holds-nothing, nowhere}
 use Rattle.model.proofs.Reader.{by-option}
 use Rattle.model.proofs.Transitions.Exactly.{gives-none}

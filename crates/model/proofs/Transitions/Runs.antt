@@ -9,6 +9,7 @@ use Rattle.model.specs.Run.{step-of, next, starting, run-from, run}
 use Rattle.model.specs.Patterns.{Matching-exactly}
 use Rattle.model.specs.Transitions.{Runs, at-end, steps, changes-nothing, Runs-exactly}
 use Rattle.model.proofs.Reader.{by-option}
+use Rattle.model.proofs.Transitions.Equality.{equal-has, equal-gives}
 use Rattle.model.proofs.Transitions.Exactly.{gives-none, has-none}
 use Rattle.model.proofs.Transitions.Names.{value-exactly}
 use Rattle.model.proofs.Transitions.Patterns.{match-exactly}
@@ -43,6 +44,7 @@ module _ (p : Program) where
 matching-exactly : Matching-exactly
 matching-exactly =
     record {
+      equals = λ v w. (equal-has v w, equal-gives);
       values = λ p held n v. (value-exactly p n held .has v, value-exactly p n held .gives v);
       matches = λ p held held′ q v. (match-exactly p held q v .has held′, match-exactly p held q v .gives held′);
       refuses = λ p held q v. (gives-none (match-exactly p held q v), has-none (match-exactly p held q v));

@@ -35,7 +35,7 @@ case-rules-requires : tie.Need-case-rules-requires
 case-rules-requires c κs = (c .before .before .before .before .before .before .before .before .before .before .before .before .before .before .before .before .pre .0 .ready, (c .before .before .before .before .before .before .before .before .before .before .before .before .before .before .before .before .pre .0 .ends, (c .before .before .before .before .before .before .before .before .before .before .before .before .before .before .before .before .pre .1 .0, (c .before .before .before .before .before .before .before .before .before .before .before .before .before .before .before .before .pre .0 .branch-bits, ((sym (c .before .before .tag .ensures) ∙ c .before .match .keys5), ((c .before .before .before .before .before .before .before .before .before .before .before .before .before .before .before .before .pre .1 .1 .0 .0, (c .before .before .before .state-location .ensures)), omega (arith, c .before .before .before .before .before .before .before .before .before .before .before .before .before .before .before .before .pre .1 .1 .1 .letters)))))))
 
 receive-rules-requires : tie.Need-receive-rules-requires
-receive-rules-requires c κs = (c .before .before .before .before .before .before .before .before .before .before .before .before .before .before .before .before .before .pre .0 .ready, (c .before .before .before .before .before .before .before .before .before .before .before .before .before .before .before .before .before .pre .0 .ends, (c .before .before .before .before .before .before .before .before .before .before .before .before .before .before .before .before .before .pre .0 .class-letters, (c .before .before .before .before .before .before .before .before .before .before .before .before .before .before .before .before .before .pre .1 .0, (c .before .before .before .before .before .before .before .before .before .before .before .before .before .before .before .before .before .pre .0 .branch-bits, ((sym (c .before .before .before .tag .ensures) ∙ c .before .before .match .keys6), ((c .before .before .before .before .before .before .before .before .before .before .before .before .before .before .before .before .before .pre .1 .1 .0 .0, (c .before .before .before .before .state-location .ensures), c .before .before .before .before .before .before .before .before .before .before .before .before .before .before .before .before .before .pre .1 .1 .0 .1), c .before .before .before .before .before .before .before .before .before .before .before .before .before .before .before .before .before .pre .1 .1 .1)))))))
+receive-rules-requires c κs = (c .before .before .before .before .before .before .before .before .before .before .before .before .before .before .before .before .before .pre .0 .ready, (c .before .before .before .before .before .before .before .before .before .before .before .before .before .before .before .before .before .pre .0 .ends, (c .before .before .before .before .before .before .before .before .before .before .before .before .before .before .before .before .before .pre .0 .class-letters, (c .before .before .before .before .before .before .before .before .before .before .before .before .before .before .before .before .before .pre .1 .0, (c .before .before .before .before .before .before .before .before .before .before .before .before .before .before .before .before .before .pre .0 .branch-bits, ((sym (c .before .before .before .tag .ensures) ∙ c .before .before .match .keys6), ((c .before .before .before .before .before .before .before .before .before .before .before .before .before .before .before .before .before .pre .1 .1 .0 .0, (c .before .before .before .before .state-location .ensures), c .before .before .before .before .before .before .before .before .before .before .before .before .before .before .before .before .before .pre .1 .1 .0 .1), (c .before .before .before .before .before .before .before .before .before .before .before .before .before .before .before .before .before .pre .1 .1 .1, ((c .before .before .before .before .before .before .before .before .before .before .before .before .before .before .before .before .before .pre .0 .flow-width, c .before .before .before .before .before .before .before .before .before .before .before .before .before .before .before .before .before .pre .0 .flow-sets), c .before .before .before .before .before .before .before .before .before .before .before .before .before .before .before .before .before .pre .0 .name-letters)))))))))
 
 rest-rules-requires : tie.Need-rest-rules-requires
 rest-rules-requires c κs = (c .before .before .before .before .before .before .before .before .before .before .before .before .before .before .before .before .pre .0 .ready, (c .before .before .before .before .before .before .before .before .before .before .before .before .before .before .before .before .pre .0 .ends, (c .before .before .before .before .before .before .before .before .before .before .before .before .before .before .before .before .pre .1 .0, (plain ((c .before)), omega (arith, c .before .before .before .before .before .before .before .before .before .before .before .before .before .before .before .before .pre .1 .1 .1 .values)))))

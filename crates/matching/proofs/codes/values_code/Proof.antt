@@ -1,7 +1,7 @@
 use borrow.Author.Needs.{needs}
 use Rattle.model.specs.Words.{columns}
 use Rattle.model.specs.Rows.{program}
-use Rattle.matching.proofs.Leaves.{leaf-row, made-values}
+use Rattle.matching.proofs.Leaves.{leaf-row, made-values, held-values}
 use Rattle.matching.proofs.codes.values_code.Statement.{statement}
 use Rattle.matching.proofs.codes.values_code.Tie as tie
 
@@ -18,13 +18,32 @@ common-requires c κs = (leaf-row _ _ _ _ (c .width .ensures) (c .before .before
 returns : tie.Need-returns
 returns c = made-values _ _ _ _ _ _ _ _ _ (c .before .width .ensures) (c .before .before .before .before .before .before .before .before .before .pre .1 .1 .0) (c .before .before .before .tag .ensures) (c .before .before .if1 .taken) _ (c .common .ensures)
 
-leaf-code-requires : tie.Need-leaf-code-requires
-leaf-code-requires c κs = (c .before .before .before .before .before .before .before .pre .0, (c .before .before .before .before .before .before .before .pre .1 .0, (c .before .before .before .before .before .before .before .pre .1 .1 .1 .0, (c .before .before .before .before .before .before .before .pre .1 .1 .1 .1, (c .before .tag .ensures, c .if1 .left)))))
+width-requires-2 : tie.Need-width-requires-2
+width-requires-2 c κs = search needs
+
+met-code-requires : tie.Need-met-code-requires
+unfolding program columns
+met-code-requires c κs = (leaf-row _ _ _ _ (c .width2 .ensures) (c .before .before .before .before .before .before .before .before .before .pre .1 .1 .1 .0), leaf-row _ _ _ _ (c .width2 .ensures) (c .before .before .before .before .before .before .before .before .before .pre .1 .1 .0 .may-row))
 
 returns-2 : tie.Need-returns-2
-returns-2 c = search needs
+returns-2 c = held-values _ _ _ _ _ _ _ _ _ (c .before .width2 .ensures) (c .before .before .before .before .before .before .before .before .before .before .pre .1 .1 .0) (c .before .before .before .before .tag .ensures) (c .before .before .if2 .taken) _ (c .met-code .ensures)
+
+leaf-code-requires : tie.Need-leaf-code-requires
+leaf-code-requires c κs = (c .before .before .before .before .before .before .before .before .pre .0, (c .before .before .before .before .before .before .before .before .pre .1 .0, (c .before .before .before .before .before .before .before .before .pre .1 .1 .1 .0, (c .before .before .before .before .before .before .before .before .pre .1 .1 .1 .1, (c .before .before .tag .ensures, c .before .if1 .left, c .if2 .left)))))
+
+returns-3 : tie.Need-returns-3
+returns-3 c = search needs
 
 pub values-code-spec : {M : Type 1} → statement M
 values-code-spec =
     tie.close
-    (tie.spec tag-requires width-requires common-requires returns leaf-code-requires returns-2)
+    (tie.spec
+    tag-requires
+    width-requires
+    common-requires
+    returns
+    width-requires-2
+    met-code-requires
+    returns-2
+    leaf-code-requires
+    returns-3)

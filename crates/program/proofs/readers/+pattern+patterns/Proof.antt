@@ -7,7 +7,7 @@ use lib.ListN.{replicate}
 use borrow.Author.Tests.{lt-ltb, le-ltb, eq-eqb, ne-eqb}
 use Rattle.model.specs.Rows.{program, pattern, arity}
 use Rattle.program.specs.Rows.{from}
-use Rattle.program.proofs.Items.{pattern-30, pattern-31, pattern-32, pattern-other, pattern-none}
+use Rattle.program.proofs.Items.{pattern-named, pattern-31, pattern-32, pattern-other, pattern-none}
 use Rattle.program.proofs.Reading.{past-answer, wrong-answer, came-past, came-wrong, replicate-past, replicate-wrong, replicate-none, replicate-by, from-stop, past-upto, takes-row, last-row, refuses-row, yes-fits, no-fits}
 use borrow.Fn.Kinds.{In}
 use borrow.Fn.PlainCycle.{Measures, is, falls, and}
@@ -78,12 +78,12 @@ pattern-patterns-requires t c κs = (omega arith, (search needs, omega (arith, e
 pattern-returns-2 : (t : ℕ) → pattern-lts.Need-returns-2 (pattern-claims t) (pattern-at t) pattern-reads.Post
 pattern-returns-2 t c =
     last-row _ _ (pattern _) _ _ _ (c .before .before .before .tag .ensures) (c .before .before .before .before .num .ensures)
-    (pattern-30 _ _ _ _ _ (search needs) (c .before .before .match .keys1) ∙ yes-fits [] (lt-ltb _ _ (c .if2 .taken)))
+    (pattern-named _ _ _ _ _ (search needs) (c .before .before .match .keys1) ∙ yes-fits [] (lt-ltb _ _ (c .if2 .taken)))
 
 pattern-returns-3 : (t : ℕ) → pattern-lts.Need-returns-3 (pattern-claims t) (pattern-at t) pattern-reads.Post
 pattern-returns-3 t c =
     refuses-row _ _ (pattern _) _ _ _ (c .before .before .before .tag .ensures) (c .before .before .before .before .num .ensures)
-    (pattern-30 _ _ _ _ _ (search needs) (c .before .before .match .keys1) ∙ no-fits [] (le-ltb _ _ (c .if2 .left)))
+    (pattern-named _ _ _ _ _ (search needs) (c .before .before .match .keys1) ∙ no-fits [] (le-ltb _ _ (c .if2 .left)))
 
 pattern-returns-4 : (t : ℕ) → pattern-lts.Need-returns-4 (pattern-claims t) (pattern-at t) pattern-reads.Post
 unfolding arity
