@@ -1,12 +1,13 @@
 #!/bin/bash
-# named.sh BRANCH PARENT: the tree of BRANCH with the names of main, as a commit on PARENT: prints the branch name BRANCH-named
+# named.sh BRANCH PARENT: the tree of BRANCH with today's names, as a commit on PARENT. It leaves it as branch BRANCH-named.
 set -e
 b=$1; parent=$2
-git checkout -q -f --detach $b
-(bash drafts/names/renames.sh; bash drafts/names/tags.sh; bash drafts/names/tables.sh; rt fmt) >/tmp/named.log 2>&1 || true
+here=$(mktemp -d)
+cp "$(dirname "$0")"/*.sh "$here"
+git checkout -q -f --detach "$b"
+(bash "$here/renames.sh"; bash "$here/tags.sh"; bash "$here/tables.sh"; rt fmt) >"$here/log" 2>&1 || true
 git add -A
-t=$(git write-tree)
-c=$(git commit-tree $t -p $parent -m "$b with the names of main")
+c=$(git commit-tree "$(git write-tree)" -p "$parent" -m "$b with today's names")
 git reset -q --hard
-git branch -f $b-named $c
-echo "$b-named"
+git branch -f "$b-named" "$c"
+echo "$b-named; what the scripts said: $here/log"
