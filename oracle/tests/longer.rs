@@ -1,7 +1,7 @@
 //! (vi): longer programs. A message that the former limits did not answer with 2 or 9 keeps number and place, and the
 //! longer ones that are safe now got 2 or 9.
 
-use common::files;
+use common::{files, path};
 use oracle::fuzz::compare::Cases;
 use oracle::limits::{FORMER, LONGEST, PLENTY, PRESENT};
 use oracle::verify::{Read, inspect, verify, verify_within};
@@ -42,9 +42,8 @@ fn random_messages_keep_their_answers() {
 
 #[test]
 fn examples_and_hostile_messages_keep_their_answers() {
-    for file in files("examples", "msg") {
-        assert!(kept(&std::fs::read(&file).unwrap(), PLENTY), "{file:?}");
-    }
+    let longer = files("examples", "msg").into_iter().filter(|file| !kept(&std::fs::read(file).unwrap(), PLENTY));
+    assert!(longer.eq([path("examples/pumping-station.msg")]), "one example needs the present limits");
     let longer = stress::hostile().unwrap().into_iter().filter(|hostile| !kept(&hostile.message, PLENTY));
     assert_eq!(longer.count(), 15);
 }

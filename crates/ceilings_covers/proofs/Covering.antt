@@ -314,15 +314,15 @@ module _ (σ : Step) where
         not-to = λ h e. true-false (sure-adds quiet leaves h (not-from h) ∙ t) (not-fails _ (eq-eqb (σ .other) (σ .to) e));
       }
 
-  adds-elim : (y : ℕ) → adds-other σ y ≡ true → (2 ≤ σ .kind) × (y ≡ σ .other)
+  pub adds-elim : (y : ℕ) → adds-other σ y ≡ true → (2 ≤ σ .kind) × (y ≡ σ .other)
   unfolding adds-other
   adds-elim y t = (leb-true 2 (σ .kind) (and-left (leb 2 (σ .kind)) _ t), eqb-true y (σ .other) (and-right (leb 2 (σ .kind)) _ t))
 
-  adds-apart : (y : ℕ) → (2 ≤ σ .kind → y ≡ σ .other → ⊥) → adds-other σ y ≡ false
+  pub adds-apart : (y : ℕ) → (2 ≤ σ .kind → y ≡ σ .other → ⊥) → adds-other σ y ≡ false
   adds-apart y h = test (adds-other σ y) (λ t. absurd (let (a, b) = adds-elim y t in h a b)) (λ t. t)
 
   -- a counter to which not both parts of the step add has one more at most
-  fire-once : (m : Marking) (y : ℕ) → σ .kind ≤ 3 → (eqb y (σ .to) ≡ false) ⊎ (adds-other σ y ≡ false) → fire (rule-of-step σ) m y ≤ m y + 1
+  pub fire-once : (m : Marking) (y : ℕ) → σ .kind ≤ 3 → (eqb y (σ .to) ≡ false) ⊎ (adds-other σ y ≡ false) → fire (rule-of-step σ) m y ≤ m y + 1
   fire-once m y h once =
       let first : ℕ = less-if (eqb y (σ .from)) (m y) in
       let left : ℕ = less-if (takes-other σ y) first in
@@ -332,6 +332,11 @@ module _ (σ : Step) where
       ⊎-elim
       (λ e. let u = more-fail (eqb y (σ .to)) left e in let v = more-small (adds-other σ y) moved _ refl in omega (arith, fire-stages σ m y h))
       (λ e. let u = more-small (eqb y (σ .to)) left moved refl in let v = more-fail (adds-other σ y) moved e in omega (arith, fire-stages σ m y h)) once
+
+-- a ceiling that holds one more
+pub more-allows : (limits : List ℕ) (ceilings k y j : ℕ) → takes-more limits ceilings k y j ≡ true → allowed (held limits ceilings j y) (most limits ceilings k y + 1) ≡ true
+unfolding takes-more allows
+more-allows limits ceilings k y j h = and-right (ltb j ceilings) _ h
 
 module _ (limits : List ℕ) (ceilings n k : ℕ) (σ : Step) where
   -- those that hold one more at a counter, of a mask, or the mask itself where the step takes from the counter or it is none of the n
@@ -344,10 +349,6 @@ module _ (limits : List ℕ) (ceilings n k : ℕ) (σ : Step) where
         within = λ j h. and-left (has m j) (has more j) (sym (and j) ∙ h);
         more = λ j l h a b t. sym (is j l) ∙ and-right (has m j) (has more j) (sym (and j) ∙ h);
       }
-
-  more-allows : (y j : ℕ) → takes-more limits ceilings k y j ≡ true → allowed (held limits ceilings j y) (most limits ceilings k y + 1) ≡ true
-  unfolding takes-more allows
-  more-allows y j h = and-right (ltb j ceilings) _ h
 
   passes-lower : (j y a : ℕ) → allowed (held limits ceilings j y) a ≡ true → fire (rule-of-step σ) (highest (held limits ceilings k)) y ≤ a → passes limits ceilings k j σ y ≡ true
   unfolding passes
@@ -368,12 +369,12 @@ module _ (limits : List ℕ) (ceilings n k : ℕ) (σ : Step) where
         | no d ↦ elim (ℕ-discrete y (σ .to)) [
           | yes e ↦
               passes-lower j y (counts y + 1)
-              (more-allows y j (rw e (a .more j (omega arith) in-to (rw (← e) inside) (u .leaves) (takes-none σ (σ .to) (u .quiet)))))
+              (more-allows limits ceilings k y j (rw e (a .more j (omega arith) in-to (rw (← e) inside) (u .leaves) (takes-none σ (σ .to) (u .quiet)))))
               (fire-once σ counts y small (inr (adds-apart σ y (λ two z. u .not-to two (sym z ∙ e)))))
           | no f ↦ test (adds-other σ y)
               (λ g. let (two, e) = adds-elim σ y g in
               passes-lower j y (counts y + 1)
-              (more-allows y j (rw e (b two .more j (omega arith) h (rw (← e) inside) (u .not-from two) (takes-none σ (σ .other) (u .quiet)))))
+              (more-allows limits ceilings k y j (rw e (b two .more j (omega arith) h (rw (← e) inside) (u .not-from two) (takes-none σ (σ .other) (u .quiet)))))
               (fire-once σ counts y small (inl (ne-eqb y (σ .to) f))))
               (λ g. let less = less-fail (eqb y (σ .from)) (counts y) (ne-eqb y (σ .from) d) in
               let fewer = fire-fewer σ counts y small (ne-eqb y (σ .to) f) g in

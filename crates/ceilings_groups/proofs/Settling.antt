@@ -4,7 +4,7 @@ use native.Mathlib.Decide.{ℕ-discrete}
 use native.Mathlib.Omega.{arith}
 use mathlib.Core.Path.{_≡_, refl, sym, _∙_, ap}
 use mathlib.Core.Bool.{Bool, true, false, not, _&&_, _||_}
-use mathlib.Core.Logic.{_⊎_, inl, inr, ⊎-elim}
+use mathlib.Core.Logic.{inl, inr, ⊎-elim}
 use mathlib.Core.List.{List, List·Memᴰ}
 use lib.Dec.{eqb, leb, ltb}
 use lib.ListN.{getD}
@@ -16,54 +16,59 @@ use Rattle.model.specs.Tables.{Tables, state-at}
 use Rattle.model.specs.Rules.{Rule, state-rules}
 use Rattle.model.specs.Markings.{Marking, usable, fire}
 use Rattle.model.specs.Ceilings.{allowed, highest, under, under-some, leads-out}
-use Rattle.model.proofs.Logic.{test, true-false, and-left, and-right, or-left}
+use Rattle.model.proofs.Logic.{test, and-left, and-right, or-left, or-cases}
 use Rattle.model.proofs.Index.{any-elim, any-intro, all-intro}
 use Rattle.bits.specs.Bits.{member}
 use Rattle.masks.specs.declared.Mask.{Mask}
 use Rattle.masks.specs.Masks.{has}
 use Rattle.steps.specs.declared.Step.{Step}
-use Rattle.steps.specs.Steps.{rule-of-step, adds-other, less-if}
+use Rattle.steps.specs.Steps.{rule-of-step, adds-other}
 use Rattle.steps.proofs.Stepping.{fire-fewer, less-pass, less-fail}
 use Rattle.ceilings.specs.Table.{held}
-use Rattle.ceilings_masks.specs.Compared.{reaches, most, exceeds}
+use Rattle.ceilings_form.proofs.Limited.{highest-limit}
+use Rattle.ceilings_masks.specs.declared.Over.{Over}
+use Rattle.ceilings_masks.specs.Compared.{allows, most, exceeds, Counted}
 use Rattle.ceilings_covers.specs.Covers.{Left}
-use Rattle.ceilings_covers.proofs.Covering.{allowed-lower, fits-not}
-use Rattle.ceilings_groups.specs.Groups.{table-ceilings, escapes, Unbounded-at, Open-to, Groups-upto}
+use Rattle.ceilings_covers.proofs.Covering.{allowed-lower, fits-not, adds-elim, adds-apart, fire-once, more-allows}
+use Rattle.ceilings_groups.specs.Groups.{table-ceilings, escapes, Open-step, Open-to, Groups-upto}
 use Rattle.ceilings_groups.proofs.Leading.{leads-none}
 
-pub unbounded-is : (limits : List ℕ) (ceilings n k y : ℕ) → ((z : ℕ) → getD limits z 0 < 65536) → reaches limits ceilings y omega-limit k ≡ true → Unbounded-at limits ceilings n k y
-unfolding reaches
-unbounded-is limits ceilings n k y words h below =
-    let z = leb-true omega-limit (held limits ceilings k y) (and-right (ltb k ceilings) _ h) in
-    let w = words (y * ceilings + k) in
-    omega arith
+-- by what the mask of a count says
+pub allows-at : (limits : List ℕ) (ceilings y count k : ℕ) → allows limits ceilings y count k ≡ true → allowed (held limits ceilings k y) count ≡ true
+unfolding allows
+allows-at limits ceilings y count k h = and-right (ltb k ceilings) _ h
 
--- a step is open to a ceiling that has no bound where it adds
-pub step-open : (limits : List ℕ) (ceilings n k : ℕ) (σ : Step) → σ .kind ≤ 3 → Unbounded-at limits ceilings n k (σ .to) → (2 ≤ σ .kind → Unbounded-at limits ceilings n k (σ .other)) → Open-to limits ceilings n k (rule-of-step σ)
-unfolding adds-other rule-of-step
-step-open limits ceilings n k σ small to other m y h =
+-- a step is open to a ceiling that allows the count where it adds
+pub step-open : (limits : List ℕ) (ceilings n count k : ℕ) (σ : Step) → σ .kind ≤ 3 → Open-step limits ceilings n count k (σ .kind) (σ .to) (σ .other) → Open-to limits ceilings n count k (rule-of-step σ)
+unfolding rule-of-step
+step-open limits ceilings n count k σ small (to, other) m y h =
     test (eqb y (σ .to))
-    (λ e. inl (let z = eqb-true y (σ .to) e in ap (λ x. held limits ceilings k x) z ∙ to (omega arith)))
+    (λ e. let z = eqb-true y (σ .to) e in
+    inl (rw z (to (omega arith)), fire-once σ m y small (inr (adds-apart σ y (λ two w. other two .1 (sym z ∙ w))))))
     (λ e. test (adds-other σ y)
-    (λ f. inl (let z = eqb-true y (σ .other) (and-right (leb 2 (σ .kind)) _ f) in ap (λ x. held limits ceilings k x) z ∙ other (leb-true 2 (σ .kind) (and-left (leb 2 (σ .kind)) _ f)) (omega arith)))
+    (λ f. let (two, z) = adds-elim σ y f in
+    inl (rw z (other two .0 (omega arith)), fire-once σ m y small (inl e)))
     (λ f. inr (fire-fewer σ m y small e f)))
 
-unbounded-allows : (l c : ℕ) → l ≡ omega-limit → allowed l c ≡ true
+-- a limit that allows 65,535 allows every count
+unbounded-allows : (l c : ℕ) → l < 65536 → allowed l omega-limit ≡ true → allowed l c ≡ true
 unfolding allowed
-unbounded-allows l c e = or-left (eqb l omega-limit) _ (eq-eqb l omega-limit e)
+unbounded-allows l c small h =
+    or-left (eqb l omega-limit) _
+    (⊎-elim (λ e. e) (λ e. eq-eqb l omega-limit (let z = leb-true omega-limit l e in omega arith)) (or-cases (eqb l omega-limit) _ h))
 
 and-none : (b : Bool) → (b && false) ≡ false
 and-none true = refl
 and-none false = refl
 
 module _ (limits : List ℕ) (ceilings n k i : ℕ) (left : Mask) (l : Left limits ceilings n k i left) where
-  -- a ceiling that is left and open to the rule
-  open-covers : (ρ : Rule) (j : ℕ) → j < ceilings → has left j ≡ true → ρ .from ≡ i → Open-to limits ceilings n j ρ → under n (held limits ceilings j) (fire ρ (highest (held limits ceilings k))) ≡ true
+  -- a ceiling that is left and open to the rule, where the count that it allows is one more than the highest
+  open-covers : (ρ : Rule) (j count : ℕ) → j < ceilings → has left j ≡ true → ρ .from ≡ i → Open-to limits ceilings n count j ρ → ((y : ℕ) → y < n → allowed (held limits ceilings j y) count ≡ true → allowed (held limits ceilings j y) (most limits ceilings k y + 1) ≡ true) → under n (held limits ceilings j) (fire ρ (highest (held limits ceilings k))) ≡ true
   unfolding under
-  open-covers ρ j b h from opens =
+  open-covers ρ j count b h from opens more =
       all-intro 0 n _
       (λ y low inside. ⊎-elim
-      (λ e. unbounded-allows _ _ e)
+      (λ e. allowed-lower (held limits ceilings j y) (highest (held limits ceilings k) y + 1) _ (more y inside (e .0)) (e .1))
       (λ e. elim (ℕ-discrete y i) [
         | yes z ↦
             let less = less-pass (eqb y (ρ .from)) (highest (held limits ceilings k) y) (eq-eqb y (ρ .from) (z ∙ sym from)) in
@@ -73,32 +78,47 @@ module _ (limits : List ℕ) (ceilings n k i : ℕ) (left : Mask) (l : Left limi
             allowed-lower (held limits ceilings j y) (highest (held limits ceilings k) y) _ (fits-not limits ceilings n k j y (l .others j y b h inside z)) (omega (arith, e, less))
       ]) (opens (highest (held limits ceilings k)) y inside))
 
+  -- where ceiling k has no limit, one more is one; elsewhere a ceiling of `above` holds it
+  one-more : (over : Over) → Counted limits ceilings n k over → (j y : ℕ) → j < 256 → y < n → has (over .above) j ≡ true → allowed (held limits ceilings j y) 1 ≡ true → allowed (held limits ceilings j y) (most limits ceilings k y + 1) ≡ true
+  one-more over counted j y few inside up one = elim (ℕ-discrete (held limits ceilings k y) 0) [
+    | yes z ↦
+        let none = highest-limit (held limits ceilings k) y 0 (sym z) (λ w. omega arith) in
+        allowed-lower (held limits ceilings j y) 1 _ one (omega (arith, none))
+    | no z ↦ more-allows limits ceilings k y j (counted .above y j inside (omega arith) few up)
+  ]
+
   covered-in : (ρ : Rule) (j : ℕ) → j < ceilings → under n (held limits ceilings j) (fire ρ (highest (held limits ceilings k))) ≡ true → escapes (table-ceilings ceilings n limits) ρ (highest (held limits ceilings k)) ≡ false
   unfolding escapes under-some
   covered-in ρ j b u =
       ap (λ z. usable ρ (highest (held limits ceilings k)) && not z) (any-intro 0 ceilings j (λ x. under n (held limits ceilings x) (fire ρ (highest (held limits ceilings k)))) (omega arith) b u) ∙
       and-none (usable ρ (highest (held limits ceilings k)))
 
-  pub settles : (p : Program) (t : Tables) (S : ℕ) (group : List ℕ) → i < S → Groups-upto p t limits ceilings n S group → any 0 256 (λ j. has left j && member group 4 i j) ≡ true → leads-out (table-ceilings ceilings n limits) (state-rules p t i (state-at t i)) (highest (held limits ceilings k)) ≡ false
-  settles p t S group inside g some =
-      let (j, w, e) = any-elim 0 256 (λ j. has left j && member group 4 i j) some in
+  pub settles : (over : Over) → Counted limits ceilings n k over → ((z : ℕ) → getD limits z 0 < 65536) → (p : Program) (t : Tables) (S : ℕ) (group : List ℕ) → i < S → Groups-upto p t limits ceilings n S group → any 0 256 (λ j. has left j && (member group 4 (2 * i) j || has (over .above) j && member group 4 (2 * i + 1) j)) ≡ true → leads-out (table-ceilings ceilings n limits) (state-rules p t i (state-at t i)) (highest (held limits ceilings k)) ≡ false
+  settles over counted words p t S group inside g some =
+      let (j, w, e) = any-elim 0 256 (λ j. has left j && (member group 4 (2 * i) j || has (over .above) j && member group 4 (2 * i + 1) j)) some in
       let h = and-left (has left j) _ e in
       let b = l .few j (w .1) h in
       leads-none (table-ceilings ceilings n limits) (highest (held limits ceilings k)) _
-      (λ ρ r. covered-in ρ j b (open-covers ρ j b h (g .leaves i ρ inside r) (g .opens i j ρ inside (w .1) (and-right (has left j) _ e) r)))
+      (λ ρ r. covered-in ρ j b
+      (⊎-elim
+      (λ a. open-covers ρ j omega-limit b h (g .leaves i ρ inside r) (g .opens i j ρ inside (w .1) a r) (λ y low z. unbounded-allows _ _ (words (y * ceilings + j)) z))
+      (λ a. open-covers ρ j 1 b h (g .leaves i ρ inside r) (g .opens-one i j ρ inside (w .1) (and-right (has (over .above) j) _ a) r) (λ y low z. one-more over counted j y (w .1) low (and-left (has (over .above) j) _ a) z))
+      (or-cases (member group 4 (2 * i) j) _ (and-right (has left j) _ e))))
 
--- the rules before number j add nowhere where a ceiling of the mask has a bound
-pub record Open-upto (limits : List ℕ) (ceilings n kind : ℕ) (tos others : List ℕ) (j : ℕ) (m : Mask) : Type 0 where
-  pub led : (k a : ℕ) → k < 256 → a < j → has m k ≡ true → Unbounded-at limits ceilings n k (getD tos a 0)
-  pub added : 2 ≤ kind → (k a : ℕ) → k < 256 → a < j → has m k ≡ true → Unbounded-at limits ceilings n k (getD others a 0)
+-- the rules before number j are open to the ceilings of the mask
+unfoldable pub Open-upto : List ℕ → ℕ → ℕ → ℕ → ℕ → List ℕ → List ℕ → ℕ → Mask → Type 0
+Open-upto limits ceilings n count kind tos others j m =
+    (k a : ℕ) → k < 256 → a < j → has m k ≡ true → Open-step limits ceilings n count k kind (getD tos a 0) (getD others a 0)
 
-module _ (limits : List ℕ) (ceilings n kind : ℕ) (tos others : List ℕ) where
-  pub open-start : (m : Mask) → Open-upto limits ceilings n kind tos others 0 m
-  open-start m = record { led = λ k a h l. absurd (omega arith); added = λ two k a h l. absurd (omega arith) }
+module _ (limits : List ℕ) (ceilings n count kind : ℕ) (tos others : List ℕ) where
+  pub open-start : (m : Mask) → Open-upto limits ceilings n count kind tos others 0 m
+  unfolding Open-upto
+  open-start m k a h l = absurd (omega arith)
 
-  pub open-next : (j : ℕ) (m r : Mask) → Open-upto limits ceilings n kind tos others j m → ((k : ℕ) → has r k ≡ true → has m k ≡ true) → ((k : ℕ) → k < 256 → has r k ≡ true → Unbounded-at limits ceilings n k (getD tos j 0)) → (2 ≤ kind → (k : ℕ) → k < 256 → has r k ≡ true → Unbounded-at limits ceilings n k (getD others j 0)) → Open-upto limits ceilings n kind tos others (j + 1) r
-  open-next j m r o kept led added =
-      record {
-        led = λ k a h l t. elim (ℕ-discrete a j) [ yes e ↦ rw e (led k h t) | no e ↦ o .led k a h (omega arith) (kept k t) ];
-        added = λ two k a h l t. elim (ℕ-discrete a j) [ yes e ↦ rw e (added two k h t) | no e ↦ o .added two k a h (omega arith) (kept k t) ];
-      }
+  pub open-next : (j : ℕ) (m r : Mask) → Open-upto limits ceilings n count kind tos others j m → ((k : ℕ) → has r k ≡ true → has m k ≡ true) → ((k : ℕ) → k < 256 → has r k ≡ true → Open-step limits ceilings n count k kind (getD tos j 0) (getD others j 0)) → Open-upto limits ceilings n count kind tos others (j + 1) r
+  unfolding Open-upto
+  open-next j m r o kept here k a h l t = elim (ℕ-discrete a j) [ yes e ↦ rw e (here k h t) | no e ↦ o k a h (omega arith) (kept k t) ]
+
+-- a bit of the masks by which a state is settled
+pub settled-bit : (l a first raised either all p q r : Bool) → all ≡ (l && either) → either ≡ (first || raised) → first ≡ p → raised ≡ (a && r) → r ≡ q → all ≡ (l && (p || a && q))
+settled-bit l a first raised either all p q r e f g h i = e ∙ rw (f, g, h, i)

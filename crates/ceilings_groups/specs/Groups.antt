@@ -1,5 +1,5 @@
--- The rules of each state as one: the ceilings that have no bound at any counter to which one of them adds.
-use Prim.Native.Nat.{ℕ, _*_, _≤_, _<_}
+-- The rules of each state as one: the ceilings that allow a count at every counter to which one of them adds.
+use Prim.Native.Nat.{ℕ, _+_, _*_, _≤_, _<_}
 use mathlib.Core.Path.{_≡_}
 use mathlib.Core.Bool.{Bool, true, not, _&&_}
 use mathlib.Core.Logic.{_⊎_}
@@ -11,7 +11,7 @@ use Rattle.model.specs.Rows.{Program}
 use Rattle.model.specs.Tables.{Tables, state-at}
 use Rattle.model.specs.Rules.{Rule, state-rules}
 use Rattle.model.specs.Markings.{Marking, usable, fire}
-use Rattle.model.specs.Ceilings.{Ceilings, under-some}
+use Rattle.model.specs.Ceilings.{Ceilings, allowed, under-some}
 use Rattle.bits.specs.Bits.{member}
 use Rattle.steps.specs.declared.Step.{Step}
 use Rattle.steps.specs.Steps.{less-if}
@@ -25,23 +25,35 @@ table-ceilings ceilings n limits = record { size = ceilings; counters = n; limit
 unfoldable pub escapes : Ceilings → Rule → Marking → Bool
 escapes bs ρ m = usable ρ m && not (under-some bs (fire ρ m))
 
--- counter y, where it is one of the n, is unbounded under ceiling k
-abbrev pub Unbounded-at : List ℕ → ℕ → ℕ → ℕ → ℕ → Type 0
-Unbounded-at limits ceilings n k y = y < n → held limits ceilings k y ≡ omega-limit
+-- ceiling k allows this count at counter y, where that is one of the n
+abbrev pub Allowed-at : List ℕ → ℕ → ℕ → ℕ → ℕ → ℕ → Type 0
+Allowed-at limits ceilings n count k y = y < n → allowed (held limits ceilings k y) count ≡ true
 
--- each counter is unbounded under ceiling k, or gets nothing by the rule
-abbrev pub Open-to : List ℕ → ℕ → ℕ → ℕ → Rule → Type 0
-Open-to limits ceilings n k ρ =
+-- ceiling k allows this count where a rule of this kind adds: where it leads, and what it puts or starts; and these are
+-- two counters
+abbrev pub Open-step : List ℕ → ℕ → ℕ → ℕ → ℕ → ℕ → ℕ → ℕ → Type 0
+Open-step limits ceilings n count k kind to other =
+    Allowed-at limits ceilings n count k to ×
+    (2 ≤ kind → Allowed-at limits ceilings n count k other × (to ≡ other → ⊥))
+
+-- each counter gets one at most by the rule and has this count allowed under ceiling k, or it gets nothing
+abbrev pub Open-to : List ℕ → ℕ → ℕ → ℕ → ℕ → Rule → Type 0
+Open-to limits ceilings n count k ρ =
     (m :
     Marking) (y : ℕ) → y < n →
-    (held limits ceilings k y ≡ omega-limit) ⊎ (fire ρ m y ≤ less-if (eqb y (ρ .from)) (m y))
+    ((allowed (held limits ceilings k y) count ≡ true) × (fire ρ m y ≤ m y + 1)) ⊎
+    (fire ρ m y ≤ less-if (eqb y (ρ .from)) (m y))
 
--- what is known of the states below e: their rules leave them, and are open to the ceilings of their set
+-- What is known of the states below e: their rules leave them; and are open to the ceilings of their two sets, to those
+-- of the first where no bound is asked for, to those of the second where one is.
 pub record Groups-upto (p : Program) (t : Tables) (limits : List ℕ) (ceilings n e : ℕ) (group : List ℕ) : Type 0 where
   pub leaves : (i : ℕ) (ρ : Rule) → i < e → List·Memᴰ ρ (state-rules p t i (state-at t i)) → ρ .from ≡ i
   pub opens :
-      (i k : ℕ) (ρ : Rule) → i < e → k < 256 → member group 4 i k ≡ true →
-      List·Memᴰ ρ (state-rules p t i (state-at t i)) → Open-to limits ceilings n k ρ
+      (i k : ℕ) (ρ : Rule) → i < e → k < 256 → member group 4 (2 * i) k ≡ true →
+      List·Memᴰ ρ (state-rules p t i (state-at t i)) → Open-to limits ceilings n omega-limit k ρ
+  pub opens-one :
+      (i k : ℕ) (ρ : Rule) → i < e → k < 256 → member group 4 (2 * i + 1) k ≡ true →
+      List·Memᴰ ρ (state-rules p t i (state-at t i)) → Open-to limits ceilings n 1 k ρ
 
 abbrev pub step : ℕ → ℕ → ℕ → ℕ → Step
 step from to kind other = record { from = from; to = to; kind = kind; other = other }

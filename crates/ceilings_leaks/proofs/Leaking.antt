@@ -8,6 +8,7 @@ use mathlib.Core.List.{List, [], _∷_, List·Memᴰ, List·Memᴰ·eq-of-single
 use lib.ListN.{length, getD}
 use lib.Dec.{eqb, leb}
 use borrow.Author.Tests.{eq-eqb, ne-eqb, lt-leb}
+use Rattle.model.specs.Limits.{omega-limit}
 use Rattle.model.specs.declared.Sizes.{Sizes}
 use Rattle.model.specs.declared.Verdict.the-variants.{Safe, Leak}
 use Rattle.model.specs.Index.{any, first}
@@ -44,9 +45,9 @@ use Rattle.ceilings_masks.specs.declared.Over.{Over}
 use Rattle.ceilings_masks.specs.Compared.{Holders, Counted, Neighbours}
 use Rattle.ceilings_covers.specs.Covers.{Beside, covers, passes, named, Candidates, Exact, sure, Step-apart}
 use Rattle.ceilings_covers.proofs.Covering.{covers-pass, pass-covers}
-use Rattle.ceilings_groups.specs.Groups.{table-ceilings, escapes, Unbounded-at, Groups-upto, step}
+use Rattle.ceilings_groups.specs.Groups.{table-ceilings, escapes, Open-step, Open-to, Groups-upto, step}
 use Rattle.ceilings_groups.proofs.Settling.{step-open}
-use Rattle.bits.specs.Bits.{Set-is}
+use Rattle.bits.specs.Bits.{member, Set-is}
 use Rattle.ceilings_groups.proofs.Leading.{any-skip, leads-none, leads-states, leads-listed, leads-same, listed-step, listed-member}
 
 and-none : (b : Bool) → (b && false) ≡ false
@@ -64,6 +65,9 @@ first-low a r f h e = let z = first-is a 256 f h .from in omega arith
 pub beside-at : (limits : List ℕ) (ceilings n k k₀ : ℕ) (holders unbounded : List ℕ) (over : Over) (short more : List ℕ) → k ≡ k₀ → n * ceilings ≤ length limits → ceilings ≤ 256 → k₀ < ceilings → Holders limits ceilings n holders unbounded → Counted limits ceilings n k₀ over → Neighbours limits ceilings n k₀ short more → n * 4 ≤ length short → n * 4 ≤ length more → Beside limits ceilings n k holders unbounded over short more
 beside-at limits ceilings n k k₀ holders unbounded over short more e room few below h c m a b =
     rw e (record { room = room; few = few; ceiling = below; held-by = h; counted = c; near = m; short-room = a; more-room = b })
+
+pub counted-at : (limits : List ℕ) (ceilings n k k₀ : ℕ) (over : Over) → k ≡ k₀ → Counted limits ceilings n k₀ over → Counted limits ceilings n k over
+counted-at limits ceilings n k k₀ over e c = rw e c
 
 -- the counters that a step names, one more
 pub named-next : (limits : List ℕ) (ceilings n k k′ : ℕ) (σ : Step) (b y : ℕ) → y ≡ named σ b → (y < n → passes limits ceilings k k′ σ y ≡ true) → ((x : ℕ) → x < b → named σ x < n → passes limits ceilings k k′ σ (named σ x) ≡ true) → (x : ℕ) → x < b + 1 → named σ x < n → passes limits ceilings k k′ σ (named σ x) ≡ true
@@ -316,7 +320,7 @@ pub leak-refused-at : (ws : List ℕ) (s : Sizes) (n : ℕ) (limits : List ℕ) 
 leak-refused-at ws s n limits ready counted table k k₀ at entry starts begins e h so out z is =
     leak-refused ws s n limits ready counted table k₀ at entry starts begins h so (rw (← e) out) z is
 
--- one state more: its rules leave it, and are open to the ceilings of its set
+-- one state more: its rules leave it, and are open to the ceilings of its sets
 listed-elim : (h : Kind) (i : ℕ) (tos others : List ℕ) (m : ℕ) (ρ : Rule) → List·Memᴰ ρ (listed-rules h i tos others m) → (j : ℕ) × (j < m) × (ρ ≡ listed-rule h i tos others j)
 unfolding listed-rules
 listed-elim h i tos others m ρ r =
@@ -325,28 +329,47 @@ listed-elim h i tos others m ρ r =
 
 module _ (ws : List ℕ) (s : Sizes) (n : ℕ) (limits : List ℕ) where
   pub groups-start : (group : List ℕ) → Groups-upto (program ws s) (tables ws s) limits (s .ceilings) n 0 group
-  groups-start group = record { leaves = λ i ρ h. absurd (omega arith); opens = λ i k ρ h. absurd (omega arith) }
+  groups-start group = record { leaves = λ i ρ h. absurd (omega arith); opens = λ i k ρ h. absurd (omega arith); opens-one = λ i k ρ h. absurd (omega arith) }
 
-  pub groups-next : (i m kd : ℕ) (tos others group group′ : List ℕ) (r : Mask) → State-rules (program ws s) (tables ws s) i tos others m → kd ≡ effect-kind (tag (program ws s) (right (tables ws s .states) i)) → kd ≤ 3 → ((k j : ℕ) → k < 256 → j < m → has r k ≡ true → Unbounded-at limits (s .ceilings) n k (getD tos j 0)) → (2 ≤ kd → (k j : ℕ) → k < 256 → j < m → has r k ≡ true → Unbounded-at limits (s .ceilings) n k (getD others j 0)) → Set-is 4 i (has r) group group′ → Groups-upto (program ws s) (tables ws s) limits (s .ceilings) n i group → Groups-upto (program ws s) (tables ws s) limits (s .ceilings) n (i + 1) group′
-  unfolding listed-rule
-  groups-next i m kd tos others group group′ r rs is small led added set g =
-      let tg : ℕ = tag (program ws s) (right (tables ws s .states) i) in
-      let found : (ρ : Rule) → List·Memᴰ ρ (state-rules (program ws s) (tables ws s) i (state-at (tables ws s) i)) → (j : ℕ) × (j < m) × (ρ ≡ listed-rule (kind tg) i tos others j) =
-      λ ρ w. listed-elim (kind tg) i tos others m ρ (subst (λ ρs. List·Memᴰ ρ ρs) (sym (rs .rules)) w) in
-      record {
-        leaves = λ x ρ h w. elim (ℕ-discrete x i) [
-          | yes z ↦ let (j, b, e) = found ρ (rw (← z) w) in rw z (ap (λ σ. σ .from) e)
-          | no z ↦ g .leaves x ρ (omega arith) w
-        ];
-        opens = λ x k ρ h l t w. elim (ℕ-discrete x i) [
-          | yes z ↦
-              let (j, b, e) = found ρ (rw (← z) w) in
-              let same : ρ ≡ rule-of-step (step i (getD tos j 0) kd (getD others j 0)) = e ∙ rw is (listed-step tg i tos others j) in
-              let in-set : has r k ≡ true = sym (set .here k l) ∙ rw (← z) t in
-              rw same (step-open limits (s .ceilings) n k (step i (getD tos j 0) kd (getD others j 0)) small (led k j l b in-set) (λ two. added two k j l b in-set))
-          | no z ↦ g .opens x k ρ (omega arith) l (sym (set .others x k l z) ∙ t) w
-        ];
-      }
+  module _ (i m kd : ℕ) (tos others : List ℕ) (rs : State-rules (program ws s) (tables ws s) i tos others m) where
+    abbrev tg : ℕ
+    tg = tag (program ws s) (right (tables ws s .states) i)
+
+    found : (ρ : Rule) → List·Memᴰ ρ (state-rules (program ws s) (tables ws s) i (state-at (tables ws s) i)) → (j : ℕ) × (j < m) × (ρ ≡ listed-rule (kind tg) i tos others j)
+    found ρ w = listed-elim (kind tg) i tos others m ρ (subst (λ ρs. List·Memᴰ ρ ρs) (sym (rs .rules)) w)
+
+    rules-leave : (ρ : Rule) → List·Memᴰ ρ (state-rules (program ws s) (tables ws s) i (state-at (tables ws s) i)) → ρ .from ≡ i
+    unfolding listed-rule
+    rules-leave ρ w = let (j, b, e) = found ρ w in ap (λ σ. σ .from) e
+
+    rules-open : (count k : ℕ) → kd ≡ effect-kind tg → kd ≤ 3 → ((j : ℕ) → j < m → Open-step limits (s .ceilings) n count k kd (getD tos j 0) (getD others j 0)) → (ρ : Rule) → List·Memᴰ ρ (state-rules (program ws s) (tables ws s) i (state-at (tables ws s) i)) → Open-to limits (s .ceilings) n count k ρ
+    rules-open count k is small opens ρ w =
+        let (j, b, e) = found ρ w in
+        let same : ρ ≡ rule-of-step (step i (getD tos j 0) kd (getD others j 0)) = e ∙ (listed-step tg i tos others j ∙ ap (λ x. rule-of-step (step i (getD tos j 0) x (getD others j 0))) (sym is)) in
+        rw same (step-open limits (s .ceilings) n count k (step i (getD tos j 0) kd (getD others j 0)) small (opens j b))
+
+    pub groups-next : (group group′ group″ : List ℕ) (q r : Mask) (a b : ℕ) → kd ≡ effect-kind tg → kd ≤ 3 → ((k j : ℕ) → k < 256 → j < m → has q k ≡ true → Open-step limits (s .ceilings) n omega-limit k kd (getD tos j 0) (getD others j 0)) → ((k j : ℕ) → k < 256 → j < m → has r k ≡ true → Open-step limits (s .ceilings) n 1 k kd (getD tos j 0) (getD others j 0)) → a ≡ 2 * i → Set-is 4 a (has q) group group′ → b ≡ 2 * i + 1 → Set-is 4 b (has r) group′ group″ → Groups-upto (program ws s) (tables ws s) limits (s .ceilings) n i group → Groups-upto (program ws s) (tables ws s) limits (s .ceilings) n (i + 1) group″
+    groups-next group group′ group″ q r a b is small first second at-a set at-b set′ g =
+        record {
+          leaves = λ x ρ h w. elim (ℕ-discrete x i) [
+            | yes z ↦ rw z (rules-leave ρ (rw (← z) w))
+            | no z ↦ g .leaves x ρ (omega arith) w
+          ];
+          opens = λ x k ρ h l t w. let kept = set′ .others (2 * x) k l (λ y. omega arith) in elim (ℕ-discrete x i) [
+            | yes z ↦
+                let here : 2 * x ≡ a = omega arith in
+                let in-set : has q k ≡ true = sym (set .here k l) ∙ (ap (λ y. member group′ 4 y k) (sym here) ∙ (sym kept ∙ t)) in
+                rules-open omega-limit k is small (λ j below. first k j l below in-set) ρ (rw (← z) w)
+            | no z ↦ g .opens x k ρ (omega arith) l (sym (set .others (2 * x) k l (λ y. omega arith)) ∙ (sym kept ∙ t)) w
+          ];
+          opens-one = λ x k ρ h l t w. elim (ℕ-discrete x i) [
+            | yes z ↦
+                let here : 2 * x + 1 ≡ b = omega arith in
+                let in-set : has r k ≡ true = sym (set′ .here k l) ∙ (ap (λ y. member group″ 4 y k) (sym here) ∙ t) in
+                rules-open 1 k is small (λ j below. second k j l below in-set) ρ (rw (← z) w)
+            | no z ↦ g .opens-one x k ρ (omega arith) l (sym (set .others (2 * x + 1) k l (λ y. omega arith)) ∙ (sym (set′ .others (2 * x + 1) k l (λ y. omega arith)) ∙ t)) w
+          ];
+        }
 
   pub groups-all : (i : ℕ) (group : List ℕ) → s .states ≤ i → Groups-upto (program ws s) (tables ws s) limits (s .ceilings) n i group → Groups-upto (program ws s) (tables ws s) limits (s .ceilings) n (s .states) group
-  groups-all i group h g = record { leaves = λ x ρ l. g .leaves x ρ (omega arith); opens = λ x k ρ l. g .opens x k ρ (omega arith) }
+  groups-all i group h g = record { leaves = λ x ρ l. g .leaves x ρ (omega arith); opens = λ x k ρ l. g .opens x k ρ (omega arith); opens-one = λ x k ρ l. g .opens-one x k ρ (omega arith) }

@@ -15,6 +15,7 @@ use lists::state_location;
 use masks::first_set;
 use masks::next_in;
 use masks::store;
+use model::OMEGA;
 use model::Sizes;
 use model::Verdict;
 use program::rows::tag;
@@ -60,8 +61,9 @@ pub struct Gathered {
     pub totals: Totals,
 }
 
-// For each state the ceilings that have no bound where its rules add. The rules are counted here too, so that they are
-// derived no more than three times: here, in the leak test, and where the listing is written.
+// For each state the ceilings that have no bound where its rules add, and those that hold one there. The rules are
+// counted here too, so that they are derived no more than three times: here, in the leak test, and where the listing is
+// written.
 pub fn fill_groups(
     ws: &[u16],
     s: Sizes,
@@ -90,7 +92,7 @@ pub fn fill_groups(
     requires { ⌜ Ceilings-ready (now ws) s n (now limits) (now starts) (now holders) (now unbounded) ⌝ }
     requires { ⌜ Entered (program (now ws) s) (tables (now ws) s) k (now at) ⌝ }
     requires { ⌜ Rule-room s (now tos) (now others) × (length (now tos) ≤ 65536) ⌝ }
-    requires { ⌜ s .states * 4 ≤ length (now group) ⌝ }
+    requires { ⌜ s .states * 8 ≤ length (now group) ⌝ }
     ensures { λ g. ⌜ Entered (program (now (ws .entry)) s) (tables (now (ws .entry)) s) (g .class) (now (at .exit)) ⌝ }
     ensures { λ _. ⌜ Groups-upto (program (now (ws .entry)) s) (tables (now (ws .entry)) s) (now (limits .entry))
         (s .ceilings) n (s .states) (now (group .exit)) ⌝ }
@@ -123,15 +125,34 @@ pub fn fill_groups(
         rules += m;
         rows += row_total(head, m);
         let kind = effect_kind(head);
+        let first = 2 * i;
         store(
             group,
-            i,
+            first,
             open_to_all(
                 limits,
                 s.ceilings,
                 n,
                 holders,
                 unbounded,
+                OMEGA,
+                kind,
+                tos,
+                others,
+                m,
+            ),
+        );
+        let second = 2 * i + 1;
+        store(
+            group,
+            second,
+            open_to_all(
+                limits,
+                s.ceilings,
+                n,
+                holders,
+                unbounded,
+                1,
                 kind,
                 tos,
                 others,
@@ -177,7 +198,7 @@ pub fn leak_check(
     requires { ⌜ Entered (program (now ws) s) (tables (now ws) s) «first_class» (now at) ⌝ }
     requires { ⌜ Groups-upto (program (now ws) s) (tables (now ws) s) (now limits) (s .ceilings) n (s .states)
         (now group) ⌝ }
-    requires { ⌜ s .states * 4 ≤ length (now group) ⌝ }
+    requires { ⌜ s .states * 8 ≤ length (now group) ⌝ }
     requires { ⌜ Rooms s n (now tos) (now others) (now short) (now more) ⌝ }
     ensures { λ r. ⌜ r ≡
         answer (leak-check (now (ws .entry)) s (ceilings-of (now (ws .entry)) s n)
@@ -206,7 +227,7 @@ pub fn leak_check(
                 k,
                 i,
             );
-            if settled(left, group, i) {
+            if settled(left, over.above, group, i) {
                 continue 'states;
             }
             class = turn_to(ws, s, class, at, i);

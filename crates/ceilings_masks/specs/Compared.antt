@@ -1,7 +1,7 @@
 -- Ceilings compared at a counter, and what the masks of a ceiling say of the others.
 use Prim.Native.Nat.{ℕ, _+_, _*_, _-_, _≤_, _<_}
 use mathlib.Core.Path.{_≡_}
-use mathlib.Core.Bool.{Bool, not, _&&_}
+use mathlib.Core.Bool.{Bool, true, not, _&&_}
 use mathlib.Core.List.{List}
 use lib.ListN.{length}
 use lib.Dec.{leb, ltb}
@@ -52,11 +52,15 @@ takes-more limits ceilings k x k′ = allows limits ceilings x (most limits ceil
 abbrev pub exceeded : List ℕ → ℕ → ℕ → ℕ → ℕ → ℕ
 exceeded limits ceilings e k k′ = count 0 e (exceeds limits ceilings k k′)
 
--- the ceilings that ceiling k exceeds at one, two and three counters below e
+-- the ceilings that ceiling k exceeds at one, two and three counters below e; and none but those that hold one more at
+-- each counter below e with a limit from 1 under ceiling k
 pub record Counted (limits : List ℕ) (ceilings e k : ℕ) (over : Over) : Type 0 where
   pub once : (k′ : ℕ) → k′ < ceilings → has (over .once) k′ ≡ leb 1 (exceeded limits ceilings e k k′)
   pub twice : (k′ : ℕ) → k′ < ceilings → has (over .twice) k′ ≡ leb 2 (exceeded limits ceilings e k k′)
   pub thrice : (k′ : ℕ) → k′ < ceilings → has (over .thrice) k′ ≡ leb 3 (exceeded limits ceilings e k k′)
+  pub above :
+      (x k′ : ℕ) → x < e → 1 ≤ held limits ceilings k x → k′ < 256 → has (over .above) k′ ≡ true →
+      takes-more limits ceilings k x k′ ≡ true
 
 -- the sets of two tables, for each counter below e with a limit from 1 under ceiling k
 pub record Neighbours (limits : List ℕ) (ceilings e k : ℕ) (short more : List ℕ) : Type 0 where

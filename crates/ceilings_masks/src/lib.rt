@@ -30,11 +30,13 @@ ghost use Rattle.ceilings.specs.Table.{Limits-table};
 ghost use Rattle.ceilings_masks.specs.Compared.{reaches, allows, Holders, exceeds, exceeds-by-one, takes-more};
 ghost use Rattle.ceilings_masks.specs.Compared.{Counted, Neighbours};
 
-// The ceilings that one ceiling exceeds at a counter, at two of them and at three.
+// The ceilings that one ceiling exceeds at a counter, at two of them and at three; and those that hold one more than it
+// at every counter that it limits.
 pub struct Over {
     pub once: Mask,
     pub twice: Mask,
     pub thrice: Mask,
+    pub above: Mask,
 }
 
 // How many of the ceilings stand in word i of a mask.
@@ -145,16 +147,18 @@ pub fn allowing(
     limits_from(limits, ceilings, x, count)
 }
 
-// The ceilings exceeded so far, and those exceeded at one counter more.
-fn over_more(o: Over, m: Mask) -> Over
+// What is known so far, and one counter more: m are exceeded there, and `next` hold one more there.
+fn over_more(o: Over, m: Mask, next: Mask) -> Over
     ensures { λ r. ⌜ ((k : ℕ) → has (r .once) k ≡ (has (o .once) k || has m k)) ⌝ }
     ensures { λ r. ⌜ ((k : ℕ) → has (r .twice) k ≡ (has (o .twice) k || has (o .once) k && has m k)) ⌝ }
     ensures { λ r. ⌜ ((k : ℕ) → has (r .thrice) k ≡ (has (o .thrice) k || has (o .twice) k && has m k)) ⌝ }
+    ensures { λ r. ⌜ ((k : ℕ) → has (r .above) k ≡ (has (o .above) k && has next k)) ⌝ }
 {
     Over {
         once: or(o.once, m),
         twice: or(o.twice, and(o.once, m)),
         thrice: or(o.thrice, and(o.twice, m)),
+        above: and(o.above, next),
     }
 }
 
@@ -199,8 +203,8 @@ fn put_counter(
     without(below(ceilings), held)
 }
 
-// Ceiling k, whose entries stand from e on, beside all others: where it exceeds them, and the two sets of each of its
-// counters.
+// Ceiling k, whose entries stand from e on, beside all others: where it exceeds them, which hold more, and the two sets
+// of each of its counters.
 pub fn compare(
     ws: &[u16],
     s: Sizes,
@@ -226,6 +230,7 @@ pub fn compare(
         once: none(),
         twice: none(),
         thrice: none(),
+        above: below(256),
     };
     let mut i = e;
     loop {
@@ -234,7 +239,7 @@ pub fn compare(
             return over;
         }
         let m = put_counter(limits, s.ceilings, n, holders, unbounded, k, x, short, more);
-        over = over_more(over, m);
+        over = over_more(over, m, load(more, x));
         i += 1;
     }
 }

@@ -125,7 +125,7 @@ pub all-cells : (s : Sizes) (n : ℕ) → n ≤ maxCounters → Within-limits pr
 all-cells s n h l = product-most n (s .ceilings) maxCounters maxCeilings (omega arith) (l .ceilings)
 
 -- sets of ceilings for n counters
-pub mask-room : (j k n : ℕ) (holders unbounded group short more : List ℕ) → n * 8 ≤ j → n * 4 ≤ k → Cleared j holders → Cleared k unbounded → Cleared k group → Cleared k short → Cleared k more → Mask-room n holders unbounded group short more
+pub mask-room : (j k n : ℕ) (holders unbounded group short more : List ℕ) → n * 8 ≤ j → n * 4 ≤ k → Cleared j holders → Cleared k unbounded → Cleared j group → Cleared k short → Cleared k more → Mask-room n holders unbounded group short more
 mask-room j k n holders unbounded group short more g h a b c d e =
     record {
       held = let q = a .room in omega arith;

@@ -16,6 +16,7 @@ use rooms::words16_258;
 use rooms::words16_2048;
 use rooms::words16_16384;
 use rooms::words64_130;
+use rooms::words64_256;
 use rooms::words64_512;
 use rooms::words64_1024;
 use rules::no_class;
@@ -39,7 +40,7 @@ pub struct Leaks {
     pub totals: Totals,
 }
 
-// Over lent sets of ceilings: one for each counter or state.
+// Over lent sets of ceilings.
 fn leaks_on(
     ws: &[u16],
     s: Sizes,
@@ -223,9 +224,9 @@ fn few_limits(
 {
     let mut limits = words16_2048();
     let mut ceiling_at = words16_258();
-    let mut holders = words64_512();
+    let mut holders = words64_256();
     let mut unbounded = words64_130();
-    let mut group = words64_130();
+    let mut group = words64_256();
     let mut short = words64_130();
     let mut more = words64_130();
     ceilings_on(
@@ -278,7 +279,7 @@ fn more_limits(
     let mut ceiling_at = words16_258();
     let mut holders = words64_1024();
     let mut unbounded = words64_512();
-    let mut group = words64_512();
+    let mut group = words64_1024();
     let mut short = words64_512();
     let mut more = words64_512();
     ceilings_on(
@@ -330,7 +331,7 @@ fn all_limits(
     let mut ceiling_at = words16_258();
     let mut holders = holder_masks();
     let mut unbounded = counter_masks();
-    let mut group = counter_masks();
+    let mut group = holder_masks();
     let mut short = counter_masks();
     let mut more = counter_masks();
     ceilings_on(

@@ -7,8 +7,8 @@ use ceilings_form::entries::ceiling_check;
 use closure_sized::open_verdict;
 use evidence::entries::entry_check;
 use grammar::row_check;
-use layout::ends::ends;
-use layout::inner::inners;
+use layout::ends::fill_ends;
+use layout::inner::fill_inners;
 use model::Sizes;
 use model::Verdict;
 use rooms::row_words16;
@@ -41,12 +41,14 @@ pub fn words_verdict(ws: &[u16], s: Sizes, flow: &mut [u64], lent: &mut [u32]) -
     if !is_safe(rows) {
         return rows;
     }
-    let unique = name_check(ws, s);
+    let mut binders = words16_512();
+    let unique = name_check(ws, s, &mut binders);
     if !is_safe(unique) {
         return unique;
     }
-    let afters = ends(ws, s);
-    let scopes = scope_check(ws, s, &afters);
+    let mut afters = row_words16();
+    fill_ends(ws, s, &mut afters);
+    let scopes = scope_check(ws, s, &afters, &binders);
     if !is_safe(scopes) {
         return scopes;
     }
@@ -58,7 +60,8 @@ pub fn words_verdict(ws: &[u16], s: Sizes, flow: &mut [u64], lent: &mut [u32]) -
     if !is_safe(entries) {
         return entries;
     }
-    let owners = inners(ws, s, &afters);
+    let mut owners = row_words16();
+    fill_inners(ws, s, &afters, &mut owners);
     let mut starts = row_words16();
     let mut branches = row_words16();
     let open = open_verdict(

@@ -1,6 +1,5 @@
 // Where expressions and patterns end: one table, filled from the last row to the first.
 use crate::tables::entry;
-use model::MAX_ROWS;
 use model::Sizes;
 use model::TAG_BUILD;
 use model::TAG_CALL;
@@ -14,7 +13,8 @@ use model::TAG_SPAWN;
 use program::rows::num;
 use program::rows::tag;
 ghost use mathlib.Core.Path.{_≡_};
-ghost use Prim.Native.Nat.{_+_, _<_};
+ghost use Prim.Native.Nat.{_+_, _≤_, _<_};
+ghost use lib.ListN.{length};
 ghost use Rattle.model.specs.Rows.{program};
 ghost use Rattle.program.specs.Rows.{Whole};
 ghost use Rattle.layout.specs.Tables.{After-from, After-table, Ends-at, Rest-at, hop};
@@ -92,18 +92,17 @@ fn end_row(ws: &[u16], s: Sizes, table: &[u16], r: usize) -> usize
 }
 
 // For each row where an expression or a pattern stands, the row after it.
-pub fn ends(ws: &[u16], s: Sizes) -> [u16; MAX_ROWS]
+pub fn fill_ends(ws: &[u16], s: Sizes, table: &mut [u16])
     requires { ⌜ Whole (now ws) s ⌝ }
-    ensures { λ t. ⌜ After-table (program (now (ws .entry)) s) t ⌝ }
+    requires { ⌜ s .rows ≤ length (now table) ⌝ }
+    ensures { λ _. ⌜ After-table (program (now (ws .entry)) s) (now (table .exit)) ⌝ }
 {
-    let mut table = [0u16; MAX_ROWS];
     let mut r = s.rows;
     while r > 0 {
         r -= 1;
-        let end = end_row(ws, s, &table, r);
+        let end = end_row(ws, s, table, r);
         if end <= s.rows {
             table[r] = end as u16;
         }
     }
-    table
 }

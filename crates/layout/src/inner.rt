@@ -1,6 +1,5 @@
 // The innermost function around each row.
 use crate::tables::entry;
-use model::MAX_ROWS;
 use model::Sizes;
 use model::TAG_FUNCTION;
 use model::TAG_GLOBAL;
@@ -9,7 +8,8 @@ use program::rows::tag;
 ghost use mathlib.Core.Path.{_≡_};
 ghost use mathlib.Core.Bool.{true, _||_};
 ghost use mathlib.Core.Option.{none};
-ghost use Prim.Native.Nat.{_<_, _+_};
+ghost use Prim.Native.Nat.{_+_, _≤_, _<_};
+ghost use lib.ListN.{length};
 ghost use lib.Dec.{eqb};
 ghost use Rattle.model.specs.Rows.{program, body-form, past-items, row-check};
 ghost use Rattle.model.specs.Heads.{is-function, innermost};
@@ -56,20 +56,19 @@ fn around(ws: &[u16], s: Sizes, ends: &[u16], inner: &[u16], f: usize, r: usize)
 }
 
 // For each row the innermost function around it; the number of rows where there is none.
-pub fn inners(ws: &[u16], s: Sizes, ends: &[u16]) -> [u16; MAX_ROWS]
+pub fn fill_inners(ws: &[u16], s: Sizes, ends: &[u16], table: &mut [u16])
     requires { ⌜ Whole (now ws) s ⌝ }
     requires { ⌜ row-check (program (now ws) s) ≡ none ⌝ }
     requires { ⌜ After-table (program (now ws) s) (now ends) ⌝ }
-    ensures { λ t. ⌜ Inner-upto (program (now (ws .entry)) s) (s .rows) t ⌝ }
+    requires { ⌜ s .rows ≤ length (now table) ⌝ }
+    ensures { λ _. ⌜ Inner-upto (program (now (ws .entry)) s) (s .rows) (now (table .exit)) ⌝ }
 {
-    let mut table = [s.rows as u16; MAX_ROWS];
     let mut before = s.rows;
     let mut r = 0;
     while r < s.rows {
-        let at = around(ws, s, ends, &table, before, r);
+        let at = around(ws, s, ends, table, before, r);
         table[r] = at as u16;
         before = if is_function(tag(ws, s, r)) { r } else { at };
         r += 1;
     }
-    table
 }

@@ -178,8 +178,8 @@ module _ (ws : List ℕ) (s : Sizes) (q u w : ℕ) (sets t : List ℕ) (b : Bool
   put-class ew is put = rw (← ew) (joined-same _ (λ v l. sym (equal-class (program ws s) (program-end ws s (size (program ws s)) (omega arith)) v u (sym class ∙ is))) (joined-put u put))
 
   module _ (kind : ℕ) (tagged : kind ≡ tag (program ws s) u) (is : b ≡ false) where
-    pub put-build : (k : ℕ) → kind ≡ 2 → k ≡ num (program ws s) (u + 1) → Joined (width (s .rows)) q (is-build (program ws s) k) sets t → Put-equals
-    put-build k two same j = joined-same _ (λ v l. ap (λ i. is-build (program ws s) i v) same ∙ sym (equal-build (program ws s) v u (sym class ∙ is) (sym tagged ∙ two))) j
+    pub put-build : kind ≡ 2 → Joined (width (s .rows)) q (is-build (program ws s) (num (program ws s) (u + 1))) sets t → Put-equals
+    put-build two j = joined-same _ (λ v l. sym (equal-build (program ws s) v u (sym class ∙ is) (sym tagged ∙ two))) j
 
     pub put-none : (kind ≡ 2 → ⊥) → sets ≡ t → Put-equals
     put-none other same = rw (← same) (joined-there _ (λ v l z. true-false z (equal-none (program ws s) v u (sym class ∙ is) (λ y. other (tagged ∙ y)))))

@@ -18,24 +18,26 @@ ghost use Rattle.lists.specs.Ready.{Ready};
 ghost use Rattle.values.specs.Values.{width, Flow-sets};
 ghost use Rattle.matching.specs.Patterns.{Builds, is-build, Clear, Joined, Alike, equals-some};
 
-// Puts all builds of the constructor k into set q.
+// Puts all builds of the constructor that row u builds into set q.
 fn put_builds(
     ws: &[u16],
     s: Sizes,
     firsts: &[u16],
     nexts: &[u16],
-    k: usize,
+    u: usize,
     sets: &mut [u64],
     q: usize,
 )
     requires { ⌜ Ready (now ws) s ⌝ }
     requires { ⌜ Builds (program (now ws) s) (now firsts) (now nexts) ⌝ }
-    requires { ⌜ k < s .constructors ⌝ }
+    requires { ⌜ (tag (program (now ws) s) u ≡ 2) × (u < s .rows) ⌝ }
     requires { ⌜ Row (now sets) (width (s .rows)) q ⌝ }
-    ensures { λ _. ⌜ Joined (width (s .rows)) q (is-build (program (now (ws .entry)) s) k) (now (sets .entry))
+    ensures { λ _. ⌜ Joined (width (s .rows)) q
+        (is-build (program (now (ws .entry)) s) (num (program (now (ws .entry)) s) (u + 1))) (now (sets .entry))
         (now (sets .exit)) ⌝ }
 {
     let w = width(s);
+    let k = num(ws, s, u + 1);
     let mut v = word(firsts, k);
     while v < s.rows {
         put(sets, w, q, v);
@@ -72,8 +74,7 @@ fn put_equals(
     if holds(sets, w, q, u) {
         return;
     }
-    let k = num(ws, s, u + 1);
-    put_builds(ws, s, firsts, nexts, k, sets, q);
+    put_builds(ws, s, firsts, nexts, u, sets, q);
 }
 
 // The set of the held name at row q.

@@ -15,7 +15,7 @@ use Rattle.model.specs.Cases.{refused, safe, a-listing}
 
 -- A run, and its processes then: of each its class, its place, and the letters in its mailbox with their count
 -- before them
-pub record Run-case : Type 0 where
+pub record Held-run : Type 0 where
   pub program : List ℕ
   pub numbers : List ℕ
   pub expected : List ℕ
@@ -23,12 +23,12 @@ pub record Run-case : Type 0 where
 unfoldable pub process-words : Program → Process → List ℕ
 process-words p q = q .class ∷ q .location ∷ length (q .mailbox) ∷ map (value-letter p) (q .mailbox)
 
-unfoldable pub reached : Run-case → List ℕ
+unfoldable pub reached : Held-run → List ℕ
 reached k =
     let p : Program = program (k .program) (sizes (k .program)) in from-all (run p (k .numbers)) (process-words p)
 
 -- process 0 makes so many steps, and these are the processes then
-abbrev steps : List ℕ → ℕ → List ℕ → Run-case
+abbrev steps : List ℕ → ℕ → List ℕ → Held-run
 steps program n expected = record { program = program; numbers = replicate n 0; expected = expected }
 
 -- A bad on a letter that has no counter, and one ceiling without limits: the verdict hangs on the tables alone.
@@ -182,6 +182,66 @@ passed-over-listing =
     50 ∷ 51 ∷ 50 ∷ 51 ∷ 50 ∷ 51 ∷ 50 ∷ 51 ∷ 53 ∷ 50 ∷ 51 ∷ 53 ∷ 50 ∷ 51 ∷ 52 ∷
     0 ∷ 1 ∷ 1 ∷ 2 ∷ 2 ∷ 3 ∷ 3 ∷ 4 ∷ 7 ∷ 4 ∷ 5 ∷ 8 ∷ 5 ∷ 6 ∷ 8 ∷ []
 
+-- f() = receive { _ -> f }; x = self; y = spawn f; send x y; receive { =N -> x }, where the name N is given: an address
+-- in the mail of the start's class 14, of class 6. Branch in row 13.
+unfoldable pub address-sent : ℕ → List ℕ
+address-sent n =
+    program-words 4 0 1
+    ((11, 0) ∷ (22, 0) ∷ (9, 1) ∷ (32, 0) ∷ (1, 0) ∷
+    (7, 1) ∷
+    (6, 2) ∷ (21, 0) ∷
+    (5, 3) ∷ (21, 1) ∷ (21, 2) ∷
+    (9, 1) ∷ (33, n) ∷ (1, 1) ∷ [])
+
+unfoldable pub address-tables : List ℕ
+address-tables =
+    table-words ((0, 0) ∷ (1, 14) ∷ (2, 6) ∷ (3, 6) ∷ []) ((14, 6) ∷ [])
+    ((6, 2) ∷ (14, 5) ∷ (14, 6) ∷ (14, 8) ∷ (14, 11) ∷ (14, 13) ∷ [])
+
+-- the message is sent, and no rule reads it
+unfoldable pub address-unread : List ℕ
+address-unread =
+    6 ∷ 1 ∷ 3 ∷ 8 ∷ 50 ∷ 51 ∷ 50 ∷ 51 ∷ 54 ∷ 50 ∷ 51 ∷ 53 ∷ 1 ∷ 2 ∷ 2 ∷ 3 ∷ 0 ∷ 3 ∷ 4 ∷ 6 ∷ []
+
+-- pick(a) = w = c1; case w of { =a -> a; _ -> w }; then u = c0; v = c1; d = pick(u); e = pick(v); d: the values of a
+-- are rows 13, a c0, and 15, a c1. Branches in rows 10 and 12.
+unfoldable pub two-values : List ℕ
+two-values =
+    program-words 7 2 1
+    ((10, 0) ∷ (10, 0) ∷
+    (11, 0) ∷ (22, 1) ∷ (23, 1) ∷
+    (2, 2) ∷ (20, 1) ∷
+    (8, 2) ∷ (25, 2) ∷ (33, 1) ∷ (1, 1) ∷ (32, 0) ∷ (1, 2) ∷
+    (2, 3) ∷ (20, 0) ∷
+    (2, 4) ∷ (20, 1) ∷
+    (4, 5) ∷ (21, 0) ∷ (22, 1) ∷ (21, 3) ∷
+    (4, 6) ∷ (21, 0) ∷ (22, 1) ∷ (21, 4) ∷
+    (1, 5) ∷ [])
+
+unfoldable pub two-values-tables : Pairs → List ℕ
+two-values-tables branches =
+    table-words
+    ((0, 2) ∷ (1, 13) ∷ (1, 15) ∷ (2, 5) ∷ (3, 13) ∷ (4, 15) ∷ (5, 5) ∷ (5, 13) ∷ (5, 15) ∷ (6, 5) ∷ (6, 13) ∷
+    (6, 15) ∷ []) []
+    (((26, 5) ∷ (26, 7) ∷ []) ++ branches ++
+    ((26, 13) ∷ (26, 15) ∷ (26, 17) ∷ (26, 21) ∷ (26, 25) ∷ []))
+
+-- f(a) = m = c0(a); m, which nobody calls; x = self; y = c0(x); case y of { =x -> x }: branch in row 15
+unfoldable pub valueless-argument : List ℕ
+valueless-argument =
+    program-words 5 1 1
+    ((10, 1) ∷
+    (11, 0) ∷ (22, 1) ∷ (23, 1) ∷
+    (2, 2) ∷ (20, 0) ∷ (21, 1) ∷ (1, 2) ∷
+    (7, 3) ∷
+    (2, 4) ∷ (20, 0) ∷ (21, 3) ∷
+    (8, 4) ∷ (25, 1) ∷ (33, 3) ∷ (1, 3) ∷ [])
+
+-- the values of x are given, among them that of its own class
+unfoldable pub valueless-argument-tables : Pairs → List ℕ
+valueless-argument-tables xs =
+    table-words (((0, 1) ∷ []) ++ xs ++ ((4, 9) ∷ [])) [] ((16, 8) ∷ (16, 9) ∷ (16, 12) ∷ (16, 15) ∷ [])
+
 unfoldable pub held-cases : List Case
 held-cases =
     -- R 20, so 6 is at word 46. Names in scope at the receive: x at both; y, of the branch, at the second
@@ -223,9 +283,26 @@ held-cases =
     (quiet-listing 10 ((0, 1) ∷ (1, 2) ∷ (2, 3) ∷ (3, 4) ∷ (4, 5) ∷ (5, 6) ∷ (5, 7) ∷ (7, 8) ∷ (7, 9) ∷ [])) ∷
     -- a receive by a held name alone
     safe 3 passed-over (held-message passed-over 16 2 passed-over-tables 9) passed-over-listing ∷
+    -- an address in the mail: a held name of its class reads it, one of another class does not, nor does a function
+    safe 3 (address-sent 2) (held-message (address-sent 2) 14 0 address-tables 7)
+    (6 ∷ 1 ∷ 4 ∷ 11 ∷ 50 ∷ 51 ∷ 50 ∷ 51 ∷ 54 ∷ 50 ∷ 51 ∷ 53 ∷ 50 ∷ 51 ∷ 52 ∷
+    1 ∷ 2 ∷ 2 ∷ 3 ∷ 0 ∷ 3 ∷ 4 ∷ 6 ∷ 4 ∷ 5 ∷ 6 ∷ []) ∷
+    safe 3 (address-sent 1) (held-message (address-sent 1) 14 0 address-tables 7) address-unread ∷
+    safe 3 (address-sent 0) (held-message (address-sent 0) 14 0 address-tables 7) address-unread ∷
+    -- two values, of which the second alone may match; without its branch state 1 lacks it: the first columns begin at
+    -- word 69, twelve of flow
+    safe 3 two-values (held-message two-values 26 0 (two-values-tables ((26, 10) ∷ (26, 12) ∷ [])) 9)
+    (quiet-listing 9
+    ((0, 1) ∷ (1, 2) ∷ (1, 3) ∷ (2, 7) ∷ (2, 8) ∷ (3, 7) ∷ (3, 8) ∷ (4, 5) ∷ (5, 6) ∷ (6, 0) ∷ (7, 0) ∷ [])) ∷
+    refused 9 (held-message two-values 26 0 (two-values-tables ((26, 12) ∷ [])) 8) 8 82 ∷
+    -- the values of x with row 4 among them, by an extra entry: a c0 as y is, whose argument has no value; and without
+    safe 3 valueless-argument (held-message valueless-argument 16 0 (valueless-argument-tables ((3, 4) ∷ (3, 16) ∷ [])) 4)
+    (quiet-listing 4 ((0, 1) ∷ (1, 2) ∷ (2, 3) ∷ [])) ∷
+    safe 3 valueless-argument (held-message valueless-argument 16 0 (valueless-argument-tables ((3, 16) ∷ [])) 4)
+    (quiet-listing 4 ((0, 1) ∷ (1, 2) ∷ [])) ∷
     []
 
-unfoldable pub held-runs : List Run-case
+unfoldable pub held-runs : List Held-run
 held-runs =
     -- the own address is the one held
     steps (sent (33, 0)) 4 (12 ∷ 11 ∷ 0 ∷ []) ∷
@@ -244,4 +321,10 @@ held-runs =
     steps other-arguments 7 (27 ∷ 24 ∷ 0 ∷ []) ∷
     -- the earlier message is no match, is passed over and stays
     steps passed-over 6 (16 ∷ 15 ∷ 1 ∷ 0 ∷ []) ∷
+    -- the address of the other process is that one's, and not the own
+    steps (address-sent 2) 4 (14 ∷ 13 ∷ 0 ∷ 6 ∷ 2 ∷ 0 ∷ []) ∷
+    steps (address-sent 1) 4 (14 ∷ 11 ∷ 1 ∷ 1 ∷ 6 ∷ 2 ∷ 0 ∷ []) ∷
+    -- the first call holds a c0, the second a c1
+    steps two-values 5 (26 ∷ 12 ∷ 0 ∷ []) ∷
+    steps two-values 9 (26 ∷ 10 ∷ 0 ∷ []) ∷
     []

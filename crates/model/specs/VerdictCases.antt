@@ -872,7 +872,7 @@ held-classes-listing =
     (50 ∷ 51 ∷ 50 ∷ 51 ∷ 54 ∷ 50 ∷ 51 ∷ 54 ∷ 50 ∷ 51 ∷ 50 ∷ 51 ∷ 50 ∷ 51 ∷ 50 ∷ 51 ∷ 50 ∷ 51 ∷ []) ++
     (2 ∷ 3 ∷ 3 ∷ 4 ∷ 0 ∷ 4 ∷ 5 ∷ 1 ∷ 5 ∷ 6 ∷ 6 ∷ 7 ∷ 7 ∷ 8 ∷ 8 ∷ 9 ∷ 8 ∷ 10 ∷ [])
 
--- Arguments are not compared, and the held name may have values of two constructors.
+-- Arguments are not compared: by rows alone two boxes may be equal.
 --     constructors a/0, b/0, box/1, none/0.
 --     function send(To, X) -> To ! X.
 --     start ->
@@ -915,6 +915,76 @@ held-arguments-listing =
     50 ∷ 51 ∷ 50 ∷ 51 ∷ 52 ∷ 50 ∷ 51 ∷ 52 ∷ 50 ∷ 51 ∷ 52 ∷ []) ++
     (0 ∷ 1 ∷ 12 ∷ 0 ∷ 1 ∷ 13 ∷ 1 ∷ 8 ∷ 1 ∷ 9 ∷ 2 ∷ 3 ∷ 3 ∷ 4 ∷ 4 ∷ 5 ∷ 5 ∷ 6 ∷ 6 ∷ 7 ∷ 7 ∷ 0 ∷ 8 ∷ 0 ∷ 9 ∷ 10 ∷ 13 ∷
     9 ∷ 11 ∷ 12 ∷ 9 ∷ 11 ∷ 13 ∷ [])
+
+-- A held name with two values, in the order of their rows an a and a b.
+--     constructors a/0, b/0, none/0.
+--     function pick(A) -> B = b, case B of ^A -> A; _ -> B end.
+--     start ->
+--         U = a,
+--         V = b,
+--         pick(U),
+--         pick(V).
+--     bad none: start holds none >= 1.
+unfoldable pub held-two-values-program : List ℕ
+held-two-values-program =
+    program-words 7 3 1
+    ((10, 0) ∷ (10, 0) ∷ (10, 0) ∷ (11, 0) ∷ (22, 1) ∷ (23, 1) ∷ (2, 2) ∷ (20, 1) ∷ (8, 2) ∷ (25, 2) ∷ (33, 1) ∷
+    (1, 1) ∷ (32, 0) ∷ (1, 2) ∷ (2, 3) ∷ (20, 0) ∷ (2, 4) ∷ (20, 1) ∷ (4, 5) ∷ (21, 0) ∷ (22, 1) ∷ (21, 3) ∷ (4, 6) ∷
+    (21, 0) ∷ (22, 1) ∷ (21, 4) ∷ (1, 6) ∷ [])
+
+unfoldable pub held-two-values-words : List ℕ
+held-two-values-words =
+    held-two-values-program ++
+    bad-words 1
+    ((40, 27) ∷ (42, 2) ∷ (43, 1) ∷ (44, 0) ∷ []) ++
+    table-words
+    ((0, 3) ∷ (1, 14) ∷ (1, 16) ∷ (2, 6) ∷ (3, 14) ∷ (4, 16) ∷ (5, 6) ∷ (5, 14) ∷ (5, 16) ∷ (6, 6) ∷ (6, 14) ∷
+    (6, 16) ∷ [])
+    []
+    ((27, 6) ∷ (27, 8) ∷ (27, 11) ∷ (27, 13) ∷ (27, 14) ∷ (27, 16) ∷ (27, 18) ∷ (27, 22) ∷ (27, 26) ∷ []) ++
+    ceiling-words 1
+    ((0, 65535) ∷ (1, 65535) ∷ (2, 65535) ∷ (3, 65535) ∷ (4, 65535) ∷ (5, 65535) ∷ (6, 65535) ∷ (7, 65535) ∷
+    (8, 65535) ∷ (9, 0) ∷ [])
+
+unfoldable pub held-two-values-listing : List ℕ
+held-two-values-listing =
+    (9 ∷ 0 ∷ 11 ∷ 22 ∷ []) ++
+    (50 ∷ 51 ∷ 50 ∷ 51 ∷ 50 ∷ 51 ∷ 50 ∷ 51 ∷ 50 ∷ 51 ∷ 50 ∷ 51 ∷ 50 ∷ 51 ∷ 50 ∷ 51 ∷ 50 ∷ 51 ∷ 50 ∷ 51 ∷ 50 ∷ 51 ∷ [])
+    ++
+    (0 ∷ 1 ∷ 1 ∷ 2 ∷ 1 ∷ 3 ∷ 2 ∷ 7 ∷ 2 ∷ 8 ∷ 3 ∷ 7 ∷ 3 ∷ 8 ∷ 4 ∷ 5 ∷ 5 ∷ 6 ∷ 6 ∷ 0 ∷ 7 ∷ 0 ∷ [])
+
+-- A held name as the whole pattern of a receive, and an address in the mailbox.
+--     constructors none/0.
+--     start ->
+--         Me = self(),
+--         P = spawn(fun() -> Q = self(), Q end),
+--         Me ! P,
+--         receive ^Me -> Me; ^P -> P end.
+--     bad none: start holds none >= 1.
+unfoldable pub held-in-mail-program : List ℕ
+held-in-mail-program =
+    program-words 5 1 0
+    ((10, 0) ∷ (7, 0) ∷ (3, 1) ∷ (22, 0) ∷ (7, 2) ∷ (1, 2) ∷ (6, 3) ∷ (21, 1) ∷ (5, 4) ∷ (21, 0) ∷ (21, 3) ∷ (9, 2) ∷
+    (33, 0) ∷ (1, 0) ∷ (33, 3) ∷ (1, 3) ∷ [])
+
+unfoldable pub held-in-mail-words : List ℕ
+held-in-mail-words =
+    held-in-mail-program ++
+    bad-words 1
+    ((40, 16) ∷ (42, 0) ∷ (43, 1) ∷ (44, 0) ∷ []) ++
+    table-words
+    ((0, 16) ∷ (1, 2) ∷ (2, 6) ∷ (3, 6) ∷ (4, 6) ∷ [])
+    ((16, 6) ∷ [])
+    ((6, 4) ∷ (6, 5) ∷ (16, 1) ∷ (16, 2) ∷ (16, 6) ∷ (16, 8) ∷ (16, 11) ∷ (16, 15) ∷ []) ++
+    ceiling-words 1
+    ((0, 65535) ∷ (1, 65535) ∷ (2, 65535) ∷ (3, 65535) ∷ (4, 65535) ∷ (5, 65535) ∷ (6, 65535) ∷ (7, 65535) ∷
+    (8, 65535) ∷ (9, 0) ∷ [])
+
+unfoldable pub held-in-mail-listing : List ℕ
+held-in-mail-listing =
+    (8 ∷ 1 ∷ 6 ∷ 15 ∷ []) ++
+    (50 ∷ 51 ∷ 50 ∷ 51 ∷ 50 ∷ 51 ∷ 50 ∷ 51 ∷ 54 ∷ 50 ∷ 51 ∷ 53 ∷ 50 ∷ 51 ∷ 52 ∷ []) ++
+    (0 ∷ 1 ∷ 2 ∷ 3 ∷ 3 ∷ 4 ∷ 4 ∷ 5 ∷ 0 ∷ 5 ∷ 6 ∷ 8 ∷ 6 ∷ 7 ∷ 8 ∷ [])
 
 unfoldable pub verdict-cases : List Verdict-case
 verdict-cases =
@@ -1333,6 +1403,10 @@ listing-cases =
     -- The first branch may take the box whatever it holds, the second none, as what the box holds is no b, the third
     -- none.
     safe 2 held-arguments-program (to-bytes held-arguments-words) held-arguments-listing ∷
+    -- The first branch may take the b, because of the second value alone.
+    safe 2 held-two-values-program (to-bytes held-two-values-words) held-two-values-listing ∷
+    -- The address is of P's class: the first branch reads no letter, the second that of addresses.
+    safe 2 held-in-mail-program (to-bytes held-in-mail-words) held-in-mail-listing ∷
     []
 
 -- the definitions above opened at once, for the theorems that compute the table
@@ -1353,5 +1427,6 @@ unfolding bads-sizes-program bads-sizes-words tables-sizes-program tables-sizes-
     class-before-letter-words class-before-letter-listing read-before-program read-before-words read-before-listing
     held-scope-program held-scope-words held-depth-program held-depth-words held-too-deep-program held-too-deep-words
     held-classes-program held-classes-words held-classes-listing held-arguments-program held-arguments-words
-    held-arguments-listing verdict-cases listing-cases
+    held-arguments-listing held-two-values-program held-two-values-words held-two-values-listing held-in-mail-program
+    held-in-mail-words held-in-mail-listing verdict-cases listing-cases
 verdict-cases-opens = tt

@@ -72,6 +72,12 @@ pub fn words64_130() -> [u64; 130]
     [0; 130]
 }
 
+pub fn words64_256() -> [u64; 256]
+    ensures { λ r. ⌜ Cleared 256 r ⌝ }
+{
+    [0; 256]
+}
+
 pub fn words64_512() -> [u64; 512]
     ensures { λ r. ⌜ Cleared 512 r ⌝ }
 {

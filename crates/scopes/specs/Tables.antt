@@ -12,6 +12,10 @@ use Rattle.model.specs.Scopes.{binder, next-head}
 pub record Binder-table (p : Program) (table : List ℕ) : Type 0 where
   pub binders : (n : ℕ) → n < p .names → getD table n 0 ≡ binder p n
 
+-- the names before e have the number of rows: no row binds them
+pub record Unbound (p : Program) (e : ℕ) (table : List ℕ) : Type 0 where
+  pub rows : (n : ℕ) → n < e → getD table n 0 ≡ size p
+
 -- some row binds the name n
 unfoldable pub is-bound : Program → ℕ → Bool
 is-bound p n = ltb (binder p n) (size p)

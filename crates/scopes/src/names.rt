@@ -1,6 +1,5 @@
 // Where names are bound; refusal 4.
 use layout::tables::entry;
-use model::MAX_NAMES;
 use model::Sizes;
 use model::TAG_BUILD;
 use model::TAG_GLOBAL;
@@ -12,13 +11,14 @@ use program::rows::num;
 use program::rows::tag;
 ghost use mathlib.Core.Path.{_≡_};
 ghost use mathlib.Core.Option.{none};
-ghost use Prim.Native.Nat.{_<_};
+ghost use Prim.Native.Nat.{_≤_, _<_};
+ghost use lib.ListN.{length};
 ghost use Rattle.model.specs.Index.{first, all};
 ghost use Rattle.model.specs.Rows.{program, row-check};
 ghost use Rattle.model.specs.Scopes.{binds, bound-again, name-check};
 ghost use Rattle.model.specs.Verify.{answer};
 ghost use Rattle.program.specs.Rows.{Whole};
-ghost use Rattle.scopes.specs.Tables.{Binder-table, is-bound};
+ghost use Rattle.scopes.specs.Tables.{Binder-table, Unbound, is-bound};
 
 // The tags of the rows that bind a name.
 fn binds(t: usize) -> bool
@@ -31,12 +31,24 @@ fn binds(t: usize) -> bool
     }
 }
 
-// For each name the row that binds it first; the number of rows where none does.
-pub fn binders(ws: &[u16], s: Sizes) -> [u16; MAX_NAMES]
+// No name has a binder yet: each has the number of rows.
+fn blank_binders(ws: &[u16], s: Sizes, table: &mut [u16])
     requires { ⌜ Whole (now ws) s ⌝ }
-    ensures { λ t. ⌜ Binder-table (program (now (ws .entry)) s) t ⌝ }
+    requires { ⌜ s .names ≤ length (now table) ⌝ }
+    ensures { λ _. ⌜ Unbound (program (now (ws .entry)) s) (s .names) (now (table .exit)) ⌝ }
 {
-    let mut table = [s.rows as u16; MAX_NAMES];
+    for n in 0..s.names {
+        table[n] = s.rows as u16;
+    }
+}
+
+// For each name the row that binds it first; the number of rows where none does.
+fn fill_binders(ws: &[u16], s: Sizes, table: &mut [u16])
+    requires { ⌜ Whole (now ws) s ⌝ }
+    requires { ⌜ s .names ≤ length (now table) ⌝ }
+    ensures { λ _. ⌜ Binder-table (program (now (ws .entry)) s) (now (table .exit)) ⌝ }
+{
+    blank_binders(ws, s, table);
     let mut r = s.rows;
     while r > 0 {
         r -= 1;
@@ -47,7 +59,6 @@ pub fn binders(ws: &[u16], s: Sizes) -> [u16; MAX_NAMES]
             }
         }
     }
-    table
 }
 
 // Row r binds a name that an earlier row binds.
@@ -99,19 +110,21 @@ fn all_bound(ws: &[u16], s: Sizes, table: &[u16]) -> bool
     true
 }
 
-// Refusal 4: the first row that binds a name again, or a name that no row binds.
-pub fn name_check(ws: &[u16], s: Sizes) -> Verdict
+// Refusal 4: the first row that binds a name again, or a name that no row binds. The binders are left in the table.
+pub fn name_check(ws: &[u16], s: Sizes, table: &mut [u16]) -> Verdict
     requires { ⌜ Whole (now ws) s ⌝ }
     requires { ⌜ row-check (program (now ws) s) ≡ none ⌝ }
+    requires { ⌜ s .names ≤ length (now table) ⌝ }
     ensures { λ v. ⌜ v ≡ answer (name-check (program (now (ws .entry)) s)) ⌝ }
+    ensures { λ _. ⌜ Binder-table (program (now (ws .entry)) s) (now (table .exit)) ⌝ }
 {
-    let table = binders(ws, s);
-    let r = first_again(ws, s, &table);
+    fill_binders(ws, s, table);
+    let r = first_again(ws, s, table);
     if r < s.rows {
         let place = 4 + r;
         return Verdict::Name(place);
     }
-    if all_bound(ws, s, &table) {
+    if all_bound(ws, s, table) {
         Verdict::Safe
     } else {
         Verdict::Name(1)

@@ -1,8 +1,6 @@
 // Where names hold; refusal 5. The tables are lent: binders by name, ends and next heads by row.
-use crate::names::binders;
 use layout::ends::rest_row;
 use layout::tables::entry;
-use model::MAX_ROWS;
 use model::Sizes;
 use model::TAG_CASE;
 use model::TAG_GIVE;
@@ -12,10 +10,12 @@ use model::TAG_PATTERN_HELD;
 use model::Verdict;
 use program::rows::num;
 use program::rows::tag;
+use rooms::row_words16;
 ghost use mathlib.Core.Path.{_≡_};
 ghost use mathlib.Core.Bool.{true};
 ghost use mathlib.Core.Option.{none};
-ghost use Prim.Native.Nat.{_<_};
+ghost use Prim.Native.Nat.{_≤_, _<_};
+ghost use lib.ListN.{length};
 ghost use Rattle.model.specs.Index.{first};
 ghost use Rattle.model.specs.Rows.{program, tag, is-head, row-check};
 ghost use Rattle.model.specs.Scopes.{binds, uses, rest, holds-in, in-scope, out-of-scope, scope-check};
@@ -42,11 +42,11 @@ fn uses(t: usize) -> bool
 }
 
 // For each row the next head from there on; the number of rows where there is none.
-fn next_heads(ws: &[u16], s: Sizes) -> [u16; MAX_ROWS]
+fn fill_next_heads(ws: &[u16], s: Sizes, table: &mut [u16])
     requires { ⌜ Whole (now ws) s ⌝ }
-    ensures { λ t. ⌜ Head-table (program (now (ws .entry)) s) t ⌝ }
+    requires { ⌜ s .rows ≤ length (now table) ⌝ }
+    ensures { λ _. ⌜ Head-table (program (now (ws .entry)) s) (now (table .exit)) ⌝ }
 {
-    let mut table = [0u16; MAX_ROWS];
     let mut head = s.rows;
     let mut r = s.rows;
     while r > 0 {
@@ -56,7 +56,6 @@ fn next_heads(ws: &[u16], s: Sizes) -> [u16; MAX_ROWS]
         }
         table[r] = head as u16;
     }
-    table
 }
 
 // The rest of the expression at row r.
@@ -145,15 +144,16 @@ fn first_out(ws: &[u16], s: Sizes, ends: &[u16], heads: &[u16], names: &[u16]) -
 }
 
 // Refusal 5: the first row that reads a name outside its scope.
-pub fn scope_check(ws: &[u16], s: Sizes, ends: &[u16]) -> Verdict
+pub fn scope_check(ws: &[u16], s: Sizes, ends: &[u16], names: &[u16]) -> Verdict
     requires { ⌜ Whole (now ws) s ⌝ }
     requires { ⌜ row-check (program (now ws) s) ≡ none ⌝ }
     requires { ⌜ After-table (program (now ws) s) (now ends) ⌝ }
+    requires { ⌜ Binder-table (program (now ws) s) (now names) ⌝ }
     ensures { λ v. ⌜ v ≡ answer (scope-check (program (now (ws .entry)) s)) ⌝ }
 {
-    let names = binders(ws, s);
-    let heads = next_heads(ws, s);
-    let r = first_out(ws, s, ends, &heads, &names);
+    let mut heads = row_words16();
+    fill_next_heads(ws, s, &mut heads);
+    let r = first_out(ws, s, ends, &heads, names);
     if r < s.rows {
         let place = 4 + r;
         return Verdict::Scope(place);

@@ -1,4 +1,4 @@
--- The loop's invariant: the rules before j add nowhere where a ceiling of the mask has a bound.
+-- The loop's invariant: the rules before j are open to the ceilings of the mask.
 use Prim.Native.Nat.{ℕ, _-_, _≤_}
 use native.Mathlib.Omega.{arith}
 use mathlib.Core.Path.{_≡_, sym, _∙_}
@@ -11,16 +11,16 @@ use Rattle.ceilings_groups.proofs.open_to_all.Statement.{statement}
 use Rattle.ceilings_groups.proofs.open_to_all.Tie as tie
 
 abbrev Inv-loop : tie.InvT-loop
-Inv-loop limits ceilings n holders unbounded kind tos others m all₀ j₀ all j = Open-upto limits ceilings n kind tos others j all × (j ≤ m)
+Inv-loop limits ceilings n holders unbounded count kind tos others m all₀ j₀ all j = Open-upto limits ceilings n count kind tos others j all × (j ≤ m)
 
 abbrev μ-loop : tie.MeasureT-loop
-μ-loop limits ceilings n holders unbounded kind tos others m all₀ j₀ all j = m - j
+μ-loop limits ceilings n holders unbounded count kind tos others m all₀ j₀ all j = m - j
 
 below-requires : tie.Need-below-requires Inv-loop μ-loop
 below-requires c κs = tt
 
 loop-holds : tie.Need-loop-holds Inv-loop μ-loop
-loop-holds c = (open-start _ _ _ _ _ _ _, search needs)
+loop-holds c = (open-start _ _ _ _ _ _ _ _, search needs)
 
 mul-to : tie.Need-mul-to Inv-loop μ-loop
 mul-to c = search needs
@@ -41,7 +41,7 @@ cast-other : tie.Need-cast-other Inv-loop μ-loop
 cast-other c = omega (arith, c .before .before .before .before .before .shared-slice-known5 .given (c .before .before .before .loop .j))
 
 open-to-requires : tie.Need-open-to-requires Inv-loop μ-loop
-open-to-requires c κs = c .before .before .before .before .before .before .before .before .before .before .pre .0
+open-to-requires c κs = (c .before .before .before .before .before .before .before .before .before .before .pre .0, c .before .before .before .before .before .before .before .before .before .before .pre .1 .0)
 
 and-requires : tie.Need-and-requires Inv-loop μ-loop
 and-requires c κs = tt
@@ -57,12 +57,11 @@ loop-again c =
     let l = c .before .before .before .before .before .loop in
     let before : (k : ℕ) → has (c .and .result) k ≡ true → has (l .all) k ≡ true = λ k t. and-left (has (l .all) k) (has (c .before .open-to .result) k) (sym (c .and .ensures k) ∙ t) in
     let here : (k : ℕ) → has (c .and .result) k ≡ true → has (c .before .open-to .result) k ≡ true = λ k t. and-right (has (l .all) k) (has (c .before .open-to .result) k) (sym (c .and .ensures k) ∙ t) in
-    (open-next _ _ _ _ _ _ (l .j) (l .all) _ (l .inv .0) before (λ k h t. c .before .open-to .ensures .0 k h (here k t)) (λ two k h t. c .before .open-to .ensures .1 two k h (here k t)), search needs)
+    (open-next _ _ _ _ _ _ _ (l .j) (l .all) _ (l .inv .0) before (λ k h t. c .before .open-to .ensures k h (here k t)), search needs)
 
 returns : tie.Need-returns Inv-loop μ-loop
-returns c =
-    let l = c .before .loop in
-    (λ k j h b. l .inv .0 .led k j h (omega (arith, b, c .loop-test .left)), λ two k j h b. l .inv .0 .added two k j h (omega (arith, b, c .loop-test .left)))
+unfolding Open-upto
+returns c = λ k j h b. c .before .loop .inv .0 k j h (omega (arith, b, c .loop-test .left))
 
 pub open-to-all-spec : {M : Type 1} → statement M
 open-to-all-spec =

@@ -1,23 +1,57 @@
+use native.Mathlib.Omega.{arith}
 use mathlib.Core.Path.{_∙_, ap}
-use mathlib.Core.Bool.{not, _&&_}
+use mathlib.Core.Bool.{not}
 use Rattle.masks.specs.Masks.{has}
 use Rattle.bits.proofs.Loops.{not-not}
 use Rattle.ceilings_groups.proofs.Leading.{any-same}
+use Rattle.ceilings_groups.proofs.Settling.{settled-bit}
 use borrow.Author.Needs.{needs}
 use Rattle.ceilings_groups.proofs.settled.Statement.{statement}
 use Rattle.ceilings_groups.proofs.settled.Tie as tie
 
+mul-first : tie.Need-mul-first
+mul-first c = search needs
+
+mul-second : tie.Need-mul-second
+mul-second c = search needs
+
+add-second : tie.Need-add-second
+add-second c = search needs
+
 load-requires : tie.Need-load-requires
-load-requires c κs = search needs
+load-requires c κs = record { room = omega (arith, c .before .pre) }
 
 and-requires : tie.Need-and-requires
 and-requires c κs = search needs
+
+load-requires-2 : tie.Need-load-requires-2
+load-requires-2 c κs = record { room = omega (arith, c .before .before .before .pre) }
+
+or-requires : tie.Need-or-requires
+or-requires c κs = search needs
+
+and-requires-2 : tie.Need-and-requires-2
+and-requires-2 c κs = search needs
 
 is-none-requires : tie.Need-is-none-requires
 is-none-requires c κs = search needs
 
 returns : tie.Need-returns
-returns c = ap not (c .is-none .ensures) ∙ (not-not _ ∙ any-same 256 _ _ (λ k h. c .before .and .ensures k ∙ ap (λ b. has (c .before .before .before .before .args .left) k && b) (c .before .before .load .ensures k h)))
+returns c =
+    ap not (c .is-none .ensures) ∙
+    (not-not _ ∙ any-same 256 _ _ (λ k h. settled-bit (has (c .before .before .before .before .before .before .before .args .left) k) (has (c .before .before .before .before .before .before .before .args .above) k) _ _ _ _ _ _ _ (c .before .and2 .ensures k) (c .before .before .or .ensures k) (c .before .before .before .load2 .ensures k h) (c .before .before .before .before .and .ensures k) (c .before .before .before .before .before .load .ensures k h)))
 
 pub settled-spec : {M : Type 1} → statement M
-settled-spec = tie.close (tie.spec load-requires and-requires is-none-requires returns)
+settled-spec =
+    tie.close
+    (tie.spec
+    mul-first
+    mul-second
+    add-second
+    load-requires
+    and-requires
+    load-requires-2
+    or-requires
+    and-requires-2
+    is-none-requires
+    returns)

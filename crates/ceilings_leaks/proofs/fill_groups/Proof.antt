@@ -10,6 +10,7 @@ use Rattle.model.specs.Tables.{tables, entries}
 use Rattle.steps.specs.Steps.{effect-kind}
 use Rattle.system_totals.proofs.Lined.{Summed, summed-none, summed-more, summed-all}
 use Rattle.system_totals.proofs.Walk.{Walk, walk-begin, walk-next, walk-room, walk-few}
+use Rattle.ceilings.proofs.Begun.{room-all}
 use Rattle.ceilings_groups.specs.Groups.{Groups-upto}
 use Rattle.ceilings_leaks.proofs.Leaking.{groups-start, groups-next, groups-all}
 use Rattle.ceilings_leaks.proofs.fill_groups.Statement.{statement}
@@ -50,26 +51,49 @@ add-rows c = record { fits = omega (arith, few (c .before .before .before .befor
 effect-kind-requires : tie.Need-effect-kind-requires Inv-loop μ-loop
 effect-kind-requires c κs = search needs
 
+mul-first : tie.Need-mul-first Inv-loop μ-loop
+mul-first c = record { fits = omega (arith, c .before .before .before .before .before .before .before .before .before .before .before .before .before .before .before .loop-test .taken, c .before .before .before .before .before .before .before .before .before .before .before .before .before .before .before .before .before .before .before .before .before .before .before .before .before .before .before .before .before .before .before .before .before .before .pre .0 .ready .limits .states) }
+
 open-to-all-requires : tie.Need-open-to-all-requires Inv-loop μ-loop
-open-to-all-requires c κs = (c .before .before .before .before .before .before .before .before .before .before .before .before .before .before .before .before .before .before .before .before .before .before .before .before .before .before .before .before .before .before .before .before .before .before .before .before .before .pre .1 .0 .held-by, (c .before .before .before .before .before .before .before .before .before .before .state-rules .ensures .tos-room, c .before .before .before .before .before .before .before .before .before .before .state-rules .ensures .others-room))
+open-to-all-requires c κs =
+    (
+      (c .before .before .before .before .before .before .before .before .before .before .before .before .before .before .before .before .before .before .before .before .before .before .before .before .before .before .before .before .before .before .before .before .before .before .before .before .before .pre .0 .ready .limits .ceilings, room-all _ _ _ _ (c .before .before .before .before .before .before .before .before .before .before .before .before .before .before .before .before .before .before .before .before .before .before .before .before .before .before .before .before .before .before .before .before .before .before .before .before .before .pre .1 .0 .in-form) (c .before .before .before .before .before .before .before .before .before .before .before .before .before .before .before .before .before .before .before .before .before .before .before .before .before .before .before .before .before .before .before .before .before .before .before .before .before .pre .1 .0 .limits-table)),
+      (c .before .before .before .before .before .before .before .before .before .before .before .before .before .before .before .before .before .before .before .before .before .before .before .before .before .before .before .before .before .before .before .before .before .before .before .before .before .pre .1 .0 .held-by, (c .before .before .before .before .before .before .before .before .before .before .state-rules .ensures .tos-room, c .before .before .before .before .before .before .before .before .before .before .state-rules .ensures .others-room)),
+    )
 
 store-requires : tie.Need-store-requires Inv-loop μ-loop
 store-requires c κs = record { room = omega (arith, c .before .before .before .before .before .before .before .before .before .before .before .before .before .before .before .before .before .before .before .loop-test .taken, c .before .before .before .before .before .before .before .before .before .before .before .before .before .before .before .before .before .before .before .before .loop .inv .4, c .before .before .before .before .before .before .before .before .before .before .before .before .before .before .before .before .before .before .before .before .before .before .before .before .before .before .before .before .before .before .before .before .before .before .before .before .before .before .pre .1 .1 .1 .1) }
 
+mul-second : tie.Need-mul-second Inv-loop μ-loop
+mul-second c = record { fits = omega (arith, c .before .before .before .before .before .before .before .before .before .before .before .before .before .before .before .before .before .before .before .before .before .before .loop-test .taken, c .before .before .before .before .before .before .before .before .before .before .before .before .before .before .before .before .before .before .before .before .before .before .before .before .before .before .before .before .before .before .before .before .before .before .before .before .before .before .before .before .before .pre .0 .ready .limits .states) }
+
+add-second : tie.Need-add-second Inv-loop μ-loop
+add-second c = record { fits = omega (arith, c .before .before .before .before .before .before .before .before .before .before .before .before .before .before .before .before .before .before .before .before .before .before .loop-test .taken, c .before .before .before .before .before .before .before .before .before .before .before .before .before .before .before .before .before .before .before .before .before .before .before .before .before .before .before .before .before .before .before .before .before .before .before .before .before .before .before .before .before .pre .0 .ready .limits .states) }
+
+open-to-all-requires-2 : tie.Need-open-to-all-requires-2 Inv-loop μ-loop
+open-to-all-requires-2 c κs =
+    (
+      (c .before .before .before .before .before .before .before .before .before .before .before .before .before .before .before .before .before .before .before .before .before .before .before .before .before .before .before .before .before .before .before .before .before .before .before .before .before .before .before .before .before .before .before .before .pre .0 .ready .limits .ceilings, room-all _ _ _ _ (c .before .before .before .before .before .before .before .before .before .before .before .before .before .before .before .before .before .before .before .before .before .before .before .before .before .before .before .before .before .before .before .before .before .before .before .before .before .before .before .before .before .before .before .before .pre .1 .0 .in-form) (c .before .before .before .before .before .before .before .before .before .before .before .before .before .before .before .before .before .before .before .before .before .before .before .before .before .before .before .before .before .before .before .before .before .before .before .before .before .before .before .before .before .before .before .before .pre .1 .0 .limits-table)),
+      (c .before .before .before .before .before .before .before .before .before .before .before .before .before .before .before .before .before .before .before .before .before .before .before .before .before .before .before .before .before .before .before .before .before .before .before .before .before .before .before .before .before .before .before .before .pre .1 .0 .held-by, (c .before .before .before .before .before .before .before .before .before .before .before .before .before .before .before .before .before .state-rules .ensures .tos-room, c .before .before .before .before .before .before .before .before .before .before .before .before .before .before .before .before .before .state-rules .ensures .others-room)),
+    )
+
+store-requires-2 : tie.Need-store-requires-2 Inv-loop μ-loop
+store-requires-2 c κs = record { room = omega (arith, c .before .before .before .before .before .before .before .before .before .before .before .before .before .before .before .before .before .before .before .before .before .before .before .before .before .before .loop-test .taken, c .before .before .before .before .before .before .store .ensures .long, c .before .before .before .before .before .before .before .before .before .before .before .before .before .before .before .before .before .before .before .before .before .before .before .before .before .before .before .loop .inv .4, c .before .before .before .before .before .before .before .before .before .before .before .before .before .before .before .before .before .before .before .before .before .before .before .before .before .before .before .before .before .before .before .before .before .before .before .before .before .before .before .before .before .before .before .before .before .pre .1 .1 .1 .1) }
+
 add-i : tie.Need-add-i Inv-loop μ-loop
-add-i c = record { fits = omega (arith, c .before .before .before .before .before .before .before .before .before .before .before .before .before .before .before .before .before .before .before .before .before .before .loop-test .taken, c .before .before .before .before .before .before .before .before .before .before .before .before .before .before .before .before .before .before .before .before .before .before .before .before .before .before .before .before .before .before .before .before .before .before .before .before .before .before .before .before .before .pre .0 .ready .limits .states) }
+add-i c = record { fits = omega (arith, c .before .before .before .before .before .before .before .before .before .before .before .before .before .before .before .before .before .before .before .before .before .before .before .before .before .before .before .before .before .loop-test .taken, c .before .before .before .before .before .before .before .before .before .before .before .before .before .before .before .before .before .before .before .before .before .before .before .before .before .before .before .before .before .before .before .before .before .before .before .before .before .before .before .before .before .before .before .before .before .before .before .before .pre .0 .ready .limits .states) }
 
 loop-less : tie.Need-loop-less Inv-loop μ-loop
-loop-less c = omega (arith, c .before .before .before .before .before .before .before .before .before .before .before .before .before .before .before .before .before .before .before .before .before .before .loop-test .taken)
+loop-less c = omega (arith, c .before .before .before .before .before .before .before .before .before .before .before .before .before .before .before .before .before .before .before .before .before .before .before .before .before .before .before .before .before .loop-test .taken)
 
 loop-again : tie.Need-loop-again Inv-loop μ-loop
 loop-again c =
-    let h = c .before .before .before .before .before .before .before .before .before .before .before .before .before .before .before .before .before .before .before .before .before .before .before .loop .inv in (
-      groups-next _ _ _ _ _ _ _ _ _ _ _ _ (c .before .before .before .before .before .before .before .before .before .before .before .before .before .before .state-rules .ensures) (c .before .before .before .before .before .before .before .effect-kind .ensures .0 ∙ ap effect-kind (c .before .before .before .before .before .before .before .before .before .state-head .ensures)) (c .before .before .before .before .before .before .before .effect-kind .ensures .1) (c .before .before .before .open-to-all .ensures .0) (c .before .before .before .open-to-all .ensures .1) (c .before .before .store .ensures) (h .0),
-      summed-more _ _ (c .before .before .before .before .before .before .before .before .before .before .before .before .before .before .before .before .before .before .before .before .before .before .before .loop .i) (c .before .before .before .before .before .before .before .before .before .before .before .before .before .before .before .before .before .before .before .before .before .before .before .loop .rules) (c .before .before .before .before .before .before .before .before .before .before .before .before .before .before .before .before .before .before .before .before .before .before .before .loop .rows) _ _ _ _ _ (h .1) (c .before .before .before .before .before .before .before .before .before .before .before .before .before .before .state-rules .ensures) (few (c .before .before .before .before .before .before .before .before .before .before .before .before .before .before)) (c .before .before .before .before .before .before .before .before .before .state-head .ensures) (c .before .before .before .before .before .before .before .before .row-total .ensures .0) (c .before .before .before .before .before .before .before .before .row-total .ensures .1),
-      walk-next _ _ _ _ _ _ _ _ _ (h .2) _ _ _ _ (c .before .before .before .before .before .before .before .before .before .before .before .before .before .before .before .before .before .before .before .before .turn-to .ensures .0) (c .before .before .before .before .before .before .before .before .before .before .before .before .before .before .before .before .before .before .before .before .turn-to .kept .1 .1 .1 .0) (c .before .before .before .before .before .before .before .before .before .before .before .before .before .before .state-rules .kept .1 .1 .1 .1 .1 .1 .1 .1 .1 .1 .1 .1 .1 .1 .0) (c .before .before .before .before .before .before .before .before .before .before .before .before .before .before .state-rules .kept .1 .1 .1 .1 .1 .1 .1 .1 .1 .1 .1 .1 .1 .1 .1 .0),
-      omega (arith, c .before .before .before .before .before .before .before .before .before .before .before .before .before .before .before .before .before .before .before .before .before .before .loop-test .taken),
-      c .before .before .store .ensures .long ∙ h .4,
+    let h = c .before .before .before .before .before .before .before .before .before .before .before .before .before .before .before .before .before .before .before .before .before .before .before .before .before .before .before .before .before .before .loop .inv in (
+      groups-next _ _ _ _ _ _ _ _ _ (c .before .before .before .before .before .before .before .before .before .before .before .before .before .before .before .before .before .before .before .before .before .state-rules .ensures) _ _ _ _ _ _ _ (c .before .before .before .before .before .before .before .before .before .before .before .before .before .before .effect-kind .ensures .0 ∙ ap effect-kind (c .before .before .before .before .before .before .before .before .before .before .before .before .before .before .before .before .state-head .ensures)) (c .before .before .before .before .before .before .before .before .before .before .before .before .before .before .effect-kind .ensures .1) (c .before .before .before .before .before .before .before .before .before .before .open-to-all .ensures) (c .before .before .before .open-to-all2 .ensures) refl (c .before .before .before .before .before .before .before .before .before .store .ensures) refl (c .before .before .store2 .ensures) (h .0),
+      summed-more _ _ (c .before .before .before .before .before .before .before .before .before .before .before .before .before .before .before .before .before .before .before .before .before .before .before .before .before .before .before .before .before .before .loop .i) (c .before .before .before .before .before .before .before .before .before .before .before .before .before .before .before .before .before .before .before .before .before .before .before .before .before .before .before .before .before .before .loop .rules) (c .before .before .before .before .before .before .before .before .before .before .before .before .before .before .before .before .before .before .before .before .before .before .before .before .before .before .before .before .before .before .loop .rows) _ _ _ _ _ (h .1) (c .before .before .before .before .before .before .before .before .before .before .before .before .before .before .before .before .before .before .before .before .before .state-rules .ensures) (few (c .before .before .before .before .before .before .before .before .before .before .before .before .before .before .before .before .before .before .before .before .before)) (c .before .before .before .before .before .before .before .before .before .before .before .before .before .before .before .before .state-head .ensures) (c .before .before .before .before .before .before .before .before .before .before .before .before .before .before .before .row-total .ensures .0) (c .before .before .before .before .before .before .before .before .before .before .before .before .before .before .before .row-total .ensures .1),
+      walk-next _ _ _ _ _ _ _ _ _ (h .2) _ _ _ _ (c .before .before .before .before .before .before .before .before .before .before .before .before .before .before .before .before .before .before .before .before .before .before .before .before .before .before .before .turn-to .ensures .0) (c .before .before .before .before .before .before .before .before .before .before .before .before .before .before .before .before .before .before .before .before .before .before .before .before .before .before .before .turn-to .kept .1 .1 .1 .0) (c .before .before .before .before .before .before .before .before .before .before .before .before .before .before .before .before .before .before .before .before .before .state-rules .kept .1 .1 .1 .1 .1 .1 .1 .1 .1 .1 .1 .1 .1 .1 .0) (c .before .before .before .before .before .before .before .before .before .before .before .before .before .before .before .before .before .before .before .before .before .state-rules .kept .1 .1 .1 .1 .1 .1 .1 .1 .1 .1 .1 .1 .1 .1 .1 .0),
+      omega (arith, c .before .before .before .before .before .before .before .before .before .before .before .before .before .before .before .before .before .before .before .before .before .before .before .before .before .before .before .before .before .loop-test .taken),
+      c .before .before .store2 .ensures .long ∙ (c .before .before .before .before .before .before .before .before .before .store .ensures .long ∙ h .4),
     )
 
 same-length : tie.Need-same-length Inv-loop μ-loop
@@ -104,8 +128,13 @@ fill-groups-spec =
     row-total-requires
     add-rows
     effect-kind-requires
+    mul-first
     open-to-all-requires
     store-requires
+    mul-second
+    add-second
+    open-to-all-requires-2
+    store-requires-2
     add-i
     loop-less
     loop-again

@@ -22,7 +22,7 @@ use Rattle.ceilings.proofs.Begun.{begun, room-all, row-at}
 use Rattle.ceilings_covers.specs.Covers.{named, passes}
 use Rattle.ceilings_covers.proofs.Covering.{candidate-covers, covers-not}
 use Rattle.ceilings_groups.proofs.Settling.{settles}
-use Rattle.ceilings_leaks.proofs.Leaking.{leaks, by-state, by-step, step-at, Walk, Left-of, walk-start, walk-end, walk-limit, walk-settled, rules-start, rules-turn, rules-leak, rules-done, unused, covered, led-out, left-start, left-low, left-surely, left-next, left-covers, left-none, ceiling-turn, states-few, step-shape, leak-safe, leak-refused-at, state-none, beside-at, named-next, first-low, whole-of, rooms-of}
+use Rattle.ceilings_leaks.proofs.Leaking.{counted-at, leaks, by-state, by-step, step-at, Walk, Left-of, walk-start, walk-end, walk-limit, walk-settled, rules-start, rules-turn, rules-leak, rules-done, unused, covered, led-out, left-start, left-low, left-surely, left-next, left-covers, left-none, ceiling-turn, states-few, step-shape, leak-safe, leak-refused-at, state-none, beside-at, named-next, first-low, whole-of, rooms-of}
 use Rattle.ceilings_leaks.proofs.leak_check.Statement.{statement}
 use Rattle.ceilings_leaks.proofs.leak_check.Tie as tie
 
@@ -255,7 +255,7 @@ settled-requires :
     μ-states
     Inv-ceilings
     μ-ceilings
-settled-requires c κs = record { room = omega (arith, c .before .before .before .if1 .left, c .before .before .before .before .before .before .before .before .before .before .before .before .before .before .before .before .before .before .before .before .before .before .before .before .before .before .before .before .before .before .before .before .before .before .before .before .pre .1 .1 .1 .1 .0) }
+settled-requires c κs = omega (arith, c .before .before .before .if1 .left, c .before .before .before .before .before .before .before .before .before .before .before .before .before .before .before .before .before .before .before .before .before .before .before .before .before .before .before .before .before .before .before .before .before .before .before .before .pre .1 .1 .1 .1 .0)
 
 states-less :
     tie.Need-states-less
@@ -288,7 +288,7 @@ states-again c =
     let h = c .before .before .before .before .before .before .before .before .states .inv in
     let g = p .1 .1 .1 .0 in
     let few = states-few _ _ _ _ (p .0 .ready) (p .1 .0 .counted) (p .1 .0 .limits-table) in
-    (h .0, walk-settled _ _ _ _ _ g _ _ _ (h .1) few _ (c .before .before .before .before .before .before .before .counter-at .ensures) (c .before .before .before .before .before .if1 .left) (state-none _ _ _ _ _ _ (settles _ _ _ _ _ _ (c .before .before .left-after .ensures) _ _ _ _ (c .before .before .before .before .before .if1 .left) g (sym (c .before .settled .ensures) ∙ c .if2 .taken))), h .2, h .3, h .4, h .5)
+    (h .0, walk-settled _ _ _ _ _ g _ _ _ (h .1) few _ (c .before .before .before .before .before .before .before .counter-at .ensures) (c .before .before .before .before .before .if1 .left) (state-none _ _ _ _ _ _ (settles _ _ _ _ _ _ (c .before .before .left-after .ensures) _ (counted-at _ _ _ _ _ _ (h .0) (c .before .before .before .before .before .before .before .before .before .before .before .before .before .compare .ensures .0)) (λ z. omega (arith, c .before .before .before .before .before .before .before .before .before .before .before .before .before .before .before .before .before .before .before .before .before .before .before .before .before .before .before .before .shared-slice-known10 .given z)) _ _ _ _ (c .before .before .before .before .before .if1 .left) g (sym (c .before .settled .ensures) ∙ c .if2 .taken))), h .2, h .3, h .4, h .5)
 
 turn-to-requires :
     tie.Need-turn-to-requires

@@ -16,14 +16,14 @@ holder-masks-requires c κs = search needs
 counter-masks-requires : tie.Need-counter-masks-requires
 counter-masks-requires c κs = search needs
 
+holder-masks-requires-2 : tie.Need-holder-masks-requires-2
+holder-masks-requires-2 c κs = search needs
+
 counter-masks-requires-2 : tie.Need-counter-masks-requires-2
 counter-masks-requires-2 c κs = search needs
 
 counter-masks-requires-3 : tie.Need-counter-masks-requires-3
 counter-masks-requires-3 c κs = search needs
-
-counter-masks-requires-4 : tie.Need-counter-masks-requires-4
-counter-masks-requires-4 c κs = search needs
 
 slice-aggregate-ceilings-on : tie.Need-slice-aggregate-ceilings-on
 slice-aggregate-ceilings-on c = search needs
@@ -49,7 +49,7 @@ slice-aggregate-ceilings-on-7 c = search needs
 ceilings-on-requires : tie.Need-ceilings-on-requires
 ceilings-on-requires c κs =
     let m = few-counters _ _ _ (c .before .before .before .before .before .before .before .before .before .before .before .before .before .before .before .before .before .before .before .before .before .before .before .pre .1 .counted) (c .before .before .before .before .before .before .before .before .before .before .before .before .before .before .before .before .before .before .before .before .before .before .before .pre .0 .few) in
-    (c .before .before .before .before .before .before .before .before .before .before .before .before .before .before .before .before .before .before .before .before .before .before .before .pre .0, (c .before .before .before .before .before .before .before .before .before .before .before .before .before .before .before .before .before .before .before .before .before .before .before .pre .1, (limits-room _ _ _ _ _ _ (all-cells _ _ m (c .before .before .before .before .before .before .before .before .before .before .before .before .before .before .before .before .before .before .before .before .before .before .before .pre .0 .ready .limits)) (omega (arith, c .before .before .before .before .before .before .before .before .before .before .before .before .before .before .before .before .before .before .before .before .before .before .before .pre .0 .ready .limits .ceilings)) (c .before .before .before .before .before .before .before .before .before .before .before .before .before .limit-words .ensures) (c .before .before .before .before .before .before .before .before .before .before .before .before .words16-258 .ensures), mask-room _ _ _ _ _ _ _ _ (omega (arith, m)) (omega (arith, m)) (c .before .before .before .before .before .before .before .before .before .before .before .holder-masks .ensures) (c .before .before .before .before .before .before .before .before .before .before .counter-masks .ensures) (c .before .before .before .before .before .before .before .before .before .counter-masks2 .ensures) (c .before .before .before .before .before .before .before .before .counter-masks3 .ensures) (c .before .before .before .before .before .before .before .counter-masks4 .ensures))))
+    (c .before .before .before .before .before .before .before .before .before .before .before .before .before .before .before .before .before .before .before .before .before .before .before .pre .0, (c .before .before .before .before .before .before .before .before .before .before .before .before .before .before .before .before .before .before .before .before .before .before .before .pre .1, (limits-room _ _ _ _ _ _ (all-cells _ _ m (c .before .before .before .before .before .before .before .before .before .before .before .before .before .before .before .before .before .before .before .before .before .before .before .pre .0 .ready .limits)) (omega (arith, c .before .before .before .before .before .before .before .before .before .before .before .before .before .before .before .before .before .before .before .before .before .before .before .pre .0 .ready .limits .ceilings)) (c .before .before .before .before .before .before .before .before .before .before .before .before .before .limit-words .ensures) (c .before .before .before .before .before .before .before .before .before .before .before .before .words16-258 .ensures), mask-room _ _ _ _ _ _ _ _ (omega (arith, m)) (omega (arith, m)) (c .before .before .before .before .before .before .before .before .before .before .before .holder-masks .ensures) (c .before .before .before .before .before .before .before .before .before .before .counter-masks .ensures) (c .before .before .before .before .before .before .before .before .before .holder-masks2 .ensures) (c .before .before .before .before .before .before .before .before .counter-masks2 .ensures) (c .before .before .before .before .before .before .before .counter-masks3 .ensures))))
 
 returns : tie.Need-returns
 returns c = search needs
@@ -62,9 +62,9 @@ all-limits-spec =
     words16-258-requires
     holder-masks-requires
     counter-masks-requires
+    holder-masks-requires-2
     counter-masks-requires-2
     counter-masks-requires-3
-    counter-masks-requires-4
     slice-aggregate-ceilings-on
     slice-aggregate-ceilings-on-2
     slice-aggregate-ceilings-on-3

@@ -10,20 +10,20 @@ words16-2048-requires c κs = search needs
 words16-258-requires : tie.Need-words16-258-requires
 words16-258-requires c κs = search needs
 
-words64-512-requires : tie.Need-words64-512-requires
-words64-512-requires c κs = search needs
+words64-256-requires : tie.Need-words64-256-requires
+words64-256-requires c κs = search needs
 
 words64-130-requires : tie.Need-words64-130-requires
 words64-130-requires c κs = search needs
+
+words64-256-requires-2 : tie.Need-words64-256-requires-2
+words64-256-requires-2 c κs = search needs
 
 words64-130-requires-2 : tie.Need-words64-130-requires-2
 words64-130-requires-2 c κs = search needs
 
 words64-130-requires-3 : tie.Need-words64-130-requires-3
 words64-130-requires-3 c κs = search needs
-
-words64-130-requires-4 : tie.Need-words64-130-requires-4
-words64-130-requires-4 c κs = search needs
 
 slice-aggregate-ceilings-on : tie.Need-slice-aggregate-ceilings-on
 slice-aggregate-ceilings-on c = search needs
@@ -48,7 +48,7 @@ slice-aggregate-ceilings-on-7 c = search needs
 
 ceilings-on-requires : tie.Need-ceilings-on-requires
 ceilings-on-requires c κs =
-    (c .before .before .before .before .before .before .before .before .before .before .before .before .before .before .before .before .before .before .before .before .before .before .before .pre .0, (c .before .before .before .before .before .before .before .before .before .before .before .before .before .before .before .before .before .before .before .before .before .before .before .pre .1 .0, (limits-room _ _ _ _ _ _ (c .before .before .before .before .before .before .before .before .before .before .before .before .before .before .before .before .before .before .before .before .before .before .before .pre .1 .1 .1) (omega (arith, c .before .before .before .before .before .before .before .before .before .before .before .before .before .before .before .before .before .before .before .before .before .before .before .pre .0 .ready .limits .ceilings)) (c .before .before .before .before .before .before .before .before .before .before .before .before .before .words16-2048 .ensures) (c .before .before .before .before .before .before .before .before .before .before .before .before .words16-258 .ensures), mask-room _ _ _ _ _ _ _ _ (omega (arith, c .before .before .before .before .before .before .before .before .before .before .before .before .before .before .before .before .before .before .before .before .before .before .before .pre .1 .1 .0)) (omega (arith, c .before .before .before .before .before .before .before .before .before .before .before .before .before .before .before .before .before .before .before .before .before .before .before .pre .1 .1 .0)) (c .before .before .before .before .before .before .before .before .before .before .before .words64-512 .ensures) (c .before .before .before .before .before .before .before .before .before .before .words64-130 .ensures) (c .before .before .before .before .before .before .before .before .before .words64-1302 .ensures) (c .before .before .before .before .before .before .before .before .words64-1303 .ensures) (c .before .before .before .before .before .before .before .words64-1304 .ensures))))
+    (c .before .before .before .before .before .before .before .before .before .before .before .before .before .before .before .before .before .before .before .before .before .before .before .pre .0, (c .before .before .before .before .before .before .before .before .before .before .before .before .before .before .before .before .before .before .before .before .before .before .before .pre .1 .0, (limits-room _ _ _ _ _ _ (c .before .before .before .before .before .before .before .before .before .before .before .before .before .before .before .before .before .before .before .before .before .before .before .pre .1 .1 .1) (omega (arith, c .before .before .before .before .before .before .before .before .before .before .before .before .before .before .before .before .before .before .before .before .before .before .before .pre .0 .ready .limits .ceilings)) (c .before .before .before .before .before .before .before .before .before .before .before .before .before .words16-2048 .ensures) (c .before .before .before .before .before .before .before .before .before .before .before .before .words16-258 .ensures), mask-room _ _ _ _ _ _ _ _ (omega (arith, c .before .before .before .before .before .before .before .before .before .before .before .before .before .before .before .before .before .before .before .before .before .before .before .pre .1 .1 .0)) (omega (arith, c .before .before .before .before .before .before .before .before .before .before .before .before .before .before .before .before .before .before .before .before .before .before .before .pre .1 .1 .0)) (c .before .before .before .before .before .before .before .before .before .before .before .words64-256 .ensures) (c .before .before .before .before .before .before .before .before .before .before .words64-130 .ensures) (c .before .before .before .before .before .before .before .before .before .words64-2562 .ensures) (c .before .before .before .before .before .before .before .before .words64-1302 .ensures) (c .before .before .before .before .before .before .before .words64-1303 .ensures))))
 
 returns : tie.Need-returns
 returns c = search needs
@@ -59,11 +59,11 @@ few-limits-spec =
     (tie.spec
     words16-2048-requires
     words16-258-requires
-    words64-512-requires
+    words64-256-requires
     words64-130-requires
+    words64-256-requires-2
     words64-130-requires-2
     words64-130-requires-3
-    words64-130-requires-4
     slice-aggregate-ceilings-on
     slice-aggregate-ceilings-on-2
     slice-aggregate-ceilings-on-3

@@ -16,14 +16,14 @@ words64-1024-requires c κs = search needs
 words64-512-requires : tie.Need-words64-512-requires
 words64-512-requires c κs = search needs
 
+words64-1024-requires-2 : tie.Need-words64-1024-requires-2
+words64-1024-requires-2 c κs = search needs
+
 words64-512-requires-2 : tie.Need-words64-512-requires-2
 words64-512-requires-2 c κs = search needs
 
 words64-512-requires-3 : tie.Need-words64-512-requires-3
 words64-512-requires-3 c κs = search needs
-
-words64-512-requires-4 : tie.Need-words64-512-requires-4
-words64-512-requires-4 c κs = search needs
 
 slice-aggregate-ceilings-on : tie.Need-slice-aggregate-ceilings-on
 slice-aggregate-ceilings-on c = search needs
@@ -48,7 +48,7 @@ slice-aggregate-ceilings-on-7 c = search needs
 
 ceilings-on-requires : tie.Need-ceilings-on-requires
 ceilings-on-requires c κs =
-    (c .before .before .before .before .before .before .before .before .before .before .before .before .before .before .before .before .before .before .before .before .before .before .before .pre .0, (c .before .before .before .before .before .before .before .before .before .before .before .before .before .before .before .before .before .before .before .before .before .before .before .pre .1 .0, (limits-room _ _ _ _ _ _ (c .before .before .before .before .before .before .before .before .before .before .before .before .before .before .before .before .before .before .before .before .before .before .before .pre .1 .1 .1) (omega (arith, c .before .before .before .before .before .before .before .before .before .before .before .before .before .before .before .before .before .before .before .before .before .before .before .pre .0 .ready .limits .ceilings)) (c .before .before .before .before .before .before .before .before .before .before .before .before .before .words16-16384 .ensures) (c .before .before .before .before .before .before .before .before .before .before .before .before .words16-258 .ensures), mask-room _ _ _ _ _ _ _ _ (omega (arith, c .before .before .before .before .before .before .before .before .before .before .before .before .before .before .before .before .before .before .before .before .before .before .before .pre .1 .1 .0)) (omega (arith, c .before .before .before .before .before .before .before .before .before .before .before .before .before .before .before .before .before .before .before .before .before .before .before .pre .1 .1 .0)) (c .before .before .before .before .before .before .before .before .before .before .before .words64-1024 .ensures) (c .before .before .before .before .before .before .before .before .before .before .words64-512 .ensures) (c .before .before .before .before .before .before .before .before .before .words64-5122 .ensures) (c .before .before .before .before .before .before .before .before .words64-5123 .ensures) (c .before .before .before .before .before .before .before .words64-5124 .ensures))))
+    (c .before .before .before .before .before .before .before .before .before .before .before .before .before .before .before .before .before .before .before .before .before .before .before .pre .0, (c .before .before .before .before .before .before .before .before .before .before .before .before .before .before .before .before .before .before .before .before .before .before .before .pre .1 .0, (limits-room _ _ _ _ _ _ (c .before .before .before .before .before .before .before .before .before .before .before .before .before .before .before .before .before .before .before .before .before .before .before .pre .1 .1 .1) (omega (arith, c .before .before .before .before .before .before .before .before .before .before .before .before .before .before .before .before .before .before .before .before .before .before .before .pre .0 .ready .limits .ceilings)) (c .before .before .before .before .before .before .before .before .before .before .before .before .before .words16-16384 .ensures) (c .before .before .before .before .before .before .before .before .before .before .before .before .words16-258 .ensures), mask-room _ _ _ _ _ _ _ _ (omega (arith, c .before .before .before .before .before .before .before .before .before .before .before .before .before .before .before .before .before .before .before .before .before .before .before .pre .1 .1 .0)) (omega (arith, c .before .before .before .before .before .before .before .before .before .before .before .before .before .before .before .before .before .before .before .before .before .before .before .pre .1 .1 .0)) (c .before .before .before .before .before .before .before .before .before .before .before .words64-1024 .ensures) (c .before .before .before .before .before .before .before .before .before .before .words64-512 .ensures) (c .before .before .before .before .before .before .before .before .before .words64-10242 .ensures) (c .before .before .before .before .before .before .before .before .words64-5122 .ensures) (c .before .before .before .before .before .before .before .words64-5123 .ensures))))
 
 returns : tie.Need-returns
 returns c = search needs
@@ -61,9 +61,9 @@ more-limits-spec =
     words16-258-requires
     words64-1024-requires
     words64-512-requires
+    words64-1024-requires-2
     words64-512-requires-2
     words64-512-requires-3
-    words64-512-requires-4
     slice-aggregate-ceilings-on
     slice-aggregate-ceilings-on-2
     slice-aggregate-ceilings-on-3

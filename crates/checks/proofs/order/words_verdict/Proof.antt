@@ -14,12 +14,13 @@ use Rattle.model.specs.Tables.{tables, entry-check}
 use Rattle.model.specs.Closed.{open-check}
 use Rattle.model.specs.Counters.{counter-count, counter-check}
 use Rattle.model.specs.Ceilings.{ceiling-check}
-use Rattle.model.specs.Limits.{present, maxRows, maxCounters}
+use Rattle.model.specs.Limits.{present, maxCounters}
 use Rattle.model.specs.Verify.{message-check, answer}
 use Rattle.model.proofs.Exact.Answer.{row-refuses, name-refuses, bad-refuses, entry-refuses, open-refuses, counter-refuses, ceiling-refuses}
 use Rattle.model.proofs.Exact.Entries.{bad-none, ceiling-none}
 use Rattle.model.proofs.Exact.Checks.{then-none}
 use Rattle.answers.proofs.Passing.{passed, safe-only}
+use Rattle.rooms.specs.Rooms.{row-room}
 use Rattle.lists.specs.Ready.{Ready}
 use Rattle.positions.specs.Positions.{Ends, Owners}
 use Rattle.rules.specs.Derived.{Rule-tables}
@@ -55,38 +56,56 @@ goes-4 : (c : tie.Else1) → Goes (c .before .before .before .before .before .be
 unfolding from-3
 goes-4 c = goes-by _ _ _ (in-order _ _ _) (rows-pass c)
 
+words16-512-requires : tie.Need-words16-512-requires
+words16-512-requires c κs = search needs
+
+slice-aggregate-name-check : tie.Need-slice-aggregate-name-check
+slice-aggregate-name-check c = search needs
+
 name-check-requires : tie.Need-name-check-requires
-name-check-requires c κs = (c .before .before .before .before .before .before .pre .0 .program, rows-pass c)
+name-check-requires c κs =
+    (c .before .before .before .before .before .before .before .before .pre .0 .program, (rows-pass (c .before .before), omega (arith, c .before .before .before .before .before .before .before .before .pre .0 .limits .names .1, c .before .words16-512 .ensures .room)))
 
 is-safe-requires-2 : tie.Need-is-safe-requires-2
 is-safe-requires-2 c κs = search needs
 
 returns-2 : tie.Need-returns-2
 unfolding from-4
-returns-2 c = ends-with _ _ _ _ _ _ _ _ (goes-4 (c .before .before .before)) (c .before .before .name-check .ensures) (c .before .is-safe2 .ensures) (not-true _ (c .if2 .taken))
+returns-2 c = ends-with _ _ _ _ _ _ _ _ (goes-4 (c .before .before .before .before .before .before)) (c .before .before .before .name-check .ensures .0) (c .before .is-safe2 .ensures) (not-true _ (c .if2 .taken))
 
-ends-requires : tie.Need-ends-requires
-ends-requires c κs = search needs
+row-words16-requires : tie.Need-row-words16-requires
+row-words16-requires c κs = search needs
+
+slice-aggregate-fill-ends : tie.Need-slice-aggregate-fill-ends
+slice-aggregate-fill-ends c = search needs
+
+fill-ends-requires : tie.Need-fill-ends-requires
+fill-ends-requires c κs =
+    (c .before .before .before .before .before .before .before .before .before .before .before .before .before .before .pre .0 .program, omega (arith, c .before .before .before .before .before .before .before .before .before .before .before .before .before .before .pre .0 .limits .rows .1, c .before .row-words16 .ensures .room))
 
 slice-aggregate-scope-check : tie.Need-slice-aggregate-scope-check
 slice-aggregate-scope-check c = search needs
 
-names-pass : (c : tie.Else2) → Passes (c .before .before .before .before .before .before .before .before .before) (λ ws s. name-check (program ws s))
-names-pass c = passed _ _ _ (name-refuses _) (c .before .before .name-check .ensures) (c .before .is-safe2 .ensures) (not-false _ (c .if2 .left))
+slice-aggregate-scope-check-2 : tie.Need-slice-aggregate-scope-check-2
+slice-aggregate-scope-check-2 c = search needs
 
-goes-5 : (c : tie.Else2) → Goes (c .before .before .before .before .before .before .before .before .before) from-5
+names-pass : (c : tie.Else2) → Passes (c .before .before .before .before .before .before .before .before .before .before .before .before) (λ ws s. name-check (program ws s))
+names-pass c = passed _ _ _ (name-refuses _) (c .before .before .before .name-check .ensures .0) (c .before .is-safe2 .ensures) (not-false _ (c .if2 .left))
+
+goes-5 : (c : tie.Else2) → Goes (c .before .before .before .before .before .before .before .before .before .before .before .before) from-5
 unfolding from-4
-goes-5 c = goes-by _ _ _ (goes-4 (c .before .before .before)) (names-pass c)
+goes-5 c = goes-by _ _ _ (goes-4 (c .before .before .before .before .before .before)) (names-pass c)
 
 scope-check-requires : tie.Need-scope-check-requires
-scope-check-requires c κs = (c .before .before .before .before .before .before .before .before .before .before .before .pre .0 .program, (rows-pass (c .before .before .before .before .before), c .before .ends .ensures))
+scope-check-requires c κs =
+    (c .before .before .before .before .before .before .before .before .before .before .before .before .before .before .before .before .before .before .pre .0 .program, (rows-pass (c .before .before .before .before .before .before .before .before .before .before .before .before), (c .before .before .before .fill-ends .ensures, c .before .before .before .before .before .before .before .before .before .name-check .ensures .1)))
 
 is-safe-requires-3 : tie.Need-is-safe-requires-3
 is-safe-requires-3 c κs = search needs
 
 returns-3 : tie.Need-returns-3
 unfolding from-5
-returns-3 c = ends-with _ _ _ _ _ _ _ _ (goes-5 (c .before .before .before .before .before)) (c .before .before .scope-check .ensures) (c .before .is-safe3 .ensures) (not-true _ (c .if3 .taken))
+returns-3 c = ends-with _ _ _ _ _ _ _ _ (goes-5 (c .before .before .before .before .before .before .before .before .before)) (c .before .before .scope-check .ensures) (c .before .is-safe3 .ensures) (not-true _ (c .if3 .taken))
 
 bad-check-requires : tie.Need-bad-check-requires
 bad-check-requires c κs = search needs
@@ -94,12 +113,12 @@ bad-check-requires c κs = search needs
 is-safe-requires-4 : tie.Need-is-safe-requires-4
 is-safe-requires-4 c κs = search needs
 
-scopes-pass : (c : tie.Else3) → Passes (c .before .before .before .before .before .before .before .before .before .before .before .before .before .before) (λ ws s. scope-check (program ws s))
-scopes-pass c = passed _ _ _ (scopes-refuse _ (rows-pass (c .before .before .before .before .before .before .before .before)) (names-pass (c .before .before .before .before .before))) (c .before .before .scope-check .ensures) (c .before .is-safe3 .ensures) (not-false _ (c .if3 .left))
+scopes-pass : (c : tie.Else3) → Passes (c .before .before .before .before .before .before .before .before .before .before .before .before .before .before .before .before .before .before .before .before .before) (λ ws s. scope-check (program ws s))
+scopes-pass c = passed _ _ _ (scopes-refuse _ (rows-pass (c .before .before .before .before .before .before .before .before .before .before .before .before .before .before .before)) (names-pass (c .before .before .before .before .before .before .before .before .before))) (c .before .before .scope-check .ensures) (c .before .is-safe3 .ensures) (not-false _ (c .if3 .left))
 
-goes-6 : (c : tie.Else3) → Goes (c .before .before .before .before .before .before .before .before .before .before .before .before .before .before) from-6
+goes-6 : (c : tie.Else3) → Goes (c .before .before .before .before .before .before .before .before .before .before .before .before .before .before .before .before .before .before .before .before .before) from-6
 unfolding from-5
-goes-6 c = goes-by _ _ _ (goes-5 (c .before .before .before .before .before)) (scopes-pass c)
+goes-6 c = goes-by _ _ _ (goes-5 (c .before .before .before .before .before .before .before .before .before)) (scopes-pass c)
 
 returns-4 : tie.Need-returns-4
 unfolding from-6
@@ -111,10 +130,10 @@ entry-check-requires c κs = search needs
 is-safe-requires-5 : tie.Need-is-safe-requires-5
 is-safe-requires-5 c κs = search needs
 
-bads-pass : (c : tie.Else4) → Passes (c .before .before .before .before .before .before .before .before .before .before .before .before .before .before .before .before .before) (λ ws s. bad-check ws s (program ws s))
+bads-pass : (c : tie.Else4) → Passes (c .before .before .before .before .before .before .before .before .before .before .before .before .before .before .before .before .before .before .before .before .before .before .before .before) (λ ws s. bad-check ws s (program ws s))
 bads-pass c = passed _ _ _ (bad-refuses _ _ _) (c .before .before .bad-check .ensures) (c .before .is-safe4 .ensures) (not-false _ (c .if4 .left))
 
-goes-7 : (c : tie.Else4) → Goes (c .before .before .before .before .before .before .before .before .before .before .before .before .before .before .before .before .before) from-7
+goes-7 : (c : tie.Else4) → Goes (c .before .before .before .before .before .before .before .before .before .before .before .before .before .before .before .before .before .before .before .before .before .before .before .before) from-7
 unfolding from-6
 goes-7 c = goes-by _ _ _ (goes-6 (c .before .before .before)) (bads-pass c)
 
@@ -122,27 +141,34 @@ returns-5 : tie.Need-returns-5
 unfolding from-7
 returns-5 c = ends-with _ _ _ _ _ _ _ _ (goes-7 (c .before .before .before)) (c .before .before .entry-check .ensures) (c .before .is-safe5 .ensures) (not-true _ (c .if5 .taken))
 
-slice-aggregate-inners : tie.Need-slice-aggregate-inners
-slice-aggregate-inners c = search needs
+row-words16-requires-2 : tie.Need-row-words16-requires-2
+row-words16-requires-2 c κs = search needs
 
-entries-pass : (c : tie.Else5) → Passes (c .before .before .before .before .before .before .before .before .before .before .before .before .before .before .before .before .before .before .before .before) (λ ws s. entry-check s (program ws s) (tables ws s))
+slice-aggregate-fill-inners : tie.Need-slice-aggregate-fill-inners
+slice-aggregate-fill-inners c = search needs
+
+slice-aggregate-fill-inners-2 : tie.Need-slice-aggregate-fill-inners-2
+slice-aggregate-fill-inners-2 c = search needs
+
+entries-pass : (c : tie.Else5) → Passes (c .before .before .before .before .before .before .before .before .before .before .before .before .before .before .before .before .before .before .before .before .before .before .before .before .before .before .before) (λ ws s. entry-check s (program ws s) (tables ws s))
 entries-pass c = passed _ _ _ (entry-refuses _ _ _) (c .before .before .entry-check .ensures) (c .before .is-safe5 .ensures) (not-false _ (c .if5 .left))
 
-goes-8 : (c : tie.Else5) → Goes (c .before .before .before .before .before .before .before .before .before .before .before .before .before .before .before .before .before .before .before .before) from-8
+goes-8 : (c : tie.Else5) → Goes (c .before .before .before .before .before .before .before .before .before .before .before .before .before .before .before .before .before .before .before .before .before .before .before .before .before .before .before) from-8
 unfolding from-7
 goes-8 c = goes-by _ _ _ (goes-7 (c .before .before .before)) (entries-pass c)
 
-all-ready : (c : tie.Else5) → Ready (c .before .before .before .before .before .before .before .before .before .before .before .before .before .before .before .before .before .before .before .before .args .ws .now) (c .before .before .before .before .before .before .before .before .before .before .before .before .before .before .before .before .before .before .before .before .args .s)
-all-ready c = ready _ _ (c .before .before .before .before .before .before .before .before .before .before .before .before .before .before .before .before .before .before .before .before .pre .0) (program-passes _ (rows-pass (c .before .before .before .before .before .before .before .before .before .before .before .before .before .before)) (names-pass (c .before .before .before .before .before .before .before .before .before .before .before)) (scopes-pass (c .before .before .before .before .before .before))) (entries-pass c)
+all-ready : (c : tie.Else5) → Ready (c .before .before .before .before .before .before .before .before .before .before .before .before .before .before .before .before .before .before .before .before .before .before .before .before .before .before .before .args .ws .now) (c .before .before .before .before .before .before .before .before .before .before .before .before .before .before .before .before .before .before .before .before .before .before .before .before .before .before .before .args .s)
+all-ready c = ready _ _ (c .before .before .before .before .before .before .before .before .before .before .before .before .before .before .before .before .before .before .before .before .before .before .before .before .before .before .before .pre .0) (program-passes _ (rows-pass (c .before .before .before .before .before .before .before .before .before .before .before .before .before .before .before .before .before .before .before .before .before)) (names-pass (c .before .before .before .before .before .before .before .before .before .before .before .before .before .before .before)) (scopes-pass (c .before .before .before .before .before .before))) (entries-pass c)
 
-inners-requires : tie.Need-inners-requires
-inners-requires c κs = (c .before .before .before .before .before .before .before .before .before .before .before .before .before .before .before .before .before .before .before .before .before .pre .0 .program, (rows-pass (c .before .before .before .before .before .before .before .before .before .before .before .before .before .before .before), c .before .before .before .before .before .before .before .before .before .before .before .ends .ensures))
+fill-inners-requires : tie.Need-fill-inners-requires
+fill-inners-requires c κs =
+    (c .before .before .before .before .before .before .before .before .before .before .before .before .before .before .before .before .before .before .before .before .before .before .before .before .before .before .before .before .before .before .pre .0 .program, (rows-pass (c .before .before .before .before .before .before .before .before .before .before .before .before .before .before .before .before .before .before .before .before .before .before .before .before), (c .before .before .before .before .before .before .before .before .before .before .before .before .before .before .before .fill-ends .ensures, omega (arith, c .before .before .before .before .before .before .before .before .before .before .before .before .before .before .before .before .before .before .before .before .before .before .before .before .before .before .before .before .before .before .pre .0 .limits .rows .1, c .before .before .row-words162 .ensures .room))))
 
-row-words16-requires : tie.Need-row-words16-requires
-row-words16-requires c κs = search needs
+row-words16-requires-3 : tie.Need-row-words16-requires-3
+row-words16-requires-3 c κs = search needs
 
-row-words16-requires-2 : tie.Need-row-words16-requires-2
-row-words16-requires-2 c κs = search needs
+row-words16-requires-4 : tie.Need-row-words16-requires-4
+row-words16-requires-4 c κs = search needs
 
 slice-aggregate-open-verdict : tie.Need-slice-aggregate-open-verdict
 slice-aggregate-open-verdict c = search needs
@@ -156,10 +182,17 @@ slice-aggregate-open-verdict-3 c = search needs
 slice-aggregate-open-verdict-4 : tie.Need-slice-aggregate-open-verdict-4
 slice-aggregate-open-verdict-4 c = search needs
 
+-- the tables of the layout are as long as they were made
+afters-long : (c : tie.After-fill-ends) → length (c .fill-ends .last .1 .1 .0) ≡ row-room
+afters-long c = c .fill-ends .kept .1 .1 .0 ∙ c .before .before .row-words16 .ensures .room
+
+owners-long : (c : tie.After-fill-inners) → length (c .fill-inners .last .1 .1 .1 .0) ≡ row-room
+owners-long c = c .fill-inners .kept .1 .1 .1 .0 ∙ c .before .before .before .row-words162 .ensures .room
+
 open-verdict-requires : tie.Need-open-verdict-requires
 open-verdict-requires c κs =
-    let r = c .before .before .before .before .before .before .before .before .before .before .before .before .before .before .before .before .before .before .before .before .before .before .before .before .before .before .before .before .before .pre .0 .limits in
-    (omega arith, (all-ready (c .before .before .before .before .before .before .before .before .before), (ends _ _ _ (omega (arith, r .rows .1)) (c .before .before .before .before .before .before .before .before .before .before .before .before .before .before .before .before .before .before .before .ends .ensures), (owners _ _ _ (omega (arith, r .rows .1)) (c .before .before .before .before .before .before .before .inners .ensures), (c .before .before .before .before .before .before .before .before .before .before .before .before .before .before .before .before .before .before .before .before .before .before .before .before .before .before .before .before .before .pre .1, (omega (arith, r .names .1, c .before .before .before .before .before .before .row-words16 .ensures .room), omega (arith, r .states, c .before .before .before .before .before .row-words162 .ensures .room)))))))
+    let r = c .before .before .before .before .before .before .before .before .before .before .before .before .before .before .before .before .before .before .before .before .before .before .before .before .before .before .before .before .before .before .before .before .before .before .before .before .before .before .before .pre .0 .limits in
+    (omega arith, (all-ready (c .before .before .before .before .before .before .before .before .before .before .before .before), (ends _ _ _ (omega (arith, r .rows .1, afters-long (c .before .before .before .before .before .before .before .before .before .before .before .before .before .before .before .before .before .before .before .before .before .before .before .before))) (c .before .before .before .before .before .before .before .before .before .before .before .before .before .before .before .before .before .before .before .before .before .before .before .before .fill-ends .ensures), (owners _ _ _ (omega (arith, r .rows .1, owners-long (c .before .before .before .before .before .before .before .before))) (c .before .before .before .before .before .before .before .before .fill-inners .ensures), (c .before .before .before .before .before .before .before .before .before .before .before .before .before .before .before .before .before .before .before .before .before .before .before .before .before .before .before .before .before .before .before .before .before .before .before .before .before .before .before .pre .1, (omega (arith, r .names .1, c .before .before .before .before .before .before .row-words163 .ensures .room), omega (arith, r .states, c .before .before .before .before .before .row-words164 .ensures .room)))))))
 
 is-safe-requires-6 : tie.Need-is-safe-requires-6
 is-safe-requires-6 c κs = search needs
@@ -169,13 +202,13 @@ same-length c = search needs
 
 returns-6 : tie.Need-returns-6
 unfolding from-8
-returns-6 c = ends-with _ _ _ _ _ _ _ _ (goes-8 (c .before .before .before .before .before .before .before .before .before .before .before .before .before .before .before .before)) (c .before .before .before .before .before .before .open-verdict .ensures .0) (c .before .is-safe6 .ensures) (not-true _ (c .if6 .taken))
+returns-6 c = ends-with _ _ _ _ _ _ _ _ (goes-8 (c .before .before .before .before .before .before .before .before .before .before .before .before .before .before .before .before .before .before .before)) (c .before .before .before .before .before .before .open-verdict .ensures .0) (c .before .is-safe6 .ensures) (not-true _ (c .if6 .taken))
 
-row-words16-requires-3 : tie.Need-row-words16-requires-3
-row-words16-requires-3 c κs = search needs
+row-words16-requires-5 : tie.Need-row-words16-requires-5
+row-words16-requires-5 c κs = search needs
 
-words16-512-requires : tie.Need-words16-512-requires
-words16-512-requires c κs = search needs
+words16-512-requires-2 : tie.Need-words16-512-requires-2
+words16-512-requires-2 c κs = search needs
 
 slice-aggregate-fill-letters : tie.Need-slice-aggregate-fill-letters
 slice-aggregate-fill-letters c = search needs
@@ -183,17 +216,17 @@ slice-aggregate-fill-letters c = search needs
 slice-aggregate-fill-letters-2 : tie.Need-slice-aggregate-fill-letters-2
 slice-aggregate-fill-letters-2 c = search needs
 
-closed-pass : (c : tie.Else6) → Passes (c .before .before .before .before .before .before .before .before .before .before .before .before .before .before .before .before .before .before .before .before .before .before .before .before .before .before .before .before .before .before .before .before .before .before .before .before) (λ ws s. open-check s (program ws s) (tables ws s))
+closed-pass : (c : tie.Else6) → Passes (c .before .before .before .before .before .before .before .before .before .before .before .before .before .before .before .before .before .before .before .before .before .before .before .before .before .before .before .before .before .before .before .before .before .before .before .before .before .before .before .before .before .before .before .before .before .before) (λ ws s. open-check s (program ws s) (tables ws s))
 closed-pass c = passed _ _ _ (open-refuses _ _ _) (c .before .before .before .before .before .before .open-verdict .ensures .0) (c .before .is-safe6 .ensures) (not-false _ (c .if6 .left))
 
-goes-9 : (c : tie.Else6) → Goes (c .before .before .before .before .before .before .before .before .before .before .before .before .before .before .before .before .before .before .before .before .before .before .before .before .before .before .before .before .before .before .before .before .before .before .before .before) from-9
+goes-9 : (c : tie.Else6) → Goes (c .before .before .before .before .before .before .before .before .before .before .before .before .before .before .before .before .before .before .before .before .before .before .before .before .before .before .before .before .before .before .before .before .before .before .before .before .before .before .before .before .before .before .before .before .before .before) from-9
 unfolding from-8
-goes-9 c = goes-by _ _ _ (goes-8 (c .before .before .before .before .before .before .before .before .before .before .before .before .before .before .before .before)) (closed-pass c)
+goes-9 c = goes-by _ _ _ (goes-8 (c .before .before .before .before .before .before .before .before .before .before .before .before .before .before .before .before .before .before .before)) (closed-pass c)
 
 fill-letters-requires : tie.Need-fill-letters-requires
 fill-letters-requires c κs =
-    let r = c .before .before .before .before .before .before .before .before .before .before .before .before .before .before .before .before .before .before .before .before .before .before .before .before .before .before .before .before .before .before .before .before .before .before .before .before .before .before .before .before .pre .0 .limits in
-    (all-ready (c .before .before .before .before .before .before .before .before .before .before .before .before .before .before .before .before .before .before .before .before), (omega (arith, r .rows .1, c .before .before .before .row-words163 .ensures .room), omega (arith, r .mails, c .before .before .words16-512 .ensures .room)))
+    let r = c .before .before .before .before .before .before .before .before .before .before .before .before .before .before .before .before .before .before .before .before .before .before .before .before .before .before .before .before .before .before .before .before .before .before .before .before .before .before .before .before .before .before .before .before .before .before .before .before .before .before .pre .0 .limits in
+    (all-ready (c .before .before .before .before .before .before .before .before .before .before .before .before .before .before .before .before .before .before .before .before .before .before .before), (omega (arith, r .rows .1, c .before .before .before .row-words165 .ensures .room), omega (arith, r .mails, c .before .before .words16-5122 .ensures .room)))
 
 slice-aggregate-counter-check : tie.Need-slice-aggregate-counter-check
 slice-aggregate-counter-check c = search needs
@@ -202,7 +235,7 @@ slice-aggregate-counter-check-2 : tie.Need-slice-aggregate-counter-check-2
 slice-aggregate-counter-check-2 c = search needs
 
 counter-check-requires : tie.Need-counter-check-requires
-counter-check-requires c κs = (all-ready (c .before .before .before .before .before .before .before .before .before .before .before .before .before .before .before .before .before .before .before .before .before .before .before .before .before), c .before .before .before .before .fill-letters .ensures)
+counter-check-requires c κs = (all-ready (c .before .before .before .before .before .before .before .before .before .before .before .before .before .before .before .before .before .before .before .before .before .before .before .before .before .before .before .before), c .before .before .before .before .fill-letters .ensures)
 
 is-safe-requires-7 : tie.Need-is-safe-requires-7
 is-safe-requires-7 c κs = search needs
@@ -220,21 +253,21 @@ slice-aggregate-counter-count c = search needs
 slice-aggregate-counter-count-2 : tie.Need-slice-aggregate-counter-count-2
 slice-aggregate-counter-count-2 c = search needs
 
-counters-pass : (c : tie.Else7) → Passes (c .before .before .before .before .before .before .before .before .before .before .before .before .before .before .before .before .before .before .before .before .before .before .before .before .before .before .before .before .before .before .before .before .before .before .before .before .before .before .before .before .before .before .before .before .before .before .before .before) (λ ws s. counter-check present s (program ws s) (tables ws s))
+counters-pass : (c : tie.Else7) → Passes (c .before .before .before .before .before .before .before .before .before .before .before .before .before .before .before .before .before .before .before .before .before .before .before .before .before .before .before .before .before .before .before .before .before .before .before .before .before .before .before .before .before .before .before .before .before .before .before .before .before .before .before .before .before .before .before .before .before .before) (λ ws s. counter-check present s (program ws s) (tables ws s))
 counters-pass c = passed _ _ _ (counter-refuses _ _ _ _) (c .before .before .counter-check .ensures) (c .before .is-safe7 .ensures) (not-false _ (c .if7 .left))
 
-goes-10 : (c : tie.Else7) → Goes (c .before .before .before .before .before .before .before .before .before .before .before .before .before .before .before .before .before .before .before .before .before .before .before .before .before .before .before .before .before .before .before .before .before .before .before .before .before .before .before .before .before .before .before .before .before .before .before .before) from-10
+goes-10 : (c : tie.Else7) → Goes (c .before .before .before .before .before .before .before .before .before .before .before .before .before .before .before .before .before .before .before .before .before .before .before .before .before .before .before .before .before .before .before .before .before .before .before .before .before .before .before .before .before .before .before .before .before .before .before .before .before .before .before .before .before .before .before .before .before .before) from-10
 unfolding from-9
 goes-10 c = goes-by _ _ _ (goes-9 (c .before .before .before .before .before .before .before .before .before .before .before .before)) (counters-pass c)
 
 counter-count-requires : tie.Need-counter-count-requires
-counter-count-requires c κs = (all-ready (c .before .before .before .before .before .before .before .before .before .before .before .before .before .before .before .before .before .before .before .before .before .before .before .before .before .before .before .before .before .before), c .before .before .before .before .before .before .before .before .before .fill-letters .ensures)
+counter-count-requires c κs = (all-ready (c .before .before .before .before .before .before .before .before .before .before .before .before .before .before .before .before .before .before .before .before .before .before .before .before .before .before .before .before .before .before .before .before .before), c .before .before .before .before .before .before .before .before .before .fill-letters .ensures)
 
 counters-few : (c : tie.After-counter-count) → c .counter-count .result ≤ maxCounters
 counters-few c = few-counters _ _ _ (c .counter-count .ensures) (few _ _ _ (counters-pass (c .before .before .before)))
 
 ceiling-check-requires : tie.Need-ceiling-check-requires
-ceiling-check-requires c κs = (ceilings-whole _ _ (c .before .before .before .before .before .before .before .before .before .before .before .before .before .before .before .before .before .before .before .before .before .before .before .before .before .before .before .before .before .before .before .before .before .before .before .before .before .before .before .before .before .before .before .before .before .before .before .before .before .before .before .pre .0), counters-few c)
+ceiling-check-requires c κs = (ceilings-whole _ _ (c .before .before .before .before .before .before .before .before .before .before .before .before .before .before .before .before .before .before .before .before .before .before .before .before .before .before .before .before .before .before .before .before .before .before .before .before .before .before .before .before .before .before .before .before .before .before .before .before .before .before .before .before .before .before .before .before .before .before .before .before .before .pre .0), counters-few c)
 
 is-safe-requires-8 : tie.Need-is-safe-requires-8
 is-safe-requires-8 c κs = search needs
@@ -253,45 +286,38 @@ slice-aggregate-fill-names : tie.Need-slice-aggregate-fill-names
 slice-aggregate-fill-names c = search needs
 
 fill-names-requires : tie.Need-fill-names-requires
-fill-names-requires c κs = (all-ready (c .before .before .before .before .before .before .before .before .before .before .before .before .before .before .before .before .before .before .before .before .before .before .before .before .before .before .before .before .before .before .before .before .before .before .before .before), omega (arith, c .before .before .before .before .before .before .before .before .before .before .before .before .before .before .before .before .before .before .before .before .before .before .before .before .before .before .before .before .before .before .before .before .before .before .before .before .before .before .before .before .before .before .before .before .before .before .before .before .before .before .before .before .before .before .before .before .pre .0 .limits .names .1, c .before .words64-1024 .ensures .room))
+fill-names-requires c κs = (all-ready (c .before .before .before .before .before .before .before .before .before .before .before .before .before .before .before .before .before .before .before .before .before .before .before .before .before .before .before .before .before .before .before .before .before .before .before .before .before .before .before), omega (arith, c .before .before .before .before .before .before .before .before .before .before .before .before .before .before .before .before .before .before .before .before .before .before .before .before .before .before .before .before .before .before .before .before .before .before .before .before .before .before .before .before .before .before .before .before .before .before .before .before .before .before .before .before .before .before .before .before .before .before .before .before .before .before .before .before .before .before .pre .0 .limits .names .1, c .before .words64-1024 .ensures .room))
 
 width-requires : tie.Need-width-requires
 width-requires c κs = search needs
 
-form-passes : (c : tie.Else8) → Passes (c .before .before .before .before .before .before .before .before .before .before .before .before .before .before .before .before .before .before .before .before .before .before .before .before .before .before .before .before .before .before .before .before .before .before .before .before .before .before .before .before .before .before .before .before .before .before .before .before .before .before .before .before .before .before) (λ ws s. ceiling-check ws s (counter-count (program ws s) (tables ws s)))
+form-passes : (c : tie.Else8) → Passes (c .before .before .before .before .before .before .before .before .before .before .before .before .before .before .before .before .before .before .before .before .before .before .before .before .before .before .before .before .before .before .before .before .before .before .before .before .before .before .before .before .before .before .before .before .before .before .before .before .before .before .before .before .before .before .before .before .before .before .before .before .before .before .before .before) (λ ws s. ceiling-check ws s (counter-count (program ws s) (tables ws s)))
 form-passes c = passed _ _ _ (ceiling-refuses _ _ _) (ceiling-told _ _ _ _ (c .before .before .ceiling-check .ensures) (c .before .before .before .counter-count .ensures)) (c .before .is-safe8 .ensures) (not-false _ (c .if8 .left))
 
-goes-11 : (c : tie.Else8) → Goes (c .before .before .before .before .before .before .before .before .before .before .before .before .before .before .before .before .before .before .before .before .before .before .before .before .before .before .before .before .before .before .before .before .before .before .before .before .before .before .before .before .before .before .before .before .before .before .before .before .before .before .before .before .before .before) from-11
+goes-11 : (c : tie.Else8) → Goes (c .before .before .before .before .before .before .before .before .before .before .before .before .before .before .before .before .before .before .before .before .before .before .before .before .before .before .before .before .before .before .before .before .before .before .before .before .before .before .before .before .before .before .before .before .before .before .before .before .before .before .before .before .before .before .before .before .before .before .before .before .before .before .before .before) from-11
 unfolding from-10
 goes-11 c = goes-by _ _ _ (goes-10 (c .before .before .before .before .before .before)) (form-passes c)
 
--- the tables of the layout are as long as they were made
-afters-long : (c : tie.After-ends) → length (c .ends .result) ≡ maxRows
-afters-long c = search needs
-
-owners-long : (c : tie.After-inners) → length (c .inners .result) ≡ maxRows
-owners-long c = search needs
-
 slice-aggregate-ceilings-verdict : tie.Need-slice-aggregate-ceilings-verdict
-slice-aggregate-ceilings-verdict c = sym (afters-long (c .before .before .before .before .before .before .before .before .before .before .before .before .before .before .before .before .before .before .before .before .before .before .before .before .before .before .before .before .before .before .before .before .before .before .before .before .before .before .before .before .before .before .before .before .before .before .before .before .before .before))
+slice-aggregate-ceilings-verdict c = sym (afters-long (c .before .before .before .before .before .before .before .before .before .before .before .before .before .before .before .before .before .before .before .before .before .before .before .before .before .before .before .before .before .before .before .before .before .before .before .before .before .before .before .before .before .before .before .before .before .before .before .before .before .before .before .before .before .before .before))
 
 slice-aggregate-ceilings-verdict-2 : tie.Need-slice-aggregate-ceilings-verdict-2
-slice-aggregate-ceilings-verdict-2 c = sym (owners-long (c .before .before .before .before .before .before .before .before .before .before .before .before .before .before .before .before .before .before .before .before .before .before .before .before .before .before .before .before .before .before .before .before .before .before .before .before .before .before .before))
+slice-aggregate-ceilings-verdict-2 c = sym (owners-long (c .before .before .before .before .before .before .before .before .before .before .before .before .before .before .before .before .before .before .before .before .before .before .before .before .before .before .before .before .before .before .before .before .before .before .before .before .before .before .before .before))
 
 slice-aggregate-ceilings-verdict-3 : tie.Need-slice-aggregate-ceilings-verdict-3
-slice-aggregate-ceilings-verdict-3 c = sym (c .before .before .before .before .before .before .before .before .before .before .before .before .before .before .before .before .before .before .before .before .before .before .before .before .before .before .before .before .before .before .before .before .open-verdict .kept .1 .1 .1 .1 .1 .0 ∙ c .before .before .before .before .before .before .before .before .before .before .before .before .before .before .before .before .before .before .before .before .before .before .before .before .before .before .before .before .before .before .before .before .before .before .before .before .before .before .before .row-words16 .ensures .room)
+slice-aggregate-ceilings-verdict-3 c = sym (c .before .before .before .before .before .before .before .before .before .before .before .before .before .before .before .before .before .before .before .before .before .before .before .before .before .before .before .before .before .before .before .before .open-verdict .kept .1 .1 .1 .1 .1 .0 ∙ c .before .before .before .before .before .before .before .before .before .before .before .before .before .before .before .before .before .before .before .before .before .before .before .before .before .before .before .before .before .before .before .before .before .before .before .before .before .before .before .row-words163 .ensures .room)
 
 slice-aggregate-ceilings-verdict-4 : tie.Need-slice-aggregate-ceilings-verdict-4
 slice-aggregate-ceilings-verdict-4 c = search needs
 
 slice-aggregate-ceilings-verdict-5 : tie.Need-slice-aggregate-ceilings-verdict-5
-slice-aggregate-ceilings-verdict-5 c = sym (c .before .before .before .before .before .before .before .before .before .before .before .before .before .before .before .before .before .before .before .before .before .before .before .before .fill-letters .kept .1 .1 .0 ∙ c .before .before .before .before .before .before .before .before .before .before .before .before .before .before .before .before .before .before .before .before .before .before .before .before .before .before .before .before .row-words163 .ensures .room)
+slice-aggregate-ceilings-verdict-5 c = sym (c .before .before .before .before .before .before .before .before .before .before .before .before .before .before .before .before .before .before .before .before .before .before .before .before .fill-letters .kept .1 .1 .0 ∙ c .before .before .before .before .before .before .before .before .before .before .before .before .before .before .before .before .before .before .before .before .before .before .before .before .before .before .before .before .row-words165 .ensures .room)
 
 slice-aggregate-ceilings-verdict-6 : tie.Need-slice-aggregate-ceilings-verdict-6
-slice-aggregate-ceilings-verdict-6 c = sym (c .before .before .before .before .before .before .before .before .before .before .before .before .before .before .before .before .before .before .before .before .before .before .before .before .before .fill-letters .kept .1 .1 .1 .0 ∙ c .before .before .before .before .before .before .before .before .before .before .before .before .before .before .before .before .before .before .before .before .before .before .before .before .before .before .before .before .words16-512 .ensures .room)
+slice-aggregate-ceilings-verdict-6 c = sym (c .before .before .before .before .before .before .before .before .before .before .before .before .before .before .before .before .before .before .before .before .before .before .before .before .before .fill-letters .kept .1 .1 .1 .0 ∙ c .before .before .before .before .before .before .before .before .before .before .before .before .before .before .before .before .before .before .before .before .before .before .before .before .before .before .before .before .words16-5122 .ensures .room)
 
 slice-aggregate-ceilings-verdict-7 : tie.Need-slice-aggregate-ceilings-verdict-7
-slice-aggregate-ceilings-verdict-7 c = sym (c .before .before .before .before .before .before .before .before .before .before .before .before .before .before .before .before .before .before .before .before .before .before .before .before .before .before .before .before .before .before .before .before .before .before .before .before .before .open-verdict .kept .1 .1 .1 .1 .1 .1 .1 .0 ∙ c .before .before .before .before .before .before .before .before .before .before .before .before .before .before .before .before .before .before .before .before .before .before .before .before .before .before .before .before .before .before .before .before .before .before .before .before .before .before .before .before .before .before .before .row-words162 .ensures .room)
+slice-aggregate-ceilings-verdict-7 c = sym (c .before .before .before .before .before .before .before .before .before .before .before .before .before .before .before .before .before .before .before .before .before .before .before .before .before .before .before .before .before .before .before .before .before .before .before .before .before .open-verdict .kept .1 .1 .1 .1 .1 .1 .1 .0 ∙ c .before .before .before .before .before .before .before .before .before .before .before .before .before .before .before .before .before .before .before .before .before .before .before .before .before .before .before .before .before .before .before .before .before .before .before .before .before .before .before .before .before .before .before .row-words164 .ensures .room)
 
 ceilings-verdict-requires : tie.Need-ceilings-verdict-requires
 ceilings-verdict-requires c κs =
@@ -299,11 +325,11 @@ ceilings-verdict-requires c κs =
       omega arith,
       (
         record {
-          ready = all-ready (c .before .before .before .before .before .before .before .before .before .before .before .before .before .before .before .before .before .before .before .before .before .before .before .before .before .before .before .before .before .before .before .before .before .before .before .before .before .before .before .before .before .before .before .before .before .before .before);
+          ready = all-ready (c .before .before .before .before .before .before .before .before .before .before .before .before .before .before .before .before .before .before .before .before .before .before .before .before .before .before .before .before .before .before .before .before .before .before .before .before .before .before .before .before .before .before .before .before .before .before .before .before .before .before);
           closed = closed-pass (c .before .before .before .before .before .before .before .before .before .before .before .before .before .before .before .before .before .before .before .before .before .before .before .before .before .before .before .before .before .before .before);
           few = few _ _ _ (counters-pass (c .before .before .before .before .before .before .before .before .before .before .before .before .before .before .before .before .before .before .before));
-          ends = ends _ _ _ (omega (arith, c .before .before .before .before .before .before .before .before .before .before .before .before .before .before .before .before .before .before .before .before .before .before .before .before .before .before .before .before .before .before .before .before .before .before .before .before .before .before .before .before .before .before .before .before .before .before .before .before .before .before .before .before .before .before .before .before .before .before .before .before .before .before .before .before .before .before .before .pre .0 .limits .rows .1, afters-long (c .before .before .before .before .before .before .before .before .before .before .before .before .before .before .before .before .before .before .before .before .before .before .before .before .before .before .before .before .before .before .before .before .before .before .before .before .before .before .before .before .before .before .before .before .before .before .before .before .before .before .before .before .before .before .before .before .before))) (c .before .before .before .before .before .before .before .before .before .before .before .before .before .before .before .before .before .before .before .before .before .before .before .before .before .before .before .before .before .before .before .before .before .before .before .before .before .before .before .before .before .before .before .before .before .before .before .before .before .before .before .before .before .before .before .before .before .ends .ensures);
-          owners = owners _ _ _ (omega (arith, c .before .before .before .before .before .before .before .before .before .before .before .before .before .before .before .before .before .before .before .before .before .before .before .before .before .before .before .before .before .before .before .before .before .before .before .before .before .before .before .before .before .before .before .before .before .before .before .before .before .before .before .before .before .before .before .before .before .before .before .before .before .before .before .before .before .before .before .pre .0 .limits .rows .1, owners-long (c .before .before .before .before .before .before .before .before .before .before .before .before .before .before .before .before .before .before .before .before .before .before .before .before .before .before .before .before .before .before .before .before .before .before .before .before .before .before .before .before .before .before .before .before .before))) (c .before .before .before .before .before .before .before .before .before .before .before .before .before .before .before .before .before .before .before .before .before .before .before .before .before .before .before .before .before .before .before .before .before .before .before .before .before .before .before .before .before .before .before .before .before .inners .ensures);
+          ends = ends _ _ _ (omega (arith, c .before .before .before .before .before .before .before .before .before .before .before .before .before .before .before .before .before .before .before .before .before .before .before .before .before .before .before .before .before .before .before .before .before .before .before .before .before .before .before .before .before .before .before .before .before .before .before .before .before .before .before .before .before .before .before .before .before .before .before .before .before .before .before .before .before .before .before .before .before .before .before .before .before .before .before .before .before .pre .0 .limits .rows .1, afters-long (c .before .before .before .before .before .before .before .before .before .before .before .before .before .before .before .before .before .before .before .before .before .before .before .before .before .before .before .before .before .before .before .before .before .before .before .before .before .before .before .before .before .before .before .before .before .before .before .before .before .before .before .before .before .before .before .before .before .before .before .before .before .before))) (c .before .before .before .before .before .before .before .before .before .before .before .before .before .before .before .before .before .before .before .before .before .before .before .before .before .before .before .before .before .before .before .before .before .before .before .before .before .before .before .before .before .before .before .before .before .before .before .before .before .before .before .before .before .before .before .before .before .before .before .before .before .before .fill-ends .ensures);
+          owners = owners _ _ _ (omega (arith, c .before .before .before .before .before .before .before .before .before .before .before .before .before .before .before .before .before .before .before .before .before .before .before .before .before .before .before .before .before .before .before .before .before .before .before .before .before .before .before .before .before .before .before .before .before .before .before .before .before .before .before .before .before .before .before .before .before .before .before .before .before .before .before .before .before .before .before .before .before .before .before .before .before .before .before .before .before .pre .0 .limits .rows .1, owners-long (c .before .before .before .before .before .before .before .before .before .before .before .before .before .before .before .before .before .before .before .before .before .before .before .before .before .before .before .before .before .before .before .before .before .before .before .before .before .before .before .before .before .before .before .before .before .before))) (c .before .before .before .before .before .before .before .before .before .before .before .before .before .before .before .before .before .before .before .before .before .before .before .before .before .before .before .before .before .before .before .before .before .before .before .before .before .before .before .before .before .before .before .before .before .before .fill-inners .ensures);
           flow-starts = c .before .before .before .before .before .before .before .before .before .before .before .before .before .before .before .before .before .before .before .before .before .before .before .before .before .before .before .before .before .before .before .before .before .before .before .before .before .open-verdict .ensures .1 .0 safe;
           flow-width = c .before .before .before .before .before .before .before .before .width .ensures;
           flow-sets = c .before .before .before .before .before .before .before .before .before .before .before .before .before .before .before .before .before .before .before .before .before .before .before .before .before .before .before .before .before .before .before .before .before .before .before .before .before .open-verdict .ensures .1 .1 .0 safe;
@@ -314,7 +340,7 @@ ceilings-verdict-requires c κs =
         record {
           counted = c .before .before .before .before .before .before .before .before .before .before .before .before .before .before .before .before .counter-count .ensures;
           in-form = ceiling-none _ _ _ .0 (passed _ _ _ (ceiling-refuses _ _ _) (c .before .before .before .before .before .before .before .before .before .before .before .before .before .before .before .ceiling-check .ensures) (c .before .before .before .before .before .before .before .before .before .before .before .before .before .before .is-safe8 .ensures) (not-false _ (c .before .before .before .before .before .before .before .before .before .before .before .before .before .if8 .left)));
-          bads = bad-none _ _ _ .0 (bads-pass (c .before .before .before .before .before .before .before .before .before .before .before .before .before .before .before .before .before .before .before .before .before .before .before .before .before .before .before .before .before .before .before .before .before .before .before .before .before .before .before .before .before .before .before .before .before .before .before .before .before .before));
+          bads = bad-none _ _ _ .0 (bads-pass (c .before .before .before .before .before .before .before .before .before .before .before .before .before .before .before .before .before .before .before .before .before .before .before .before .before .before .before .before .before .before .before .before .before .before .before .before .before .before .before .before .before .before .before .before .before .before .before .before .before .before .before .before .before));
         },
       ),
     )
@@ -329,43 +355,43 @@ returns-9 : tie.Need-returns-9
 unfolding from-11
 returns-9 c = ends-with _ _ _ _ _ _ _ _ (goes-11 (c .before .before .before .before .before .before .before .before .before .before .before .before .before .before .before .before)) (ceilings-told _ _ _ _ (c .before .before .ceilings-verdict .ensures .0) (c .before .before .before .before .before .before .before .before .before .before .before .before .before .before .before .before .before .before .before .counter-count .ensures)) (c .before .is-safe9 .ensures) (not-true _ (c .if9 .taken))
 
-ceilings-pass : (c : tie.Else9) → Passes (c .before .before .before .before .before .before .before .before .before .before .before .before .before .before .before .before .before .before .before .before .before .before .before .before .before .before .before .before .before .before .before .before .before .before .before .before .before .before .before .before .before .before .before .before .before .before .before .before .before .before .before .before .before .before .before .before .before .before .before .before .before .before .before .before .before .before .before .before .before .before) (λ ws s. under-ceilings ws s (counter-count (program ws s) (tables ws s)))
+ceilings-pass : (c : tie.Else9) → Passes (c .before .before .before .before .before .before .before .before .before .before .before .before .before .before .before .before .before .before .before .before .before .before .before .before .before .before .before .before .before .before .before .before .before .before .before .before .before .before .before .before .before .before .before .before .before .before .before .before .before .before .before .before .before .before .before .before .before .before .before .before .before .before .before .before .before .before .before .before .before .before .before .before .before .before .before .before .before .before .before .before) (λ ws s. under-ceilings ws s (counter-count (program ws s) (tables ws s)))
 ceilings-pass c = passed _ _ _ (under-refuses _ _ (form-passes (c .before .before .before .before .before .before .before .before .before .before .before .before .before .before .before .before))) (ceilings-told _ _ _ _ (c .before .before .ceilings-verdict .ensures .0) (c .before .before .before .before .before .before .before .before .before .before .before .before .before .before .before .before .before .before .before .counter-count .ensures)) (c .before .is-safe9 .ensures) (not-false _ (c .if9 .left))
 
-goes-14 : (c : tie.Else9) → Goes (c .before .before .before .before .before .before .before .before .before .before .before .before .before .before .before .before .before .before .before .before .before .before .before .before .before .before .before .before .before .before .before .before .before .before .before .before .before .before .before .before .before .before .before .before .before .before .before .before .before .before .before .before .before .before .before .before .before .before .before .before .before .before .before .before .before .before .before .before .before .before) from-14
+goes-14 : (c : tie.Else9) → Goes (c .before .before .before .before .before .before .before .before .before .before .before .before .before .before .before .before .before .before .before .before .before .before .before .before .before .before .before .before .before .before .before .before .before .before .before .before .before .before .before .before .before .before .before .before .before .before .before .before .before .before .before .before .before .before .before .before .before .before .before .before .before .before .before .before .before .before .before .before .before .before .before .before .before .before .before .before .before .before .before .before) from-14
 unfolding from-11
 goes-14 c = goes-by _ _ _ (goes-11 (c .before .before .before .before .before .before .before .before .before .before .before .before .before .before .before .before)) (ceilings-pass c)
 
 slice-aggregate-listing-verdict : tie.Need-slice-aggregate-listing-verdict
-slice-aggregate-listing-verdict c = sym (afters-long (c .before .before .before .before .before .before .before .before .before .before .before .before .before .before .before .before .before .before .before .before .before .before .before .before .before .before .before .before .before .before .before .before .before .before .before .before .before .before .before .before .before .before .before .before .before .before .before .before .before .before .before .before .before .before .before .before .before .before .before .before .before .before))
+slice-aggregate-listing-verdict c = sym (afters-long (c .before .before .before .before .before .before .before .before .before .before .before .before .before .before .before .before .before .before .before .before .before .before .before .before .before .before .before .before .before .before .before .before .before .before .before .before .before .before .before .before .before .before .before .before .before .before .before .before .before .before .before .before .before .before .before .before .before .before .before .before .before .before .before .before .before .before .before))
 
 slice-aggregate-listing-verdict-2 : tie.Need-slice-aggregate-listing-verdict-2
-slice-aggregate-listing-verdict-2 c = sym (owners-long (c .before .before .before .before .before .before .before .before .before .before .before .before .before .before .before .before .before .before .before .before .before .before .before .before .before .before .before .before .before .before .before .before .before .before .before .before .before .before .before .before .before .before .before .before .before .before .before .before .before .before .before))
+slice-aggregate-listing-verdict-2 c = sym (owners-long (c .before .before .before .before .before .before .before .before .before .before .before .before .before .before .before .before .before .before .before .before .before .before .before .before .before .before .before .before .before .before .before .before .before .before .before .before .before .before .before .before .before .before .before .before .before .before .before .before .before .before .before .before))
 
 slice-aggregate-listing-verdict-3 : tie.Need-slice-aggregate-listing-verdict-3
-slice-aggregate-listing-verdict-3 c = sym (c .before .before .before .before .before .before .before .before .before .before .before .before .before .before .before .before .before .before .before .before .before .before .before .before .before .before .before .before .before .before .before .before .before .before .before .before .before .before .before .before .before .before .before .before .open-verdict .kept .1 .1 .1 .1 .1 .0 ∙ c .before .before .before .before .before .before .before .before .before .before .before .before .before .before .before .before .before .before .before .before .before .before .before .before .before .before .before .before .before .before .before .before .before .before .before .before .before .before .before .before .before .before .before .before .before .before .before .before .before .before .before .row-words16 .ensures .room)
+slice-aggregate-listing-verdict-3 c = sym (c .before .before .before .before .before .before .before .before .before .before .before .before .before .before .before .before .before .before .before .before .before .before .before .before .before .before .before .before .before .before .before .before .before .before .before .before .before .before .before .before .before .before .before .before .open-verdict .kept .1 .1 .1 .1 .1 .0 ∙ c .before .before .before .before .before .before .before .before .before .before .before .before .before .before .before .before .before .before .before .before .before .before .before .before .before .before .before .before .before .before .before .before .before .before .before .before .before .before .before .before .before .before .before .before .before .before .before .before .before .before .before .row-words163 .ensures .room)
 
 slice-aggregate-listing-verdict-4 : tie.Need-slice-aggregate-listing-verdict-4
 slice-aggregate-listing-verdict-4 c = search needs
 
 slice-aggregate-listing-verdict-5 : tie.Need-slice-aggregate-listing-verdict-5
-slice-aggregate-listing-verdict-5 c = sym (c .before .before .before .before .before .before .before .before .before .before .before .before .before .before .before .before .before .before .before .before .before .before .before .before .before .before .before .before .before .before .before .before .before .before .before .before .fill-letters .kept .1 .1 .0 ∙ c .before .before .before .before .before .before .before .before .before .before .before .before .before .before .before .before .before .before .before .before .before .before .before .before .before .before .before .before .before .before .before .before .before .before .before .before .before .before .before .before .row-words163 .ensures .room)
+slice-aggregate-listing-verdict-5 c = sym (c .before .before .before .before .before .before .before .before .before .before .before .before .before .before .before .before .before .before .before .before .before .before .before .before .before .before .before .before .before .before .before .before .before .before .before .before .fill-letters .kept .1 .1 .0 ∙ c .before .before .before .before .before .before .before .before .before .before .before .before .before .before .before .before .before .before .before .before .before .before .before .before .before .before .before .before .before .before .before .before .before .before .before .before .before .before .before .before .row-words165 .ensures .room)
 
 slice-aggregate-listing-verdict-6 : tie.Need-slice-aggregate-listing-verdict-6
-slice-aggregate-listing-verdict-6 c = sym (c .before .before .before .before .before .before .before .before .before .before .before .before .before .before .before .before .before .before .before .before .before .before .before .before .before .before .before .before .before .before .before .before .before .before .before .before .before .fill-letters .kept .1 .1 .1 .0 ∙ c .before .before .before .before .before .before .before .before .before .before .before .before .before .before .before .before .before .before .before .before .before .before .before .before .before .before .before .before .before .before .before .before .before .before .before .before .before .before .before .before .words16-512 .ensures .room)
+slice-aggregate-listing-verdict-6 c = sym (c .before .before .before .before .before .before .before .before .before .before .before .before .before .before .before .before .before .before .before .before .before .before .before .before .before .before .before .before .before .before .before .before .before .before .before .before .before .fill-letters .kept .1 .1 .1 .0 ∙ c .before .before .before .before .before .before .before .before .before .before .before .before .before .before .before .before .before .before .before .before .before .before .before .before .before .before .before .before .before .before .before .before .before .before .before .before .before .before .before .before .words16-5122 .ensures .room)
 
 slice-aggregate-listing-verdict-7 : tie.Need-slice-aggregate-listing-verdict-7
-slice-aggregate-listing-verdict-7 c = sym (c .before .before .before .before .before .before .before .before .before .before .before .before .before .before .before .before .before .before .before .before .before .before .before .before .before .before .before .before .before .before .before .before .before .before .before .before .before .before .before .before .before .before .before .before .before .before .before .before .before .open-verdict .kept .1 .1 .1 .1 .1 .1 .1 .0 ∙ c .before .before .before .before .before .before .before .before .before .before .before .before .before .before .before .before .before .before .before .before .before .before .before .before .before .before .before .before .before .before .before .before .before .before .before .before .before .before .before .before .before .before .before .before .before .before .before .before .before .before .before .before .before .before .before .row-words162 .ensures .room)
+slice-aggregate-listing-verdict-7 c = sym (c .before .before .before .before .before .before .before .before .before .before .before .before .before .before .before .before .before .before .before .before .before .before .before .before .before .before .before .before .before .before .before .before .before .before .before .before .before .before .before .before .before .before .before .before .before .before .before .before .before .open-verdict .kept .1 .1 .1 .1 .1 .1 .1 .0 ∙ c .before .before .before .before .before .before .before .before .before .before .before .before .before .before .before .before .before .before .before .before .before .before .before .before .before .before .before .before .before .before .before .before .before .before .before .before .before .before .before .before .before .before .before .before .before .before .before .before .before .before .before .before .before .before .before .row-words164 .ensures .room)
 
 listing-verdict-requires : tie.Need-listing-verdict-requires
 listing-verdict-requires c κs =
     let safe = safe-only _ (sym (c .before .before .before .before .before .before .before .before .before .before .before .before .before .before .before .before .before .before .before .before .before .before .before .before .before .before .before .before .before .before .before .before .before .before .before .before .before .before .before .before .before .before .before .before .before .is-safe6 .ensures) ∙ not-false _ (c .before .before .before .before .before .before .before .before .before .before .before .before .before .before .before .before .before .before .before .before .before .before .before .before .before .before .before .before .before .before .before .before .before .before .before .before .before .before .before .before .before .before .before .before .if6 .left)) in (
       record {
-        ready = all-ready (c .before .before .before .before .before .before .before .before .before .before .before .before .before .before .before .before .before .before .before .before .before .before .before .before .before .before .before .before .before .before .before .before .before .before .before .before .before .before .before .before .before .before .before .before .before .before .before .before .before .before .before .before .before .before .before .before .before .before .before .before);
+        ready = all-ready (c .before .before .before .before .before .before .before .before .before .before .before .before .before .before .before .before .before .before .before .before .before .before .before .before .before .before .before .before .before .before .before .before .before .before .before .before .before .before .before .before .before .before .before .before .before .before .before .before .before .before .before .before .before .before .before .before .before .before .before .before .before .before .before);
         closed = closed-pass (c .before .before .before .before .before .before .before .before .before .before .before .before .before .before .before .before .before .before .before .before .before .before .before .before .before .before .before .before .before .before .before .before .before .before .before .before .before .before .before .before .before .before .before .before);
         few = few _ _ _ (counters-pass (c .before .before .before .before .before .before .before .before .before .before .before .before .before .before .before .before .before .before .before .before .before .before .before .before .before .before .before .before .before .before .before .before));
-        ends = ends _ _ _ (omega (arith, c .before .before .before .before .before .before .before .before .before .before .before .before .before .before .before .before .before .before .before .before .before .before .before .before .before .before .before .before .before .before .before .before .before .before .before .before .before .before .before .before .before .before .before .before .before .before .before .before .before .before .before .before .before .before .before .before .before .before .before .before .before .before .before .before .before .before .before .before .before .before .before .before .before .before .before .before .before .before .before .before .pre .0 .limits .rows .1, afters-long (c .before .before .before .before .before .before .before .before .before .before .before .before .before .before .before .before .before .before .before .before .before .before .before .before .before .before .before .before .before .before .before .before .before .before .before .before .before .before .before .before .before .before .before .before .before .before .before .before .before .before .before .before .before .before .before .before .before .before .before .before .before .before .before .before .before .before .before .before .before .before))) (c .before .before .before .before .before .before .before .before .before .before .before .before .before .before .before .before .before .before .before .before .before .before .before .before .before .before .before .before .before .before .before .before .before .before .before .before .before .before .before .before .before .before .before .before .before .before .before .before .before .before .before .before .before .before .before .before .before .before .before .before .before .before .before .before .before .before .before .before .before .before .ends .ensures);
-        owners = owners _ _ _ (omega (arith, c .before .before .before .before .before .before .before .before .before .before .before .before .before .before .before .before .before .before .before .before .before .before .before .before .before .before .before .before .before .before .before .before .before .before .before .before .before .before .before .before .before .before .before .before .before .before .before .before .before .before .before .before .before .before .before .before .before .before .before .before .before .before .before .before .before .before .before .before .before .before .before .before .before .before .before .before .before .before .before .before .pre .0 .limits .rows .1, owners-long (c .before .before .before .before .before .before .before .before .before .before .before .before .before .before .before .before .before .before .before .before .before .before .before .before .before .before .before .before .before .before .before .before .before .before .before .before .before .before .before .before .before .before .before .before .before .before .before .before .before .before .before .before .before .before .before .before .before .before))) (c .before .before .before .before .before .before .before .before .before .before .before .before .before .before .before .before .before .before .before .before .before .before .before .before .before .before .before .before .before .before .before .before .before .before .before .before .before .before .before .before .before .before .before .before .before .before .before .before .before .before .before .before .before .before .before .before .before .before .inners .ensures);
+        ends = ends _ _ _ (omega (arith, c .before .before .before .before .before .before .before .before .before .before .before .before .before .before .before .before .before .before .before .before .before .before .before .before .before .before .before .before .before .before .before .before .before .before .before .before .before .before .before .before .before .before .before .before .before .before .before .before .before .before .before .before .before .before .before .before .before .before .before .before .before .before .before .before .before .before .before .before .before .before .before .before .before .before .before .before .before .before .before .before .before .before .before .before .before .before .before .before .before .before .pre .0 .limits .rows .1, afters-long (c .before .before .before .before .before .before .before .before .before .before .before .before .before .before .before .before .before .before .before .before .before .before .before .before .before .before .before .before .before .before .before .before .before .before .before .before .before .before .before .before .before .before .before .before .before .before .before .before .before .before .before .before .before .before .before .before .before .before .before .before .before .before .before .before .before .before .before .before .before .before .before .before .before .before .before))) (c .before .before .before .before .before .before .before .before .before .before .before .before .before .before .before .before .before .before .before .before .before .before .before .before .before .before .before .before .before .before .before .before .before .before .before .before .before .before .before .before .before .before .before .before .before .before .before .before .before .before .before .before .before .before .before .before .before .before .before .before .before .before .before .before .before .before .before .before .before .before .before .before .before .before .before .fill-ends .ensures);
+        owners = owners _ _ _ (omega (arith, c .before .before .before .before .before .before .before .before .before .before .before .before .before .before .before .before .before .before .before .before .before .before .before .before .before .before .before .before .before .before .before .before .before .before .before .before .before .before .before .before .before .before .before .before .before .before .before .before .before .before .before .before .before .before .before .before .before .before .before .before .before .before .before .before .before .before .before .before .before .before .before .before .before .before .before .before .before .before .before .before .before .before .before .before .before .before .before .before .before .before .pre .0 .limits .rows .1, owners-long (c .before .before .before .before .before .before .before .before .before .before .before .before .before .before .before .before .before .before .before .before .before .before .before .before .before .before .before .before .before .before .before .before .before .before .before .before .before .before .before .before .before .before .before .before .before .before .before .before .before .before .before .before .before .before .before .before .before .before .before))) (c .before .before .before .before .before .before .before .before .before .before .before .before .before .before .before .before .before .before .before .before .before .before .before .before .before .before .before .before .before .before .before .before .before .before .before .before .before .before .before .before .before .before .before .before .before .before .before .before .before .before .before .before .before .before .before .before .before .before .before .fill-inners .ensures);
         flow-starts = c .before .before .before .before .before .before .before .before .before .before .before .before .before .before .before .before .before .before .before .before .before .before .before .before .before .before .before .before .before .before .before .before .before .before .before .before .before .before .before .before .before .before .before .before .before .before .before .before .before .before .open-verdict .ensures .1 .0 safe;
         flow-width = c .before .before .before .before .before .before .before .before .before .before .before .before .before .before .before .before .before .before .before .before .before .width .ensures;
         flow-sets = c .before .before .before .before .before .before .before .before .before .before .before .before .before .before .before .before .before .before .before .before .before .before .before .before .before .before .before .before .before .before .before .before .before .before .before .before .before .before .before .before .before .before .before .before .before .before .before .before .before .before .open-verdict .ensures .1 .1 .0 safe;
@@ -393,11 +419,16 @@ words-verdict-spec =
     row-check-requires
     is-safe-requires
     returns
+    words16-512-requires
+    slice-aggregate-name-check
     name-check-requires
     is-safe-requires-2
     returns-2
-    ends-requires
+    row-words16-requires
+    slice-aggregate-fill-ends
+    fill-ends-requires
     slice-aggregate-scope-check
+    slice-aggregate-scope-check-2
     scope-check-requires
     is-safe-requires-3
     returns-3
@@ -407,10 +438,12 @@ words-verdict-spec =
     entry-check-requires
     is-safe-requires-5
     returns-5
-    slice-aggregate-inners
-    inners-requires
-    row-words16-requires
     row-words16-requires-2
+    slice-aggregate-fill-inners
+    slice-aggregate-fill-inners-2
+    fill-inners-requires
+    row-words16-requires-3
+    row-words16-requires-4
     slice-aggregate-open-verdict
     slice-aggregate-open-verdict-2
     slice-aggregate-open-verdict-3
@@ -419,8 +452,8 @@ words-verdict-spec =
     is-safe-requires-6
     same-length
     returns-6
-    row-words16-requires-3
-    words16-512-requires
+    row-words16-requires-5
+    words16-512-requires-2
     slice-aggregate-fill-letters
     slice-aggregate-fill-letters-2
     fill-letters-requires

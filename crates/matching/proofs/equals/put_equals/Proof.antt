@@ -1,10 +1,11 @@
 use native.Mathlib.Omega.{arith}
-use mathlib.Core.Path.{_≡_, refl}
+use mathlib.Core.Path.{_≡_, refl, sym, _∙_}
 use borrow.Author.Needs.{needs}
 use Rattle.model.specs.Words.{columns}
 use Rattle.model.specs.Rows.{program}
+use Rattle.model.proofs.Parse.Lengths.{row-within}
+use Rattle.lists.proofs.Facts.{columns-whole}
 use Rattle.values.specs.Values.{width}
-use Rattle.matching.proofs.Chains.{made-low}
 use Rattle.matching.proofs.Joining.{row-kept, put-class, put-build, put-none, put-there}
 use Rattle.matching.proofs.equals.put_equals.Statement.{statement}
 use Rattle.matching.proofs.equals.put_equals.Tie as tie
@@ -39,22 +40,15 @@ same-length-2 c = search needs
 returns-3 : tie.Need-returns-3
 returns-3 c = put-there _ _ _ _ _ _ _ _ (c .before .before .before .before .before .before .is-class .ensures) _ (c .before .before .before .before .tag .ensures) (c .before .before .before .before .before .if1 .left) _ (c .before .before .before .before .before .before .before .width .ensures) (c .before .before .before .before .before .before .before .before .before .before .before .before .pre .1 .1 .0) (c .before .before .before .before .before .before .before .before .before .before .before .before .pre .1 .1 .1 .1) (c .before .before .before .if2 .left) (c .before .holds .ensures) (c .if3 .taken) refl
 
-add-num : tie.Need-add-num
-unfolding width
-add-num c = omega (arith, c .before .before .before .before .before .before .before .before .before .before .before .before .pre .1 .1 .0, c .before .before .before .before .before .before .before .before .before .before .before .before .pre .0 .whole .rows)
-
-num-requires : tie.Need-num-requires
-num-requires c κs = search needs
-
 put-builds-requires : tie.Need-put-builds-requires
-unfolding program
-put-builds-requires c κs = (c .before .before .before .before .before .before .before .before .before .before .before .before .before .before .pre .0, (c .before .before .before .before .before .before .before .before .before .before .before .before .before .before .pre .1 .0, (made-low (c .before .before .before .before .before .before .before .before .before .before .before .before .before .before .pre .0) _ _ _ (c .before .before .before .before .before .before .tag .ensures) (c .before .before .before .before .before .if2 .left) (c .before .num .ensures), c .before .before .before .before .before .before .before .before .before .before .before .before .before .before .pre .1 .1 .1 .0)))
+unfolding program columns
+put-builds-requires c κs = (c .before .before .before .before .before .before .before .before .before .before .before .before .before .pre .0, (c .before .before .before .before .before .before .before .before .before .before .before .before .before .pre .1 .0, ((sym (c .before .before .before .before .before .tag .ensures) ∙ c .before .before .before .before .if2 .left, row-within (columns-whole (c .before .before .before .before .before .before .before .before .before .before .before .before .before .pre .0)) _ (omega (arith, c .before .before .before .before .before .tag .ensures, c .before .before .before .before .if2 .left))), c .before .before .before .before .before .before .before .before .before .before .before .before .before .pre .1 .1 .1 .0)))
 
 same-length-3 : tie.Need-same-length-3
 same-length-3 c = search needs
 
 returns-4 : tie.Need-returns-4
-returns-4 c = put-build _ _ _ _ 0 _ _ _ (c .before .before .before .before .before .before .before .before .before .before .before .is-class .ensures) _ (c .before .before .before .before .before .before .before .before .before .tag .ensures) (c .before .before .before .before .before .before .before .before .before .before .if1 .left) _ (c .before .before .before .before .before .before .before .before .if2 .left) (c .before .before .before .before .num .ensures) (c .before .before .put-builds .ensures)
+returns-4 c = put-build _ _ _ _ 0 _ _ _ (c .before .before .before .before .before .before .before .before .before .before .is-class .ensures) _ (c .before .before .before .before .before .before .before .before .tag .ensures) (c .before .before .before .before .before .before .before .before .before .if1 .left) (c .before .before .before .before .before .before .before .if2 .left) (c .before .before .put-builds .ensures)
 
 pub put-equals-spec : {M : Type 1} → statement M
 put-equals-spec =
@@ -70,8 +64,6 @@ put-equals-spec =
     holds-requires
     same-length-2
     returns-3
-    add-num
-    num-requires
     put-builds-requires
     same-length-3
     returns-4)

@@ -1,3 +1,4 @@
+use native.Mathlib.Omega.{arith}
 use mathlib.Core.Path.{sym}
 use Rattle.model.specs.Words.{columns}
 use Rattle.model.specs.Rows.{program}
@@ -7,20 +8,20 @@ use borrow.Author.Needs.{needs}
 use Rattle.scopes.proofs.scope.scope_check.Statement.{statement}
 use Rattle.scopes.proofs.scope.scope_check.Tie as tie
 
-binders-requires : tie.Need-binders-requires
-binders-requires c κs = search needs
+row-words16-requires : tie.Need-row-words16-requires
+row-words16-requires c κs = search needs
 
-next-heads-requires : tie.Need-next-heads-requires
-next-heads-requires c κs = search needs
+slice-aggregate-fill-next-heads : tie.Need-slice-aggregate-fill-next-heads
+slice-aggregate-fill-next-heads c = search needs
+
+fill-next-heads-requires : tie.Need-fill-next-heads-requires
+fill-next-heads-requires c κs = (c .before .before .before .before .before .pre .0, omega (arith, c .before .row-words16 .ensures .room, c .before .before .before .before .before .pre .0 .rows))
 
 slice-aggregate-first-out : tie.Need-slice-aggregate-first-out
 slice-aggregate-first-out c = search needs
 
-slice-aggregate-first-out-2 : tie.Need-slice-aggregate-first-out-2
-slice-aggregate-first-out-2 c = search needs
-
 first-out-requires : tie.Need-first-out-requires
-first-out-requires c κs = let h = c .before .before .before .before .before .before .pre in (h .0, (h .1 .0, (h .1 .1, (c .before .before .next-heads .ensures, c .before .before .before .binders .ensures))))
+first-out-requires c κs = let h = c .before .before .before .before .before .before .before .before .pre in (h .0, (h .1 .0, (h .1 .1 .0, (c .before .before .fill-next-heads .ensures, h .1 .1 .1))))
 
 add-place : tie.Need-add-place
 add-place c = search needs
@@ -37,10 +38,10 @@ pub scope-check-spec : {M : Type 1} → statement M
 scope-check-spec =
     tie.close
     (tie.spec
-    binders-requires
-    next-heads-requires
+    row-words16-requires
+    slice-aggregate-fill-next-heads
+    fill-next-heads-requires
     slice-aggregate-first-out
-    slice-aggregate-first-out-2
     first-out-requires
     add-place
     returns

@@ -4,7 +4,6 @@ use mathlib.Core.Path.{_≡_, refl, sym, _∙_, ap}
 use mathlib.Core.Bool.{_||_}
 use mathlib.Core.Logic.{⊎-elim}
 use lib.Dec.{eqb}
-use Rattle.model.specs.Limits.{maxRows}
 use Rattle.model.specs.Heads.{is-function}
 use lib.ListN.{length, length-set}
 use Rattle.model.specs.Words.{columns}
@@ -12,31 +11,25 @@ use Rattle.model.specs.Rows.{program}
 use Rattle.layout.specs.Tables.{Inner-upto, Candidate}
 use Rattle.layout.proofs.Enclosing.{candidate-start, candidate-function, candidate-other, candidate-by, inner-within, inners-start, inners-set, inners-by}
 use borrow.Author.Needs.{needs}
-use Rattle.layout.proofs.inner.inners.Statement.{statement}
-use Rattle.layout.proofs.inner.inners.Tie as tie
+use Rattle.layout.proofs.inner.fill_inners.Statement.{statement}
+use Rattle.layout.proofs.inner.fill_inners.Tie as tie
 
 abbrev Inv-loop : tie.InvT-loop
-Inv-loop ws s ends table₀ before₀ r₀ table before r = (r ≤ s .rows) × (length table ≡ maxRows) × Inner-upto (program ws s) r table × Candidate (program ws s) r before
+Inv-loop ws s ends table₀ before₀ r₀ table before r = (r ≤ s .rows) × (length table ≡ length table₀) × Inner-upto (program ws s) r table × Candidate (program ws s) r before
 
 abbrev μ-loop : tie.MeasureT-loop
 μ-loop ws s ends table₀ before₀ r₀ table before r = s .rows - r
-
-cast-table : tie.Need-cast-table Inv-loop μ-loop
-cast-table c = omega (arith, c .before .before .before .pre .0 .rows)
 
 loop-holds : tie.Need-loop-holds Inv-loop μ-loop
 unfolding program columns
 loop-holds c = (zero-le, refl, inners-start _ _, candidate-start _)
 
-slice-aggregate-around : tie.Need-slice-aggregate-around Inv-loop μ-loop
-slice-aggregate-around c = search needs
-
 around-requires : tie.Need-around-requires Inv-loop μ-loop
-around-requires c κs = let h = c .before .before .before .before .before .before .before .pre in let l = c .before .before .before .loop in (h .0, (h .1 .0, (h .1 .1, ((l .inv .2, c .before .if1 .taken), l .inv .3))))
+around-requires c κs = let h = c .before .before .before .before .before .before .before .pre in let l = c .before .before .before .loop in (h .0, (h .1 .0, (h .1 .1 .0, ((l .inv .2, c .before .if1 .taken), l .inv .3))))
 
-cast-table-2 : tie.Need-cast-table-2 Inv-loop μ-loop
+cast-table : tie.Need-cast-table Inv-loop μ-loop
 unfolding program columns
-cast-table-2 c =
+cast-table c =
     let a = c .before .before .before .before .before .before .before .before .args in
     let l = c .before .before .before .before .loop in
     omega (arith, inner-within (program (a .ws .now) (a .s)) (l .r) _ (l .inv .0) (c .around .ensures), c .before .before .before .before .before .before .before .before .pre .0 .rows)
@@ -44,8 +37,8 @@ cast-table-2 c =
 mul-table : tie.Need-mul-table Inv-loop μ-loop
 mul-table c = record { fits = omega (arith, c .before .before .if1 .taken, c .before .before .before .before .before .before .before .before .pre .0 .rows) }
 
-array-write-table : tie.Need-array-write-table Inv-loop μ-loop
-array-write-table c = omega (arith, c .before .before .if1 .taken, c .before .before .before .before .before .before .before .before .pre .0 .rows, c .before .before .before .before .loop .inv .1)
+slice-write-table : tie.Need-slice-write-table Inv-loop μ-loop
+slice-write-table c = omega (arith, c .before .before .if1 .taken, c .before .before .before .before .before .before .before .before .pre .1 .1 .1, c .before .before .before .before .loop .inv .1)
 
 tag-requires : tie.Need-tag-requires Inv-loop μ-loop
 tag-requires c κs = c .before .before .before .before .before .before .before .before .pre .0
@@ -68,30 +61,32 @@ loop-again c =
     let t = ap (λ i. eqb i 3 || eqb i 11) (sym (c .before .before .tag .ensures)) ∙ sym (c .before .is-function .ensures) in (
       omega (arith, below),
       length-set (l .table) _ _ ∙ l .inv .1,
-      inners-set _ (l .r) _ (l .table) (omega (arith, below, c .before .before .before .before .before .before .before .before .before .before .before .pre .0 .rows, l .inv .1)) (v .ensures) (l .inv .2),
+      inners-set _ (l .r) _ (l .table) (omega (arith, below, c .before .before .before .before .before .before .before .before .before .before .before .pre .1 .1 .1, l .inv .1)) (v .ensures) (l .inv .2),
       ⊎-elim (λ w. candidate-by _ _ _ (sym (w .1)) (candidate-function _ (l .r) below (t ∙ w .0 .taken)))
           (λ w. candidate-by _ _ _ (sym (w .1)) (candidate-other _ (l .r) _ below (t ∙ w .0 .left) (v .ensures))) (c .if2 .came),
     )
 
+same-length : tie.Need-same-length Inv-loop μ-loop
+same-length c = c .before .before .loop .inv .1
+
 returns : tie.Need-returns Inv-loop μ-loop
 returns c = let l = c .before .before .loop in inners-by _ (l .r) _ _ (omega (arith, c .if1 .left, l .inv .0)) (l .inv .2)
 
-pub inners-spec : {M : Type 1} → statement M
-inners-spec =
+pub fill-inners-spec : {M : Type 1} → statement M
+fill-inners-spec =
     tie.close
     (tie.spec
     Inv-loop
     μ-loop
-    cast-table
     loop-holds
-    slice-aggregate-around
     around-requires
-    cast-table-2
+    cast-table
     mul-table
-    array-write-table
+    slice-write-table
     tag-requires
     is-function-requires
     add-r
     loop-less
     loop-again
+    same-length
     returns)

@@ -3,17 +3,16 @@ use native.Mathlib.Nat.{le-refl}
 use Prim.Native.Nat.{_+_, _-_, _≤_}
 use mathlib.Core.Path.{_≡_, refl, _∙_}
 use lib.ListN.{length, length-set}
-use Rattle.model.specs.Limits.{maxRows}
 use Rattle.model.specs.Words.{columns}
 use Rattle.model.specs.Rows.{program}
 use Rattle.layout.specs.Tables.{After-from}
 use Rattle.layout.proofs.Ending.{after-start, after-set, after-keep, after-by}
 use borrow.Author.Needs.{needs}
-use Rattle.layout.proofs.ends.ends.Statement.{statement}
-use Rattle.layout.proofs.ends.ends.Tie as tie
+use Rattle.layout.proofs.ends.fill_ends.Statement.{statement}
+use Rattle.layout.proofs.ends.fill_ends.Tie as tie
 
 abbrev Inv-loop : tie.InvT-loop
-Inv-loop ws s table₀ r₀ table r = (r ≤ s .rows) × (length table ≡ maxRows) × After-from (program ws s) r table
+Inv-loop ws s table₀ r₀ table r = (r ≤ s .rows) × (length table ≡ length table₀) × After-from (program ws s) r table
 
 abbrev μ-loop : tie.MeasureT-loop
 μ-loop ws s table₀ r₀ table r = r
@@ -25,22 +24,19 @@ loop-holds c = (le-refl _, refl, after-start _ _)
 sub-r : tie.Need-sub-r Inv-loop μ-loop
 sub-r c = omega (arith, c .loop-test .taken)
 
-slice-aggregate-end-row : tie.Need-slice-aggregate-end-row Inv-loop μ-loop
-slice-aggregate-end-row c = search needs
-
 end-row-requires : tie.Need-end-row-requires Inv-loop μ-loop
 end-row-requires c κs =
     let l = c .before .before .loop in
-    (c .before .before .before .before .pre, (omega (arith, c .before .loop-test .taken, l .inv .0), after-by _ (l .r) (l .r - 1 + 1) (l .table) (omega (arith, c .before .loop-test .taken)) (l .inv .2)))
+    (c .before .before .before .before .before .pre .0, (omega (arith, c .before .loop-test .taken, l .inv .0), after-by _ (l .r) (l .r - 1 + 1) (l .table) (omega (arith, c .before .loop-test .taken)) (l .inv .2)))
 
 cast-table : tie.Need-cast-table Inv-loop μ-loop
 cast-table c = search needs
 
 mul-table : tie.Need-mul-table Inv-loop μ-loop
-mul-table c = record { fits = omega (arith, c .before .before .before .before .before .loop .inv .0, c .before .before .before .before .before .before .before .pre .rows) }
+mul-table c = record { fits = omega (arith, c .before .before .before .before .before .loop .inv .0, c .before .before .before .before .before .before .before .before .pre .0 .rows) }
 
-array-write-table : tie.Need-array-write-table Inv-loop μ-loop
-array-write-table c = omega (arith, c .before .before .before .before .loop-test .taken, c .before .before .before .before .before .loop .inv .0, c .before .before .before .before .before .loop .inv .1, c .before .before .before .before .before .before .before .pre .rows)
+slice-write-table : tie.Need-slice-write-table Inv-loop μ-loop
+slice-write-table c = omega (arith, c .before .before .before .before .loop-test .taken, c .before .before .before .before .before .loop .inv .0, c .before .before .before .before .before .loop .inv .1, c .before .before .before .before .before .before .before .before .pre .1)
 
 loop-less : tie.Need-loop-less Inv-loop μ-loop
 loop-less c = omega (arith, c .before .before .before .before .loop-test .taken)
@@ -50,7 +46,7 @@ loop-again c =
     let l = c .before .before .before .before .before .loop in (
       omega (arith, l .inv .0),
       length-set (l .table) _ _ ∙ l .inv .1,
-      after-set _ (l .r) (l .r - 1) _ (l .table) (omega (arith, c .before .before .before .before .loop-test .taken)) (omega (arith, c .before .before .before .before .loop-test .taken, l .inv .0, l .inv .1, c .before .before .before .before .before .before .before .pre .rows)) (c .before .before .end-row .ensures) (l .inv .2),
+      after-set _ (l .r) (l .r - 1) _ (l .table) (omega (arith, c .before .before .before .before .loop-test .taken)) (omega (arith, c .before .before .before .before .loop-test .taken, l .inv .0, l .inv .1, c .before .before .before .before .before .before .before .before .pre .1)) (c .before .before .end-row .ensures) (l .inv .2),
     )
 
 loop-less-2 : tie.Need-loop-less-2 Inv-loop μ-loop
@@ -65,24 +61,27 @@ loop-again-2 c =
       after-keep _ (l .r) (l .r - 1) _ (l .table) (omega (arith, c .before .before .before .before .loop-test .taken)) (c .if1 .left) (c .before .before .end-row .ensures) (l .inv .2),
     )
 
+same-length : tie.Need-same-length Inv-loop μ-loop
+same-length c = c .before .loop .inv .1
+
 returns : tie.Need-returns Inv-loop μ-loop
 returns c = let l = c .before .loop in after-by _ (l .r) 0 (l .table) (omega (arith, c .loop-test .left)) (l .inv .2)
 
-pub ends-spec : {M : Type 1} → statement M
-ends-spec =
+pub fill-ends-spec : {M : Type 1} → statement M
+fill-ends-spec =
     tie.close
     (tie.spec
     Inv-loop
     μ-loop
     loop-holds
     sub-r
-    slice-aggregate-end-row
     end-row-requires
     cast-table
     mul-table
-    array-write-table
+    slice-write-table
     loop-less
     loop-again
     loop-less-2
     loop-again-2
+    same-length
     returns)
