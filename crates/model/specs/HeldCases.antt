@@ -28,7 +28,7 @@ reached k =
     let p : Program = program (k .program) (sizes (k .program)) in from-all (run p (k .numbers)) (process-words p)
 
 -- process 0 makes so many steps, and these are the processes then
-abbrev steps : List ℕ → ℕ → List ℕ → Run-case
+abbrev pub steps : List ℕ → ℕ → List ℕ → Run-case
 steps program n expected = record { program = program; numbers = replicate n 0; expected = expected }
 
 -- A bad on a letter that has no counter, and one ceiling without limits: the verdict hangs on the tables alone.
