@@ -24,12 +24,13 @@ fn mails_function(ws: &[u16], s: Sizes, i: usize) -> bool
     is_function(tag(ws, s, v))
 }
 
-// The first mail entry whose value is a function; M where there is none, and so far as none is found.
+// The first mail entry whose value is a function; M where there is none. The search ends behind what it has found.
 fn first_mailed(ws: &[u16], s: Sizes) -> usize
     requires { ⌜ Ready (now ws) s ⌝ }
     ensures { λ i. ⌜ i ≡ mails-from (program (now (ws .entry)) s) (tables (now (ws .entry)) s) 0 ⌝ }
 {
-    let mut found = s.mails;
+    let mails = s.mails;
+    let mut found = mails;
     let mut i = 0;
     while i < found {
         if mails_function(ws, s, i) {

@@ -7,10 +7,10 @@ use Rattle.mailed.proofs.first_mailed.Statement.{statement}
 use Rattle.mailed.proofs.first_mailed.Tie as tie
 
 abbrev Inv-loop : tie.InvT-loop
-Inv-loop ws s found₀ i₀ found i = Looked ws s found i
+Inv-loop ws s mails₀ found₀ i₀ found i = Looked ws s found i
 
 abbrev μ-loop : tie.MeasureT-loop
-μ-loop ws s found₀ i₀ found i = s .mails - i
+μ-loop ws s mails₀ found₀ i₀ found i = s .mails - i
 
 loop-holds : tie.Need-loop-holds Inv-loop μ-loop
 loop-holds c = looked-none _ _
