@@ -29,6 +29,7 @@ pub mod Runs
 pub mod Demands
 pub mod Refusals
 pub mod Longer
+pub mod Mailed
 pub mod Controls
 pub mod Transitions
 pub mod Equality

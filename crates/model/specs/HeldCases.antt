@@ -15,7 +15,7 @@ use Rattle.model.specs.Cases.{refused, safe, a-listing}
 
 -- A run, and its processes then: of each its class, its place, and the letters in its mailbox with their count
 -- before them
-pub record Held-run : Type 0 where
+pub record Arrival : Type 0 where
   pub program : List ℕ
   pub numbers : List ℕ
   pub expected : List ℕ
@@ -23,12 +23,12 @@ pub record Held-run : Type 0 where
 unfoldable pub process-words : Program → Process → List ℕ
 process-words p q = q .class ∷ q .location ∷ length (q .mailbox) ∷ map (value-letter p) (q .mailbox)
 
-unfoldable pub reached : Held-run → List ℕ
+unfoldable pub reached : Arrival → List ℕ
 reached k =
     let p : Program = program (k .program) (sizes (k .program)) in from-all (run p (k .numbers)) (process-words p)
 
 -- process 0 makes so many steps, and these are the processes then
-abbrev steps : List ℕ → ℕ → List ℕ → Held-run
+abbrev pub steps : List ℕ → ℕ → List ℕ → Arrival
 steps program n expected = record { program = program; numbers = replicate n 0; expected = expected }
 
 -- A bad on a letter that has no counter, and one ceiling without limits: the verdict hangs on the tables alone.
@@ -302,7 +302,7 @@ held-cases =
     (quiet-listing 4 ((0, 1) ∷ (1, 2) ∷ [])) ∷
     []
 
-unfoldable pub held-runs : List Held-run
+unfoldable pub held-runs : List Arrival
 held-runs =
     -- the own address is the one held
     steps (sent (33, 0)) 4 (12 ∷ 11 ∷ 0 ∷ []) ∷

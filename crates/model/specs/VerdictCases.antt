@@ -326,12 +326,6 @@ values-words =
     ((0, 65535) ∷ (1, 65535) ∷ (2, 65535) ∷ (3, 65535) ∷ (4, 65535) ∷ (5, 65535) ∷ (6, 65535) ∷ (7, 65535) ∷
     (8, 65535) ∷ (9, 65535) ∷ (10, 0) ∷ [])
 
-unfoldable pub values-listing : List ℕ
-values-listing =
-    (8 ∷ 2 ∷ 6 ∷ 16 ∷ []) ++
-    (50 ∷ 51 ∷ 50 ∷ 51 ∷ 54 ∷ 50 ∷ 51 ∷ 50 ∷ 51 ∷ 53 ∷ 50 ∷ 51 ∷ 53 ∷ 50 ∷ 51 ∷ 53 ∷ []) ++
-    (1 ∷ 2 ∷ 2 ∷ 3 ∷ 0 ∷ 3 ∷ 4 ∷ 4 ∷ 5 ∷ 8 ∷ 5 ∷ 6 ∷ 9 ∷ 6 ∷ 7 ∷ 8 ∷ [])
-
 -- A function and an address as messages: letters C and C + 1.
 --     constructors a/0, b/0.
 --     start ->
@@ -358,12 +352,6 @@ letters-words =
     ((0, 65535) ∷ (1, 65535) ∷ (2, 65535) ∷ (3, 65535) ∷ (4, 65535) ∷ (5, 65535) ∷ (6, 65535) ∷ (7, 65535) ∷ (8, 0) ∷
     [])
 
-unfoldable pub letters-listing : List ℕ
-letters-listing =
-    (6 ∷ 2 ∷ 6 ∷ 16 ∷ []) ++
-    (50 ∷ 51 ∷ 50 ∷ 51 ∷ 50 ∷ 51 ∷ 53 ∷ 50 ∷ 51 ∷ 52 ∷ 50 ∷ 51 ∷ 52 ∷ 50 ∷ 51 ∷ 53 ∷ []) ++
-    (0 ∷ 1 ∷ 1 ∷ 2 ∷ 2 ∷ 3 ∷ 6 ∷ 3 ∷ 4 ∷ 6 ∷ 3 ∷ 4 ∷ 7 ∷ 4 ∷ 5 ∷ 7 ∷ [])
-
 -- A function as message, read by a name; a bad of one letter.
 --     constructors a/0.
 --     start ->
@@ -387,12 +375,6 @@ function-letter-words =
     ((9, 1) ∷ (9, 2) ∷ (9, 5) ∷ (9, 8) ∷ []) ++
     ceiling-words 1
     ((0, 65535) ∷ (1, 65535) ∷ (2, 65535) ∷ (3, 65535) ∷ (4, 65535) ∷ (5, 0) ∷ [])
-
-unfoldable pub function-letter-listing : List ℕ
-function-letter-listing =
-    (4 ∷ 1 ∷ 3 ∷ 7 ∷ []) ++
-    (50 ∷ 51 ∷ 50 ∷ 51 ∷ 50 ∷ 51 ∷ 53 ∷ []) ++
-    (0 ∷ 1 ∷ 1 ∷ 2 ∷ 2 ∷ 3 ∷ 4 ∷ [])
 
 -- An address as message.
 --     constructors a/0.
@@ -1341,6 +1323,12 @@ verdict-cases =
     at 3 13 (to-bytes (changed scopes-words ((28, 6) ∷ []))) ∷
     -- 3: giving back reads one.
     at 3 18 (to-bytes (changed scopes-words ((33, 6) ∷ []))) ∷
+    -- 22: two functions in the mail, of tags 11 and 3, with an address between them: the first is told.
+    at 22 68 (to-bytes values-words) ∷
+    -- 22: a function is mailed, besides an address.
+    at 22 53 (to-bytes letters-words) ∷
+    -- 22: a function is mailed, and nothing else.
+    at 22 38 (to-bytes function-letter-words) ∷
     -- 3: a spawn binds a name from V up.
     at 3 7 (to-bytes (changed spawned-name-words ((13, 2) ∷ []))) ∷
     -- A held name that is in scope at the receive: what is refused is the tables.
@@ -1369,12 +1357,6 @@ listing-cases =
     safe 2 eight-arguments-program (to-bytes eight-arguments-words) eight-arguments-listing ∷
     -- As it is; f is never called.
     safe 2 scopes-program (to-bytes scopes-words) scopes-listing ∷
-    -- The two functions share a letter and a counter, the address has its own.
-    safe 2 values-program (to-bytes values-words) values-listing ∷
-    -- Functions and addresses have counters of their own, in that order.
-    safe 2 letters-program (to-bytes letters-words) letters-listing ∷
-    -- No address is ever sent.
-    safe 2 function-letter-program (to-bytes function-letter-words) function-letter-listing ∷
     -- No function is ever sent.
     safe 2 address-letter-program (to-bytes address-letter-words) address-letter-listing ∷
     -- The callee may be two functions, of which one can't be called with that count: one rule.
