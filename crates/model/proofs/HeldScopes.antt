@@ -56,7 +56,7 @@ module _ {p : Program} where
       patterns-on n (step-patterns p d r (f .says) ps) (omega arith) l (f .rest) loc
 
   -- an expression whose head is among these rows ends among them
-  ends-within : {xs below : List Item} {r s e : ℕ} → r ≤ s → s < e → Stands p xs below r e → (loc : Location p s) → loc .end ≤ e
+  pub ends-within : {xs below : List Item} {r s e : ℕ} → r ≤ s → s < e → Stands p xs below r e → (loc : Location p s) → loc .end ≤ e
   ends-within {s = s} lo hi h loc = let k = stands-inside s lo hi h in stands-within (loc .stands) (k .stands)
 
   -- a branch is behind where the branches begin
@@ -134,7 +134,7 @@ ceiling-rest {p} {b} l k e f =
     let z = spans-past (front .spans) in
     rw (e, z) (record { below = l .below; end = l .end; stands = others })
 
-unbound : {A : Type 0} (t k : ℕ) → t ≡ k → binds k ≡ false → binds t ≡ true → A
+pub unbound : {A : Type 0} (t k : ℕ) → t ≡ k → binds k ≡ false → binds t ≡ true → A
 unbound t k e n u = true-false u (ap binds e ∙ n)
 
 head-holds : {p : Program} {b : ℕ} (l : Location p b) → binds (tag p b) ≡ true → Location p (rest p b)

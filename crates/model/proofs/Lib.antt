@@ -33,3 +33,4 @@ pub mod Controls
 pub mod Transitions
 pub mod Equality
 pub mod HeldScopes
+pub mod NoEmptyName

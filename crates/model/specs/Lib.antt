@@ -36,3 +36,4 @@ pub mod Longer
 pub mod LongerCases
 pub mod Equality
 pub mod HeldCases
+pub mod NoEmptyName
