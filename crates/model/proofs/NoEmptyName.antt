@@ -1,3 +1,5 @@
 pub mod Stacks
 pub mod Trails
 pub mod Binders
+pub mod Nesting
+pub mod Held
