@@ -5,3 +5,6 @@ pub mod Nesting
 pub mod Held
 pub mod Values
 pub mod Matched
+pub mod Parts
+pub mod Processes
+pub mod Steps
