@@ -8,3 +8,4 @@ pub mod Matched
 pub mod Parts
 pub mod Processes
 pub mod Steps
+pub mod Reading

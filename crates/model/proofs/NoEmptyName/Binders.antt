@@ -50,7 +50,7 @@ binds-cases t h ne =
     (or-cases (leb 2 t && leb t 7) (eqb t 11 || (eqb t 23 || eqb t 30)) h)
 
 -- a tag above 9 is no head's
-above-head : (t : ℕ) → 9 < t → is-head t ≡ false
+pub above-head : (t : ℕ) → 9 < t → is-head t ≡ false
 above-head t l = test (is-head t) (λ h. let w = head-range t h in absurd (omega arith)) (λ h. h)
 
 module _ {p : Program} where
