@@ -9,3 +9,5 @@ pub mod Parts
 pub mod Processes
 pub mod Steps
 pub mod Reading
+pub mod Kept
+pub mod Runs

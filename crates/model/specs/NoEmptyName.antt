@@ -62,7 +62,7 @@ pub record Reads-from-outside (p : Program) (f n : ℕ) : Type 0 where
 -- "a kept function": the value is the function of row f with these bindings, or keeps it, however deep
 mutual
   pub data Keeps (f : ℕ) (kept : Bindings) : Value → Type 0 where
-    is-function : Keeps f kept (closure f kept)
+    the-function : Keeps f kept (closure f kept)
     in-bindings : {g : ℕ} {held : Bindings} → Some-keeps f kept held → Keeps f kept (closure g held)
     in-arguments : {r k : ℕ} {vs : Bindings} → Some-keeps f kept vs → Keeps f kept (built r k vs)
 
