@@ -1,3 +1,4 @@
+-- No empty name (document 02, (xi)): how binders and scopes lie, what holds, the invariant, each step, what is read, runs.
 pub mod Stacks
 pub mod Trails
 pub mod Binders
@@ -10,4 +11,5 @@ pub mod Processes
 pub mod Steps
 pub mod Reading
 pub mod Kept
+pub mod Numbers
 pub mod Runs

@@ -3,12 +3,12 @@
 use Prim.Native.Nat.{ℕ, _+_, _≤_, _<_}
 use mathlib.Core.Path.{_≡_}
 use mathlib.Core.Bool.{true}
-use mathlib.Core.Logic.{_↔_}
+use mathlib.Core.Logic.{_↔_, _⊎_}
 use mathlib.Core.List.{List, [], List·Memᴰ}
 use mathlib.Core.Option.{some, none}
 use lib.ListN.{length, getElem?}
 use Rattle.model.specs.Limits.{Limits}
-use Rattle.model.specs.Message.{parts-check}
+use Rattle.model.specs.Verdict.{number}
 use Rattle.model.specs.Rows.{Program, size, tag, num, body-form, past-items}
 use Rattle.model.specs.Scopes.{uses, binds-name}
 use Rattle.model.specs.Heads.{Head, head-at, branch-body}
@@ -17,7 +17,7 @@ use Rattle.model.specs.Values.{Value, closure, built, Bindings, empty, b
 use Rattle.model.specs.Patterns.{Row-at, Holds}
 use Rattle.model.specs.Run.{step-of, run}
 use Rattle.model.specs.Transitions.{read-at, Stays}
-use Rattle.model.specs.Verify.{message, program-check}
+use Rattle.model.specs.Verify.{message, program-check, verdict-within}
 
 -- "every program that passes 1 to 5": the columns have a tag and a number for each row, which 1 and 2 ask of a message,
 -- and 3 to 5 refuse nothing
@@ -93,6 +93,7 @@ pub record No-empty-name : Type 0 where
   -- so a number changes nothing exactly for a reason that document 01 gives
   pub reasons : (p : Program) → Passes p → (numbers : List ℕ) (i : ℕ) →
       (step-of p (run p numbers) i ≡ none) ↔ Stays p (run p numbers) i
-  -- and the program of a message that passes 1 to 5 is such a program
-  pub messages : (most : Limits) (bytes : List ℕ) → parts-check most bytes ≡ none →
-      program-check (message bytes .program) ≡ none → Passes (message bytes .program)
+  -- and the program of a message whose number is 0 or above 5, safe or not, is such a program
+  pub messages : (most : Limits) (bytes : List ℕ) (lent : ℕ) →
+      (number (verdict-within most bytes lent) ≡ 0) ⊎ (5 < number (verdict-within most bytes lent)) →
+      Passes (message bytes .program)

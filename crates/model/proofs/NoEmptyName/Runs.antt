@@ -2,15 +2,12 @@
 use Prim.Native.Nat.{ℕ}
 use mathlib.Core.Path.{_≡_, refl, sym, subst}
 use mathlib.Core.List.{List, [], _∷_, List·Memᴰ}
-use mathlib.Core.Option.{none}
-use Rattle.model.specs.Limits.{Limits}
-use Rattle.model.specs.Message.{parts-check}
 use Rattle.model.specs.Rows.{Program}
 use Rattle.model.specs.Heads.{is-function, start}
 use Rattle.model.specs.Values.{Processes, process, empty}
-use Rattle.model.specs.Run.{step-of, run}
+use Rattle.model.specs.Run.{run}
 use Rattle.model.specs.Transitions.{read-at, Stays, No-step, with-reason, holds-nothing, nowhere, Runs, at-end, steps, changes-nothing}
-use Rattle.model.specs.Verify.{message, program-check}
+use Rattle.model.specs.Verify.{message}
 use Rattle.model.specs.Demands.{Well-formed}
 use Rattle.model.specs.NoEmptyName.{Passes, in-expression, No-empty-name}
 use Rattle.model.proofs.Exact.Names.{program-none}
@@ -20,6 +17,7 @@ use Rattle.model.proofs.Parse.Reached.{Rows-fit}
 use Rattle.model.proofs.Parse.Locations.{start-location, location-known}
 use Rattle.model.proofs.Parse.Lengths.{Columns-whole}
 use Rattle.model.proofs.Transitions.Runs.{runs-exactly}
+use Rattle.model.proofs.NoEmptyName.Numbers.{passes-five}
 use Rattle.model.proofs.NoEmptyName.Held.{covers-start, covers-global}
 use Rattle.model.proofs.NoEmptyName.Values.{none-held}
 use Rattle.model.proofs.NoEmptyName.Processes.{Each, no-more, and-then, each-at, Full-process}
@@ -69,7 +67,8 @@ no-empty-name =
         λ e. stays passes (run-full passes is) (runs-exactly .each-reason p (run p is) i .0 e),
         λ s. runs-exactly .each-reason p (run p is) i .1 (with-reason s),
       );
-      messages = λ most bytes parts checks.
+      messages = λ most bytes lent passed.
+          let (parts, checks) = passes-five most bytes lent passed in
           let w = rows-whole bytes (parts-none most bytes .0 parts .0) in
           record { tags = w .tags; numbers = w .numbers; checks = checks };
     }
