@@ -34,3 +34,4 @@ pub mod Transitions
 pub mod Equality
 pub mod HeldScopes
 pub mod NoEmptyName
+pub mod NameCases

@@ -37,3 +37,4 @@ pub mod LongerCases
 pub mod Equality
 pub mod HeldCases
 pub mod NoEmptyName
+pub mod NameCases
