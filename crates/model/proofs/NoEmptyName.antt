@@ -13,3 +13,4 @@ pub mod Reading
 pub mod Kept
 pub mod Numbers
 pub mod Runs
+pub mod Tests

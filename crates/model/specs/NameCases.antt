@@ -1,6 +1,8 @@
 -- Document 02, (xi): the promise as a test of a process, and cases of it worked out by hand: runs in which every name
 -- that is read holds something, and programs that do not pass 5, in whose runs one does not.
 use Prim.Native.Nat.{ℕ, zero, suc, _+_}
+use mathlib.Core.Logic.{_↔_}
+use mathlib.Core.Path.{_≡_}
 use mathlib.Core.Bool.{Bool, true, false, not, _&&_}
 use mathlib.Core.List.{List, [], _∷_, _++_, map}
 use mathlib.Core.Option.{some, none}
@@ -18,7 +20,7 @@ use Rattle.model.specs.Run.{run}
 use Rattle.model.specs.Transitions.{read-at}
 use Rattle.model.specs.Verify.{program-check}
 use Rattle.model.specs.Shown.{station}
-use Rattle.model.specs.NoEmptyName.{branches-at}
+use Rattle.model.specs.NoEmptyName.{branches-at, No-name-empty}
 
 -- each element passes
 unfoldable pub each-passes : {A : Type 0} → (A → Bool) → List A → Bool
@@ -65,6 +67,10 @@ names-held p q =
     reads-held p (q .held) (q .location) &&
     (bindings-held p (q .held) &&
     (each-passes (λ f. bindings-held p (f .held)) (q .frames) && each-passes (value-held p) (q .mailbox)))
+
+-- The test passes exactly where the promise holds.
+abbrev pub Names-held-exactly : Type 0
+Names-held-exactly = (p : Program) (q : Process) → (names-held p q ≡ true) ↔ No-name-empty p q
 
 -- A program with its refusal by 3 to 5, a list of numbers, the places of the processes then, and whether each name is
 -- held in each process after each number.
