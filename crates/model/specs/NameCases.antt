@@ -14,7 +14,7 @@ use Rattle.model.specs.Index.{implies, any, all}
 use Rattle.model.specs.Verdict.{Check}
 use Rattle.model.specs.Rows.{Program, size, tag, num, body-form, past-items}
 use Rattle.model.specs.Scopes.{uses, binds-name}
-use Rattle.model.specs.Heads.{Head, head-at, branch-body}
+use Rattle.model.specs.Heads.{head-at, branch-body}
 use Rattle.model.specs.Values.{Value, closure, built, address, Bindings, empty, bind, value-of, Process}
 use Rattle.model.specs.Run.{run}
 use Rattle.model.specs.Transitions.{read-at}
@@ -144,14 +144,14 @@ parameters-held =
     (4, 6) ∷ (21, 0) ∷ (22, 2) ∷ (21, 5) ∷ (21, 4) ∷
     (4, 7) ∷ (21, 0) ∷ (22, 2) ∷ (21, 4) ∷ (21, 4) ∷ (1, 6) ∷ [])
 
--- apply(k) = a = k(); a; x = self; h = fun () -> x; b = apply(h); b: at the call of k no x is bound, where h was made
+-- make() = x = self; h = fun () -> x; h; k = make(); b = k(); b: where h is called no x is bound, where it was made
 -- there was
 unfoldable pub made-elsewhere : Program
 made-elsewhere =
-    station 6 0 1
-    ((11, 0) ∷ (22, 1) ∷ (23, 1) ∷ (4, 2) ∷ (21, 1) ∷ (22, 0) ∷ (1, 2) ∷
-    (7, 3) ∷ (3, 4) ∷ (22, 0) ∷ (1, 3) ∷
-    (4, 5) ∷ (21, 0) ∷ (22, 1) ∷ (21, 4) ∷ (1, 5) ∷ [])
+    station 5 0 1
+    ((11, 0) ∷ (22, 0) ∷ (7, 1) ∷ (3, 2) ∷ (22, 0) ∷ (1, 1) ∷ (1, 2) ∷
+    (4, 3) ∷ (21, 0) ∷ (22, 0) ∷
+    (4, 4) ∷ (21, 3) ∷ (22, 0) ∷ (1, 4) ∷ [])
 
 -- f = fun () -> (x = self; x); x: the row behind the scope of x
 unfoldable pub row-late : Program
@@ -183,7 +183,7 @@ name-cases =
     held-run nested-functions (replicate 9 0) (18 ∷ []) ∷
     held-run mailed-function (replicate 6 0 ++ replicate 4 1 ++ 0 ∷ []) (28 ∷ 19 ∷ []) ∷
     held-run parameters-held (replicate 8 0) (26 ∷ []) ∷
-    held-run made-elsewhere (replicate 6 0) (15 ∷ []) ∷
+    held-run made-elsewhere (replicate 6 0) (13 ∷ []) ∷
     -- the places of refusal are 4 and the row
     empty-run 8 row-late (replicate 1 0) (4 ∷ []) ∷
     empty-run 12 next-branch (replicate 2 0) (8 ∷ []) ∷

@@ -2,18 +2,17 @@
 use Prim.Native.Nat.{ℕ, _+_, _≤_, _<_}
 use native.Mathlib.Decide.{decLt}
 use native.Mathlib.Omega.{arith}
-use mathlib.Core.Path.{_≡_, refl, sym, _∙_, ap, subst}
-use mathlib.Core.Bool.{Bool, true, false, _&&_, _||_}
-use mathlib.Core.List.{List, [], _∷_, append-nil}
+use mathlib.Core.Path.{_≡_, refl, sym, ap, subst}
+use mathlib.Core.Bool.{true, false, _&&_, _||_}
+use mathlib.Core.List.{List, [], _∷_}
 use mathlib.Core.Logic.{_⊎_, inl, inr, ⊎-elim}
 use mathlib.Core.Option.{some}
 use lib.Dec.{leb, ltb, eqb}
 use borrow.Author.Tests.{eqb-true, leb-true, ltb-true, le-leb, lt-ltb}
-use Rattle.model.specs.Index.{first}
-use Rattle.model.specs.Rows.{Program, size, tag, num, kind, Kind, function, is-head, lead, Item, expression, body-form, past-items, declarations, whole}
+use Rattle.model.specs.Rows.{Program, size, tag, num, kind, is-head, lead, Item, expression, body-form, past-items}
 use Rattle.model.specs.Scopes.{binds, rest, next-head, holds-in, in-scope}
 use Rattle.model.specs.Heads.{head-at, call-at, is-function}
-use Rattle.model.proofs.Logic.{test, true-false, and-left, and-right, and-intro, or-cases, or-right}
+use Rattle.model.proofs.Logic.{test, and-left, and-right, and-intro, or-cases, or-right}
 use Rattle.model.proofs.Index.{first-unique}
 use Rattle.model.proofs.Heads
 use Rattle.model.proofs.Heads.{by-kind, tag-is, head-function, head-send, head-spawn, head-self, function-tag}
@@ -24,7 +23,7 @@ use Rattle.model.proofs.Parse.Heads.{rest-of}
 use Rattle.model.proofs.Parse.Locations.{Location, head-range, location-head, rest-stands, head-location}
 use Rattle.model.proofs.Parse.Functions.{stands-enclosed}
 use Rattle.model.proofs.HeldScopes.{ends-within, unbound}
-use Rattle.model.proofs.NoEmptyName.Stacks.{Led, no-items, expression-led}
+use Rattle.model.proofs.NoEmptyName.Stacks.{Led}
 use Rattle.model.proofs.NoEmptyName.Trails.{Next-head, leaf-head, whole-led}
 
 -- row b binds a name that holds in the expression at row s

@@ -1,11 +1,10 @@
 -- What holds something goes on to do so when more is bound; and every name in scope at the next row holds something where each at the row did.
-use Prim.Native.Nat.{ℕ, _+_, _≤_, _<_}
+use Prim.Native.Nat.{ℕ, _≤_, _<_}
 use native.Mathlib.Decide.{ℕ-discrete}
-use native.Mathlib.Omega.{arith}
 use mathlib.Core.Path.{_≡_, refl, sym, _∙_, ap, subst}
-use mathlib.Core.Bool.{true, false}
+use mathlib.Core.Bool.{true}
 use mathlib.Core.List.{List, List·Memᴰ}
-use mathlib.Core.Logic.{_⊎_, inl, inr, ⊎-elim}
+use mathlib.Core.Logic.{⊎-elim}
 use mathlib.Core.Option.{some}
 use lib.Dec.{ltb}
 use borrow.Author.Tests.{eq-eqb}
@@ -13,11 +12,9 @@ use Rattle.model.specs.Rows.{Program, size, tag, num}
 use Rattle.model.specs.Scopes.{binds, binds-name, in-scope}
 use Rattle.model.specs.Heads.{head-at, branch-body, is-function, body, start}
 use Rattle.model.specs.Values.{Value, closure, Bindings, empty, bind, lookup, global-row, value-of}
-use Rattle.model.specs.Patterns.{Row-at, newest, older, Holds, global, local}
-use Rattle.model.specs.Demands.{Well-formed}
+use Rattle.model.specs.Patterns.{older, global, local}
 use Rattle.model.specs.NoEmptyName.{Holds-something}
 use Rattle.model.proofs.Logic.{test}
-use Rattle.model.proofs.Exact.Names.{binds-row}
 use Rattle.model.proofs.Transitions.Names.{value-exactly}
 use Rattle.model.proofs.Parse.Reached.{Rows-fit}
 use Rattle.model.proofs.Parse.Heads.{rest-of}

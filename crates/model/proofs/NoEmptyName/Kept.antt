@@ -2,15 +2,15 @@
 use Prim.Native.Nat.{ℕ, _+_, _≤_, _<_}
 use native.Mathlib.Decide.{decLt, ℕ-discrete}
 use native.Mathlib.Omega.{arith}
-use mathlib.Core.Path.{_≡_, refl, sym, _∙_, ap, subst}
+use mathlib.Core.Path.{_≡_, refl, sym, _∙_, ap}
 use mathlib.Core.Bool.{true}
-use mathlib.Core.List.{List, [], _∷_, List·Memᴰ, List·Memᴰ·not-nil}
+use mathlib.Core.List.{List·Memᴰ, List·Memᴰ·not-nil}
 use mathlib.Core.Logic.{_⊎_, inl, inr, ⊎-elim}
 use Rattle.model.specs.Rows.{Program, size, tag, num, body-form, past-items}
 use Rattle.model.specs.Scopes.{uses, binds, binds-name, holds-in, in-scope}
 use Rattle.model.specs.Heads.{Head, head-at, branch-body, is-function, gives, builds, makes, calls, sends, spawns, selfs, cases, receives, no-head}
-use Rattle.model.specs.Values.{Value, closure, built, address, Bindings, empty, bind, Process}
-use Rattle.model.specs.Patterns.{Row-at, Holds, global}
+use Rattle.model.specs.Values.{Value, closure, Bindings, empty, Process}
+use Rattle.model.specs.Patterns.{Row-at, global}
 use Rattle.model.specs.Demands.{Well-formed}
 use Rattle.model.specs.NoEmptyName.{Holds-something, branches-at, Reads, in-expression, in-pattern, Reads-from-outside, Keeps, Some-keeps, the-function, in-bindings, in-arguments, the-newest, an-older, Kept-in, bound, pushed, mailed, No-name-empty}
 use Rattle.model.proofs.Logic.{true-false}
@@ -25,8 +25,8 @@ use Rattle.model.proofs.HeldScopes.{held-scopes}
 use Rattle.model.proofs.NoEmptyName.Binders.{Binder, binder-at, scope-has, scope-gives}
 use Rattle.model.proofs.NoEmptyName.Nesting.{Local}
 use Rattle.model.proofs.NoEmptyName.Held.{Covers}
-use Rattle.model.proofs.NoEmptyName.Values.{Full, full-function, full-built, full-address, All-full, none-held, one-held}
-use Rattle.model.proofs.NoEmptyName.Processes.{Each, each-member, Full-frame, Full-process}
+use Rattle.model.proofs.NoEmptyName.Values.{Full, full-function, full-built, All-full, one-held}
+use Rattle.model.proofs.NoEmptyName.Processes.{each-member, Full-process}
 use Rattle.model.proofs.NoEmptyName.Reading.{Read-row, read-row}
 
 -- the branches of a case or a receive

@@ -1,20 +1,20 @@
 -- A pattern that matches a full value binds each of its names, up to the row where it ends.
 use Prim.Native.Nat.{ℕ, zero, suc, _+_, _-_, _≤_, _<_}
-use native.Mathlib.Decide.{ℕ-discrete, decLt}
+use native.Mathlib.Decide.{decLt}
 use native.Mathlib.Omega.{arith}
 use mathlib.Core.Path.{_≡_, refl, sym, _∙_, ap, subst}
 use mathlib.Core.Bool.{true, false}
-use mathlib.Core.List.{List, [], _∷_, append-nil}
+use mathlib.Core.List.{[], _∷_, append-nil}
 use lib.ListN.{length, replicate}
 use lib.Dec.{eqb}
-use Rattle.model.specs.Rows.{Program, size, tag, num, arity, pattern}
+use Rattle.model.specs.Rows.{Program, tag, num, arity, pattern}
 use Rattle.model.specs.Scopes.{binds}
 use Rattle.model.specs.Values.{Value, built, Bindings, empty, bind}
-use Rattle.model.specs.Patterns.{Row-at, Matches-at, by-name, by-constructor, by-any, by-held, Matches-each, no-values, one-value}
+use Rattle.model.specs.Patterns.{Row-at, Matches-at, by-name, by-constructor, by-any, by-held, no-values, one-value}
 use Rattle.model.specs.NoEmptyName.{Holds-something}
 use Rattle.model.proofs.Logic.{true-false}
 use Rattle.model.proofs.Covering.{names-of}
-use Rattle.model.proofs.Parse.Spans.{Spans, spans-unique, spans-none, spans-range, spans-split, spans-first}
+use Rattle.model.proofs.Parse.Spans.{Spans, spans-unique, spans-none, spans-split, spans-first}
 use Rattle.model.proofs.Parse.Grammar.{pattern-made, pattern-leaf}
 use Rattle.model.proofs.NoEmptyName.Held.{bound-holds, still-holds, Extends}
 use Rattle.model.proofs.NoEmptyName.Values.{Full, full-built, All-full, one-held}

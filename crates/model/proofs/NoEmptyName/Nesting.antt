@@ -1,13 +1,13 @@
 -- Which names are in scope where a process goes on: those in scope where it was, and those that are bound on the way.
 use Prim.Native.Nat.{ℕ, zero, suc, _+_, _≤_, _<_}
-use native.Mathlib.Decide.{decLt, ℕ-discrete}
+use native.Mathlib.Decide.{decLt}
 use native.Mathlib.Omega.{arith}
-use mathlib.Core.Path.{_≡_, refl, sym, _∙_, ap}
-use mathlib.Core.Bool.{true, false}
+use mathlib.Core.Path.{_≡_, _∙_, ap}
+use mathlib.Core.Bool.{true}
 use mathlib.Core.List.{List, [], _∷_, append-nil, List·Memᴰ, List·Memᴰ·cases-cons, List·Memᴰ·not-nil}
 use mathlib.Core.Logic.{_⊎_, inl, inr, ⊎-elim}
 use mathlib.Core.Option.{some}
-use Rattle.model.specs.Rows.{Program, size, tag, num, kind, is-head, lead, Item, expression, branch, branch-items, body-form, past-items}
+use Rattle.model.specs.Rows.{Program, size, tag, kind, lead, Item, expression, branch, branch-items, body-form, past-items}
 use Rattle.model.specs.Scopes.{binds, holds-in, in-scope}
 use Rattle.model.specs.Heads.{head-at, branch-rows, branch-body, is-function, body, start}
 use Rattle.model.proofs.Logic.{true-false}
@@ -16,7 +16,7 @@ use Rattle.model.proofs.Parse.Spans.{spans-past, spans-range, spans-tak
 use Rattle.model.proofs.Parse.Reached.{Rows-fit, Stands, stands-split}
 use Rattle.model.proofs.Parse.Heads.{rest-of}
 use Rattle.model.proofs.Parse.Locations.{Location, location-head, rest-stands, start-stands}
-use Rattle.model.proofs.Parse.Functions.{Function-form, row-form, form-body}
+use Rattle.model.proofs.Parse.Functions.{row-form, form-body}
 use Rattle.model.proofs.Parse.Branches.{Branches, branch-in}
 use Rattle.model.proofs.HeldScopes.{ends-within, branch-behind, before-branch}
 use Rattle.model.proofs.NoEmptyName.Stacks.{Led, no-items, lead-led, branches-led}

@@ -2,12 +2,12 @@
 use Prim.Native.Nat.{ℕ, zero, suc, _+_, _-_, _≤_, _<_}
 use native.Mathlib.Decide.{ℕ-discrete}
 use native.Mathlib.Omega.{arith}
-use mathlib.Core.Path.{_≡_, refl, sym, _∙_, ap, subst}
-use mathlib.Core.Bool.{true, false}
-use mathlib.Core.List.{List, [], _∷_, append-nil}
+use mathlib.Core.Path.{_≡_, sym, _∙_, ap, subst}
+use mathlib.Core.Bool.{true}
+use mathlib.Core.List.{List, []}
 use mathlib.Core.Option.{some}
-use lib.ListN.{length, getD, replicate}
-use Rattle.model.specs.Rows.{Program, size, tag, num, kind, Item, parameter, operand, step}
+use lib.ListN.{length, replicate}
+use Rattle.model.specs.Rows.{Program, tag, num, kind, Item, parameter, operand, step}
 use Rattle.model.specs.Scopes.{binds}
 use Rattle.model.specs.Heads.{Head, gives, builds, makes, calls, sends, spawns, selfs, cases, receives, no-head, call-at, head-at, parameters, body}
 use Rattle.model.specs.Values.{Bindings}

@@ -1,23 +1,23 @@
 -- Every name that a process reads at its place stands in a row at which no name is in scope that is not in scope at the place.
-use Prim.Native.Nat.{ℕ, zero, suc, _+_, _-_, _≤_, _<_}
+use Prim.Native.Nat.{ℕ, suc, _+_, _≤_, _<_}
 use native.Mathlib.Decide.{decLt, ℕ-discrete}
 use native.Mathlib.Omega.{arith}
 use mathlib.Core.Path.{_≡_, refl, sym, _∙_, ap, subst}
 use mathlib.Core.Bool.{true, false}
 use mathlib.Core.List.{List, [], _∷_, _++_, List·Memᴰ, List·Memᴰ·cases-cons, List·Memᴰ·not-nil, List·Memᴰ·eq-of-singleton}
-use mathlib.Core.Logic.{_⊎_, inl, inr, ⊎-elim}
+use mathlib.Core.Logic.{⊎-elim}
 use lib.ListN.{length, getD, replicate, length-take}
-use Rattle.model.specs.Rows.{Program, size, tag, num, arity, kind, build, call, send, spawn, is-head, Item, expression, made, operand, arguments, lead, step}
-use Rattle.model.specs.Scopes.{uses, binds, binds-name, in-scope}
-use Rattle.model.specs.Heads.{Call, Head, nums, call-at, branch-rows, head-at, gives, builds, makes, calls, sends, spawns, selfs, cases, receives, no-head}
+use Rattle.model.specs.Rows.{Program, size, tag, num, arity, kind, call, is-head, Item, expression, operand, arguments, lead, step}
+use Rattle.model.specs.Scopes.{uses}
+use Rattle.model.specs.Heads.{Call, Head, nums, call-at, head-at, gives, builds, makes, calls, sends, spawns, selfs, cases, receives, no-head}
 use Rattle.model.specs.Transitions.{read-at}
 use Rattle.model.proofs.Heads.{head-give, head-send, head-spawn, head-case}
-use Rattle.model.proofs.Parse.Spans.{spans-range, spans-takes}
+use Rattle.model.proofs.Parse.Spans.{spans-range}
 use Rattle.model.proofs.Parse.Reached.{Stands, stands-row, stands-split}
 use Rattle.model.proofs.Parse.Grammar.{fits-tag}
 use Rattle.model.proofs.Parse.Heads.{known-kind, known-tag, build-tag, call-tag}
 use Rattle.model.proofs.Parse.Locations.{Location, location-follows}
-use Rattle.model.proofs.Parse.Lengths.{Columns-whole, nums-at, nums-length}
+use Rattle.model.proofs.Parse.Lengths.{nums-at}
 use Rattle.model.proofs.NoEmptyName.Binders.{above-head}
 use Rattle.model.proofs.NoEmptyName.Parts.{operand-rows}
 

@@ -1,10 +1,10 @@
 -- No empty name (specs/NoEmptyName.antt): the invariant holds of every run, and what is promised follows.
 use Prim.Native.Nat.{ℕ}
-use mathlib.Core.Path.{_≡_, refl, sym, subst}
-use mathlib.Core.List.{List, [], _∷_, List·Memᴰ}
+use mathlib.Core.Path.{refl, sym, subst}
+use mathlib.Core.List.{List, List·Memᴰ}
 use Rattle.model.specs.Rows.{Program}
-use Rattle.model.specs.Heads.{is-function, start}
-use Rattle.model.specs.Values.{Processes, process, empty}
+use Rattle.model.specs.Heads.{is-function}
+use Rattle.model.specs.Values.{Processes, empty}
 use Rattle.model.specs.Run.{run}
 use Rattle.model.specs.Transitions.{read-at, Stays, No-step, with-reason, holds-nothing, nowhere, Runs, at-end, steps, changes-nothing}
 use Rattle.model.specs.Verify.{message}
@@ -13,7 +13,6 @@ use Rattle.model.specs.NoEmptyName.{Passes, in-expression, No-empty-name
 use Rattle.model.proofs.Exact.Names.{program-none}
 use Rattle.model.proofs.Exact.Parts.{parts-none}
 use Rattle.model.proofs.Demands.{rows-whole}
-use Rattle.model.proofs.Parse.Reached.{Rows-fit}
 use Rattle.model.proofs.Parse.Locations.{start-location, location-known}
 use Rattle.model.proofs.Parse.Lengths.{Columns-whole}
 use Rattle.model.proofs.Transitions.Runs.{runs-exactly}

@@ -1,21 +1,15 @@
 -- What is still to come where a parameter or a pattern stands: more of them, and then the expression in which their names hold.
-use Prim.Native.Nat.{ℕ, zero, suc, _+_, _-_, _≤_, _<_}
-use native.Mathlib.Omega.{arith}
-use mathlib.Core.Path.{_≡_, refl, sym}
-use mathlib.Core.Bool.{true}
+use Prim.Native.Nat.{ℕ, zero, suc, _-_}
+use mathlib.Core.Path.{_≡_, refl}
 use mathlib.Core.List.{List, [], _∷_, _++_}
-use mathlib.Core.Logic.{_⊎_, inl, inr, ⊎-elim}
 use mathlib.Core.Option.{some}
-use native.Mathlib.Decide.{ℕ-discrete}
 use lib.ListN.{replicate}
 use lib.Dec.{eqb}
-use Rattle.model.specs.Rows.{Program, size, tag, num, arity, kind, Kind, is-head, lead, declarations}
+use Rattle.model.specs.Rows.{Program, arity, kind, Kind, lead}
 use Rattle.model.specs.Rows.{give, build, function, call, send, spawn, self, case, receive, other}
 use Rattle.model.specs.Rows.{Item, constructor, global, header, parameter, expression, made, operand, arguments, branches, pattern, branch-items, step}
 use Rattle.model.proofs.Logic.{test}
-use Rattle.model.proofs.Parse.Spans.{spans-unique, spans-none, spans-takes}
-use Rattle.model.proofs.Parse.Reached.{Stands, stands-row, stands-front}
-use Rattle.model.proofs.Parse.Grammar.{fits-some, fits-tag, follows, expression-tag, expression-follows, pattern-made, pattern-leaf, pattern-tag}
+use Rattle.model.proofs.Parse.Grammar.{fits-some, follows, expression-follows, pattern-made, pattern-leaf}
 
 -- headers, parameters and patterns, and then an expression
 pub data Trail : List Item → Type 0 where

@@ -3,15 +3,14 @@ use Prim.Native.Nat.{ℕ, _+_, _<_}
 use native.Mathlib.Omega.{arith}
 use mathlib.Core.Path.{_≡_, refl, sym, _∙_, ap, subst}
 use mathlib.Core.Bool.{true}
-use mathlib.Core.List.{List, [], _∷_, _++_, List·Memᴰ, List·Memᴰ·head, Memᴰ·append-right}
-use mathlib.Core.Logic.{⊎-elim}
+use mathlib.Core.List.{List, _∷_, _++_, List·Memᴰ, List·Memᴰ·head, Memᴰ·append-right}
 use mathlib.Core.Option.{some}
-use lib.ListN.{length, getElem?, set}
+use lib.ListN.{length, set}
 use Rattle.model.specs.Limits.{maxDepth}
-use Rattle.model.specs.Rows.{Program, size, tag, num, arity}
-use Rattle.model.specs.Heads.{Call, Head, head-at, call-at, nums, gives, builds, makes, calls, sends, spawns, selfs, cases, receives, branch-body, is-function, parameters, body}
+use Rattle.model.specs.Rows.{Program, size, num}
+use Rattle.model.specs.Heads.{Call, Head, head-at, call-at, nums, builds, branch-body, is-function, parameters, body}
 use Rattle.model.specs.Values.{Value, closure, built, address, Bindings, empty, bind, Frame, Process, process, Processes}
-use Rattle.model.specs.Patterns.{Holds, Hold-each, First-branch}
+use Rattle.model.specs.Patterns.{Hold-each, First-branch}
 use Rattle.model.specs.Transitions.{Acting, Takes, Bound-to, no-parameters, Step, builds-value, makes-function, yields-self, calls-function, gives-back, sends-message, spawns-process, takes-branch, takes-message}
 use Rattle.model.proofs.Covering.{names-of}
 use Rattle.model.proofs.Parse.Reached.{Rows-fit, stands-row}
@@ -21,7 +20,7 @@ use Rattle.model.proofs.Parse.Locations.{Location, rest-location}
 use Rattle.model.proofs.Parse.Functions.{row-form, body-location}
 use Rattle.model.proofs.Parse.Branches.{Branches, branch-in, branch-location, case-branches, receive-branches}
 use Rattle.model.proofs.Parse.Lengths.{Columns-whole, call-length, build-length}
-use Rattle.model.proofs.NoEmptyName.Held.{Covers, Extends, covers-rest, covers-body, covers-branch}
+use Rattle.model.proofs.NoEmptyName.Held.{Covers, covers-rest, covers-body, covers-branch}
 use Rattle.model.proofs.NoEmptyName.Values.{Full, full-function, full-built, full-address, All-full, none-held, one-held, bound-full, bound-extends, holds-full, each-full, each-many}
 use Rattle.model.proofs.NoEmptyName.Matched.{matched}
 use Rattle.model.proofs.NoEmptyName.Parts.{name-at, parameters-hold}

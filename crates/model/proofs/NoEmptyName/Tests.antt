@@ -1,14 +1,13 @@
 -- The promise of a process and the test of it (specs/NameCases.antt) say the same.
 use Prim.Native.Nat.{ℕ, _+_, _≤_, _<_}
 use native.Mathlib.Omega.{arith}
-use mathlib.Core.Path.{_≡_, refl, sym, _∙_, ap, subst}
-use mathlib.Core.Bool.{Bool, true, false, not, _&&_}
+use mathlib.Core.Path.{_≡_, refl, sym, subst}
+use mathlib.Core.Bool.{Bool, true, not, _&&_}
 use mathlib.Core.List.{List, [], _∷_, List·Memᴰ, List·Memᴰ·head, List·Memᴰ·tail, List·Memᴰ·cases-cons, List·Memᴰ·not-nil}
 use mathlib.Core.Logic.{_↔_, ⊎-elim, Iff·trans}
-use mathlib.Core.Option.{some, none}
 use lib.Dec.{eqb, ltb}
 use borrow.Author.Tests.{not-true}
-use Rattle.model.specs.Index.{implies, any, all}
+use Rattle.model.specs.Index.{any}
 use Rattle.model.specs.Rows.{Program, size, tag, num, body-form, past-items}
 use Rattle.model.specs.Scopes.{uses, binds-name}
 use Rattle.model.specs.Heads.{head-at, branch-body}
@@ -17,10 +16,9 @@ use Rattle.model.specs.Transitions.{read-at}
 use Rattle.model.specs.NoEmptyName.{Holds-something, branches-at, Reads, in-expression, in-pattern, Reads-from-outside, Keeps, the-function, in-bindings, in-arguments, Some-keeps, the-newest, an-older, Kept-in, bound, pushed, mailed, No-name-empty}
 use Rattle.model.specs.NameCases.{each-passes, holds-some, pattern-held, reads-held, outside-held, value-held, bindings-held, names-held, Names-held-exactly}
 use Rattle.model.proofs.Logic.{test, true-false, and-left, and-right, and-intro, implies-elim, implies-intro, not-passes}
-use Rattle.model.proofs.Index.{all-elim, all-intro, any-none, any-elim, none-any}
+use Rattle.model.proofs.Index.{all-elim, all-intro, any-none, none-any}
 use Rattle.model.proofs.Reader.{by-option}
 use Rattle.model.proofs.Exact.Tests.{and-iff, eqb-iff, ltb-iff}
-use Rattle.model.proofs.Transitions.Exactly.{gives-none}
 use Rattle.model.proofs.Transitions.Names.{value-exactly}
 
 -- each element of a list

@@ -3,20 +3,20 @@
 use Prim.Native.Nat.{ℕ, zero, suc, _+_, _-_, _≤_, _<_}
 use native.Mathlib.Omega.{arith}
 use native.Mathlib.Decide.{ℕ-discrete}
-use mathlib.Core.Path.{_≡_, refl, sym, _∙_, ap}
+use mathlib.Core.Path.{_≡_}
 use mathlib.Core.Bool.{true}
 use mathlib.Core.List.{List, [], _∷_, _++_}
-use mathlib.Core.Logic.{_⊎_, inl, inr, ⊎-elim}
+use mathlib.Core.Logic.{_⊎_, ⊎-elim}
 use mathlib.Core.Option.{some}
 use lib.ListN.{replicate}
 use lib.Dec.{leb}
 use borrow.Author.Tests.{le-leb}
-use Rattle.model.specs.Rows.{Program, size, tag, num, is-head, Item, constructor, global, header, parameter, expression, made, operand, arguments, branches, pattern, step, declarations, whole}
+use Rattle.model.specs.Rows.{Program, tag, num, is-head, Item, constructor, global, expression, step, declarations, whole}
 use Rattle.model.proofs.Logic.{and-intro}
 use Rattle.model.proofs.Parse.Spans.{spans-unique, spans-none, spans-takes}
-use Rattle.model.proofs.Parse.Reached.{Stands, Row, stands-row}
-use Rattle.model.proofs.Parse.Grammar.{fits-some, fits-tag, expression-tag, pattern-tag}
-use Rattle.model.proofs.NoEmptyName.Stacks.{Trail, to-expression, past-header, past-parameter, past-pattern, Plain, a-constructor, a-made, an-operand, the-arguments, the-branches, Led, no-items, plain, a-global, trailing, parameters-trail, pattern-trail, led-step, expression-led}
+use Rattle.model.proofs.Parse.Reached.{Stands, stands-row}
+use Rattle.model.proofs.Parse.Grammar.{fits-tag, expression-tag, pattern-tag}
+use Rattle.model.proofs.NoEmptyName.Stacks.{Trail, to-expression, past-header, past-parameter, past-pattern, a-constructor, a-made, an-operand, the-arguments, the-branches, Led, no-items, plain, a-global, trailing, parameters-trail, pattern-trail, led-step, expression-led}
 
 -- the next head from row b on stands before row e
 pub record Next-head (p : Program) (b e : ℕ) : Type 0 where

@@ -2,11 +2,11 @@
 -- pattern that can stand against them.
 use Prim.Native.Nat.{ℕ, zero, suc, _<_}
 use native.Mathlib.Omega.{arith}
-use mathlib.Core.Path.{_≡_, refl, sym, _∙_, ap}
+use mathlib.Core.Path.{_≡_, refl, ap}
 use mathlib.Core.Bool.{true}
-use mathlib.Core.List.{List, [], _∷_}
+use mathlib.Core.List.{List}
 use lib.ListN.{length, getD}
-use Rattle.model.specs.Rows.{Program, size, tag, num, arity}
+use Rattle.model.specs.Rows.{Program, size, arity}
 use Rattle.model.specs.Heads.{is-function}
 use Rattle.model.specs.Values.{Value, closure, built, address, Bindings, empty, bind}
 use Rattle.model.specs.Patterns.{Newest, newest, older, Holds, global, local, Hold-each, no-names, one-name}
