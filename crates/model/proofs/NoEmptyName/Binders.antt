@@ -112,9 +112,9 @@ module _ {p : Program} (fit : Rows-fit p) where
         behind = elim (decLt b (n .head)) [
           | yes u ↦ omega arith
           | no u ↦
-            let same : n .head ≡ b = omega arith in
-            let t = head-range (tag p b) (subst (λ k. is-head (tag p k) ≡ true) same (n .is)) in
-            absurd (omega arith)
+              let same : n .head ≡ b = omega arith in
+              let t = head-range (tag p b) (subst (λ k. is-head (tag p k) ≡ true) same (n .is)) in
+              absurd (omega arith)
         ];
         heads = λ x u v l.
             let t = head-range (tag p x) (location-head l) in

@@ -59,8 +59,8 @@ module _ {p : Program} (w : Well-formed p) where
       let (u, same) = binds-row p (num p k) b binds-it in elim (ℕ-discrete (tag p b) 11) [
         | yes t ↦ global-holds n b held within (same ∙ named) t
         | no t ↦
-          let x : Local p b = record { below = within; binds-name = u; no-global = t } in
-          c .holds n b x (same ∙ named) (moves b x (same ∙ named) scope)
+            let x : Local p b = record { below = within; binds-name = u; no-global = t } in
+            c .holds n b x (same ∙ named) (moves b x (same ∙ named) scope)
       ]
 
   -- in an expression

@@ -116,9 +116,9 @@ module _ {p : Program} (fit : Rows-fit p) where
             | no d ↦ elim (decLt b f) [
               | yes u ↦ let z = bd .functions f u a is in absurd (omega arith)
               | no u ↦
-                let same : b ≡ f = omega arith in
-                absurd (⊎-elim (λ t. let z = bd .own-form (ap (tag p) same ∙ t) in let y = ap (λ k. past-items p body-form (k + 1)) same in omega arith)
-                (λ t. x .no-global (ap (tag p) same ∙ t)) (function-tag p f is))
+                  let same : b ≡ f = omega arith in
+                  absurd (⊎-elim (λ t. let z = bd .own-form (ap (tag p) same ∙ t) in let y = ap (λ k. past-items p body-form (k + 1)) same in omega arith)
+                  (λ t. x .no-global (ap (tag p) same ∙ t)) (function-tag p f is))
             ]
           ]
         ]

@@ -87,7 +87,7 @@ module _ {p : Program} where
       let long = parameters-length w g in elim (ℕ-discrete k (f + 1)) [
         | yes z ↦ true-false u (ap (λ x. binds (tag p x)) z ∙ ap binds tagged)
         | no z ↦
-          let same : f + 2 + (k - (f + 2)) ≡ k = omega arith in
-          subst (Holds-something p held) (nums-at p (f + 2) (num p (f + 1)) (k - (f + 2)) (omega arith) ∙ ap (num p) same)
-          (bound-own b (long ∙ sym many) (k - (f + 2)) (omega arith))
+            let same : f + 2 + (k - (f + 2)) ≡ k = omega arith in
+            subst (Holds-something p held) (nums-at p (f + 2) (num p (f + 1)) (k - (f + 2)) (omega arith) ∙ ap (num p) same)
+            (bound-own b (long ∙ sym many) (k - (f + 2)) (omega arith))
       ]

@@ -57,8 +57,7 @@ module _ (p : Program) where
   reads-iff held r =
       Iff·trans
       (and-iff _ _ (each-iff (holds-some p held) (Holds-something p held) (some-iff held) (read-at (head-at p r)))
-      (each-iff (pattern-held p held) (Pattern-held held) (pattern-iff held) (branches-at (head-at p r))))
-      (
+      (each-iff (pattern-held p held) (Pattern-held held) (pattern-iff held) (branches-at (head-at p r)))) (
         λ h n x. read h n x,
         λ h. (λ n m. h n (in-expression m), λ b m k lo hi below t. h (num p k) (in-pattern m lo hi (record { below = below; tagged = t; numbered = refl }))),
       )
@@ -146,8 +145,7 @@ module _ (p : Program) where
       Iff·trans
       (and-iff _ _ (reads-iff (q .held) (q .location))
       (and-iff _ _ (bindings-iff (q .held))
-      (and-iff _ _ (each-iff (λ (f : Frame). bindings-held p (f .held)) (λ f. Bindings-held (f .held)) (λ f. bindings-iff (f .held)) (q .frames)) (each-iff (value-held p) Value-held value-iff (q .mailbox)))))
-      (
+      (and-iff _ _ (each-iff (λ (f : Frame). bindings-held p (f .held)) (λ f. Bindings-held (f .held)) (λ f. bindings-iff (f .held)) (q .frames)) (each-iff (value-held p) Value-held value-iff (q .mailbox))))) (
         λ h. record { next-act = h .0; functions = kept-held (h .1 .0) (h .1 .1 .0) (h .1 .1 .1) },
         λ h. (h .next-act, (λ f kept x. h .functions f kept (bound x), (λ frame m f kept x. h .functions f kept (pushed m x), λ v m f kept x. h .functions f kept (mailed m x)))),
       )

@@ -132,6 +132,7 @@ declarations-led p = each (p .constructors)
     globals : (n : ℕ) → Led (Unit {0}) (replicate n global)
     globals zero = no-items
     globals (suc n) = a-global tt (globals n)
+
     each : (n : ℕ) → Led (Unit {0}) (replicate n constructor ++ replicate (p .functions) global)
     each zero = globals (p .functions)
     each (suc n) = plain a-constructor (each n)
