@@ -167,7 +167,8 @@ next-branch =
 unfoldable pub next-pattern : Program
 next-pattern =
     station 2 1 0
-    ((10, 1) ∷ (7, 0) ∷ (8, 0) ∷ (25, 3) ∷ (31, 0) ∷ (30, 1) ∷ (1, 0) ∷ (31, 0) ∷ (33, 1) ∷ (1, 0) ∷ (32, 0) ∷ (1, 0) ∷ [])
+    ((10, 1) ∷ (7, 0) ∷ (8, 0) ∷ (25, 3) ∷
+    (31, 0) ∷ (30, 1) ∷ (1, 0) ∷ (31, 0) ∷ (33, 1) ∷ (1, 0) ∷ (32, 0) ∷ (1, 0) ∷ [])
 
 -- f = fun () -> y; y = self; y: a function that is kept, and never called, reads a name from outside that is bound
 -- after it was made

@@ -1,5 +1,5 @@
--- Document 02, (xi), "No empty name": "for every program that passes 1 to 5, safe or not: in no run does a process read a
--- name that holds nothing, whether in an expression, a kept function or a held-name pattern"; as types.
+-- Document 02, (xi), "No empty name": "for every program that passes 1 to 5, safe or not: in no run does a process read
+-- a name that holds nothing, whether in an expression, a kept function or a held-name pattern"; as types.
 use Prim.Native.Nat.{ℕ, _+_, _≤_, _<_}
 use mathlib.Core.Path.{_≡_}
 use mathlib.Core.Bool.{true}

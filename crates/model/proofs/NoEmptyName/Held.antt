@@ -52,22 +52,22 @@ module _ {p : Program} (fit : Rows-fit p) where
   covers-start held = record { holds = λ n b x named scope. absurd (scope-start fit x scope) }
 
   pub covers-global : (held : Bindings) (g : ℕ) → tag p g ≡ 11 → Covers p held g
-  covers-global held g t = record { holds = λ n b x named scope. absurd (scope-global fit g t x scope) }
+  covers-global held g t = record { holds = λ n b x named scope. absurd (scope-global fit x g t scope) }
 
   pub covers-rest : {held : Bindings} {r r′ : ℕ} → Location p r → rest-of (head-at p r) ≡ some r′ → (v : Value) → Covers p held r → Covers p (bind (num p r) v held) r′
   covers-rest {held} {r} l to v c = record {
     holds = λ n b x named scope. ⊎-elim (λ s. still-holds (c .holds n b x named s))
-        (λ z. subst (Holds-something p (bind (num p r) v held)) (ap (num p) (sym z) ∙ named) (bound-holds (num p r) v held)) (scope-rest fit l to x scope);
+        (λ z. subst (Holds-something p (bind (num p r) v held)) (ap (num p) (sym z) ∙ named) (bound-holds (num p r) v held)) (scope-rest fit x l to scope);
   }
 
   pub covers-body : {kept held : Bindings} (f : ℕ) → f < size p → is-function p f ≡ true → Covers p kept f → Extends p kept held → ((k : ℕ) → f < k → k < body p f → binds (tag p k) ≡ true → Holds-something p held (num p k)) → Covers p held (body p f)
   covers-body {held = held} f below is c more own = record {
     holds = λ n b x named scope. ⊎-elim (λ s. more .holds n (c .holds n b x named s))
-        (λ z. subst (Holds-something p held) named (own b (z .0) (z .1) (x .binds-name))) (scope-body fit f below is x scope);
+        (λ z. subst (Holds-something p held) named (own b (z .0) (z .1) (x .binds-name))) (scope-body fit x f below is scope);
   }
 
   pub covers-branch : {held held′ : Bindings} {r q : ℕ} {qs : List ℕ} (l : Location p r) → Branches p r qs (l .below) (l .end) → List·Memᴰ q qs → Covers p held r → Extends p held held′ → ((k : ℕ) → q ≤ k → k < branch-body p q → binds (tag p k) ≡ true → Holds-something p held′ (num p k)) → Covers p held′ (branch-body p q)
   covers-branch {held′ = held′} l at listed c more own = record {
     holds = λ n b x named scope. ⊎-elim (λ s. more .holds n (c .holds n b x named s))
-        (λ z. subst (Holds-something p held′) named (own b (z .0) (z .1) (x .binds-name))) (scope-branch fit l at listed x scope);
+        (λ z. subst (Holds-something p held′) named (own b (z .0) (z .1) (x .binds-name))) (scope-branch fit x l at listed scope);
   }

@@ -4,10 +4,10 @@ use native.Mathlib.Decide.{decLt}
 use native.Mathlib.Omega.{arith}
 use mathlib.Core.Path.{_≡_, _∙_, ap}
 use mathlib.Core.Bool.{true}
-use mathlib.Core.List.{List, [], _∷_, append-nil, List·Memᴰ, List·Memᴰ·cases-cons, List·Memᴰ·not-nil}
+use mathlib.Core.List.{List, append-nil, List·Memᴰ, List·Memᴰ·cases-cons, List·Memᴰ·not-nil}
 use mathlib.Core.Logic.{_⊎_, inl, inr, ⊎-elim}
 use mathlib.Core.Option.{some}
-use Rattle.model.specs.Rows.{Program, size, tag, kind, lead, Item, expression, branch, branch-items, body-form, past-items}
+use Rattle.model.specs.Rows.{Program, size, tag, kind, lead, Item, branch, branch-items, body-form, past-items}
 use Rattle.model.specs.Scopes.{binds, holds-in, in-scope}
 use Rattle.model.specs.Heads.{head-at, branch-rows, branch-body, is-function, body, start}
 use Rattle.model.proofs.Logic.{true-false}
@@ -17,7 +17,7 @@ use Rattle.model.proofs.Parse.Reached.{Rows-fit, Stands, stands-split}
 use Rattle.model.proofs.Parse.Heads.{rest-of}
 use Rattle.model.proofs.Parse.Locations.{Location, location-head, rest-stands, start-stands}
 use Rattle.model.proofs.Parse.Functions.{row-form, form-body}
-use Rattle.model.proofs.Parse.Branches.{Branches, branch-in}
+use Rattle.model.proofs.Parse.Branches.{Branches, Branch, branch-in}
 use Rattle.model.proofs.HeldScopes.{ends-within, branch-behind, before-branch}
 use Rattle.model.proofs.NoEmptyName.Stacks.{Led, no-items, lead-led, branches-led}
 use Rattle.model.proofs.NoEmptyName.Trails.{no-global, declarations-led}
@@ -44,133 +44,140 @@ before-names {p} (suc n) s q h m {b} {t} bd lo hi =
     ])
     (List·Memᴰ·cases-cons m)
 
-module _ {p : Program} (fit : Rows-fit p) where
-  -- the row at which the scope ends
-  scope-end : {b : ℕ} (bd : Binder p b (holds-in p b)) → past-items p (expression ∷ []) (holds-in p b) ≡ bd .location .end
-  scope-end bd = spans-past (bd .location .stands .spans)
+module _ {p : Program} (fit : Rows-fit p) {b : ℕ} (x : Local p b) where
+  binder : Binder p b (holds-in p b)
+  binder = binder-at fit b (x .below) (x .binds-name) (x .no-global)
 
-  -- at the start none but globals are
-  pub scope-start : {b : ℕ} → Local p b → in-scope p b (start p) ≡ true → ⊥
-  scope-start {b} x h =
-      let bd = binder-at fit b (x .below) (x .binds-name) (x .no-global) in
-      let (lo, hi) = scope-has p b (start p) h (x .no-global) in
-      let end = scope-end bd in
+  -- the rows of the scope
+  scope-rows : (r : ℕ) → in-scope p b r ≡ true → (holds-in p b ≤ r) × (r < binder .location .end)
+  scope-rows r h =
+      let (lo, hi) = scope-has p b r h (x .no-global) in
+      let end = spans-past (binder .location .stands .spans) in
+      (lo, omega arith)
+
+  rows-scope : (r : ℕ) → holds-in p b ≤ r → r < binder .location .end → in-scope p b r ≡ true
+  rows-scope r lo hi = let end = spans-past (binder .location .stands .spans) in scope-gives p b r lo (omega arith)
+
+  -- at the start none but globals are in scope
+  pub scope-start : in-scope p b (start p) ≡ true → ⊥
+  scope-start h =
+      let (lo, hi) = scope-rows (start p) h in
       let front = start-stands fit .0 in
-      let behind = bd .behind in
+      let behind = binder .behind in
       elim (decLt (holds-in p b) (start p)) [
-        | yes l ↦ let z = ends-within (omega arith) l front (bd .location) in omega arith
-        | no l ↦ let z = bd .within (declarations-led p) front (omega arith) (omega arith) in omega arith
+        | yes l ↦ let z = ends-within (omega arith) l front (binder .location) in omega arith
+        | no l ↦ let z = binder .within (declarations-led p) front (omega arith) (omega arith) in omega arith
       ]
 
   -- nor in the row of a global
-  pub scope-global : {b : ℕ} (g : ℕ) → tag p g ≡ 11 → Local p b → in-scope p b g ≡ true → ⊥
-  scope-global {b} g t x h =
-      let bd = binder-at fit b (x .below) (x .binds-name) (x .no-global) in
-      let (lo, hi) = scope-has p b g h (x .no-global) in
-      let end = scope-end bd in
-      no-global g (bd .location .stands) lo (omega arith) t
+  pub scope-global : (g : ℕ) → tag p g ≡ 11 → in-scope p b g ≡ true → ⊥
+  scope-global g t h = let (lo, hi) = scope-rows g h in no-global g (binder .location .stands) lo hi t
+
+  -- From row r to a later row s, where every expression between ends before s: what is in scope at s is so at r, or holds from s on.
+  scope-moves : (r s : ℕ) → r < s → ((y : ℕ) → r < y → y < s → (l : Location p y) → l .end ≤ s) → in-scope p b s ≡ true → (in-scope p b r ≡ true) ⊎ (holds-in p b ≡ s)
+  scope-moves r s l ended h =
+      let (lo, hi) = scope-rows s h in
+      elim (decLt r (holds-in p b)) [
+        | no a ↦ inl (rows-scope r (omega arith) (omega arith))
+        | yes a ↦ elim (decLt (holds-in p b) s) [
+          | yes c ↦ let z = ended (holds-in p b) a c (binder .location) in absurd (omega arith)
+          | no c ↦ inr (omega arith)
+        ]
+      ]
 
   -- at the rest of a head those at the head, and the head's own
-  pub scope-rest : {b r r′ : ℕ} (l : Location p r) → rest-of (head-at p r) ≡ some r′ → Local p b → in-scope p b r′ ≡ true → (in-scope p b r ≡ true) ⊎ (b ≡ r)
-  scope-rest {b} {r} {r′} l to x h =
-      let bd = binder-at fit b (x .below) (x .binds-name) (x .no-global) in
-      let (lo, hi) = scope-has p b r′ h (x .no-global) in
-      let end = scope-end bd in
-      let behind = bd .behind in
-      let (front, others) = rest-stands l to in
-      let v = spans-range (front .spans) in
-      let w = spans-takes (others .spans) in
-      let led : Led (Unit {0}) (lead (kind (tag p r))) = rw append-nil at (lead-led {G = Unit {0}} (kind (tag p r)) no-items) in
-      elim (decLt r (holds-in p b)) [
-        | no a ↦ inl (scope-gives p b r (omega arith) (omega arith))
-        | yes a ↦ elim (decLt (holds-in p b) r′) [
-          | yes c ↦ let z = ends-within (omega arith) c front (bd .location) in absurd (omega arith)
-          | no c ↦ elim (decLt b r) [
-            | yes d ↦ let z = bd .heads r d a l in absurd (omega arith)
-            | no d ↦ elim (decLt r b) [
-              | yes u ↦ let z = bd .within led front (omega arith) (omega arith) in absurd (omega arith)
-              | no u ↦ inr (omega arith)
-            ]
+  module _ {r r′ : ℕ} (l : Location p r) (to : rest-of (head-at p r) ≡ some r′) where
+    own-rest : holds-in p b ≡ r′ → b ≡ r
+    own-rest same =
+        let (front, others) = rest-stands l to in
+        let v = spans-range (front .spans) in
+        let w = spans-takes (others .spans) in
+        let behind = binder .behind in
+        let led : Led (Unit {0}) (lead (kind (tag p r))) = rw append-nil at (lead-led {G = Unit {0}} (kind (tag p r)) no-items) in
+        elim (decLt b r) [
+          | yes a ↦ let z = binder .heads r a (omega arith) l in absurd (omega arith)
+          | no a ↦ elim (decLt r b) [
+            | yes c ↦ let z = binder .within led front (omega arith) (omega arith) in absurd (omega arith)
+            | no c ↦ omega arith
           ]
         ]
-      ]
+
+    pub scope-rest : in-scope p b r′ ≡ true → (in-scope p b r ≡ true) ⊎ (b ≡ r)
+    scope-rest h =
+        let (front, others) = rest-stands l to in
+        let v = spans-range (front .spans) in
+        ⊎-elim (λ e. inl e) (λ e. inr (own-rest e)) (scope-moves r r′ (omega arith) (λ y lo hi k. ends-within (omega arith) hi front k) h)
 
   -- in the body of a function those in its row, and its parameters
-  pub scope-body : {b : ℕ} (f : ℕ) → f < size p → is-function p f ≡ true → Local p b → in-scope p b (body p f) ≡ true → (in-scope p b f ≡ true) ⊎ ((f < b) × (b < body p f))
-  scope-body {b} f below is x h =
-      let bd = binder-at fit b (x .below) (x .binds-name) (x .no-global) in
-      let (lo, hi) = scope-has p b (body p f) h (x .no-global) in
-      let end = scope-end bd in
-      let behind = bd .behind in
-      let g = row-form fit f below is in
-      let (front, others) = form-body g in
-      let v = spans-takes (front .spans) in
-      let w = spans-takes (others .spans) in
-      let past = spans-past (g .form .spans) in
-      elim (decLt f (holds-in p b)) [
-        | no a ↦ inl (scope-gives p b f (omega arith) (omega arith))
-        | yes a ↦ elim (decLt (holds-in p b) (body p f)) [
-          | yes c ↦ let z = ends-within (omega arith) c front (bd .location) in absurd (omega arith)
-          | no c ↦ elim (decLt f b) [
-            | yes d ↦ inr (d, omega arith)
-            | no d ↦ elim (decLt b f) [
-              | yes u ↦ let z = bd .functions f u a is in absurd (omega arith)
-              | no u ↦
-                  let same : b ≡ f = omega arith in
-                  absurd (⊎-elim (λ t. let z = bd .own-form (ap (tag p) same ∙ t) in let y = ap (λ k. past-items p body-form (k + 1)) same in omega arith)
-                  (λ t. x .no-global (ap (tag p) same ∙ t)) (function-tag p f is))
-            ]
+  module _ (f : ℕ) (below : f < size p) (is : is-function p f ≡ true) where
+    own-parameter : holds-in p b ≡ body p f → (f < b) × (b < body p f)
+    own-parameter same =
+        let g = row-form fit f below is in
+        let (front, others) = form-body g in
+        let v = spans-takes (front .spans) in
+        let w = spans-takes (others .spans) in
+        let past = spans-past (g .form .spans) in
+        let behind = binder .behind in
+        elim (decLt f b) [
+          | yes a ↦ (a, omega arith)
+          | no a ↦ elim (decLt b f) [
+            | yes c ↦ let z = binder .functions f c (omega arith) is in absurd (omega arith)
+            | no c ↦
+                let own : b ≡ f = omega arith in
+                absurd (⊎-elim (λ t. let z = binder .own-form (ap (tag p) own ∙ t) in let y = ap (λ k. past-items p body-form (k + 1)) own in omega arith)
+                (λ t. x .no-global (ap (tag p) own ∙ t)) (function-tag p f is))
           ]
         ]
-      ]
+
+    pub scope-body : in-scope p b (body p f) ≡ true → (in-scope p b f ≡ true) ⊎ ((f < b) × (b < body p f))
+    scope-body h =
+        let (front, others) = form-body (row-form fit f below is) in
+        let v = spans-takes (front .spans) in
+        ⊎-elim (λ e. inl e) (λ e. inr (own-parameter e)) (scope-moves f (body p f) (omega arith) (λ y lo hi k. ends-within (omega arith) hi front k) h)
 
   -- in a branch those at the case or receive, and those of its pattern
-  pub scope-branch : {b r q : ℕ} {qs : List ℕ} (l : Location p r) (at : Branches p r qs (l .below) (l .end)) → List·Memᴰ q qs → Local p b → in-scope p b (branch-body p q) ≡ true → (in-scope p b r ≡ true) ⊎ ((q ≤ b) × (b < branch-body p q))
-  scope-branch {b} {r} {q} l at listed x h =
-      let bd = binder-at fit b (x .below) (x .binds-name) (x .no-global) in
-      let (lo, hi) = scope-has p b (branch-body p q) h (x .no-global) in
-      let end = scope-end bd in
-      let behind = bd .behind in
-      let br = branch-in at listed in
-      let from = br .from in
-      let upto = br .upto in
-      let first = at .behind in
-      let v = spans-takes (br .pattern-stands .spans) in
-      let w = spans-takes (br .body-stands .spans) in
-      let listed′ : List·Memᴰ q (branch-rows p (at .count) (at .from)) = rw (at .rows) listed in
-      let s : ℕ = holds-in p b in
-      elim (decLt r s) [
-        | no a ↦ inl (scope-gives p b r (omega arith) (omega arith))
-        | yes a ↦ elim (decLt s (at .from)) [
-          | yes c ↦ true-false (location-head (bd .location)) (at .no-head s a c)
-          | no c ↦ elim (decLt s q) [
-            | yes d ↦ let z = before-branch (at .count) (at .from) q (at .stands) listed′ s (omega arith) d (bd .location) in absurd (omega arith)
-            | no d ↦ elim (decLt s (branch-body p q)) [
-              | yes u ↦ let z = ends-within (omega arith) u (br .pattern-stands) (bd .location) in absurd (omega arith)
-              | no u ↦ own-name (omega arith)
+  module _ {r q : ℕ} {qs : List ℕ} (l : Location p r) (at : Branches p r qs (l .below) (l .end)) (listed : List·Memᴰ q qs) where
+    -- where the branch stands
+    br : Branch p (at .from) q (l .end)
+    br = branch-in at listed
+
+    listed-row : List·Memᴰ q (branch-rows p (at .count) (at .from))
+    listed-row = rw (at .rows) listed
+
+    before-body : (y : ℕ) → r < y → y < branch-body p q → (k : Location p y) → k .end ≤ branch-body p q
+    before-body y lo hi k =
+        let from = br .from in
+        let v = spans-takes (br .pattern-stands .spans) in
+        elim (decLt y (at .from)) [
+          | yes a ↦ true-false (location-head k) (at .no-head y lo a)
+          | no a ↦ elim (decLt y q) [
+            | yes c ↦ let z = before-branch (at .count) (at .from) q (at .stands) listed-row y (omega arith) c k in omega arith
+            | no c ↦ ends-within (omega arith) hi (br .pattern-stands) k
+          ]
+        ]
+
+    own-pattern : holds-in p b ≡ branch-body p q → (q ≤ b) × (b < branch-body p q)
+    own-pattern same =
+        let from = br .from in
+        let upto = br .upto in
+        let first = at .behind in
+        let v = spans-takes (br .pattern-stands .spans) in
+        let w = spans-takes (br .body-stands .spans) in
+        let behind = binder .behind in
+        elim (decLt b r) [
+          | yes a ↦ let z = binder .heads r a (omega arith) l in absurd (omega arith)
+          | no a ↦ elim (decLt b (at .from)) [
+            | yes c ↦ true-false (x .binds-name) (at .no-name b (omega arith) c)
+            | no c ↦ elim (decLt b q) [
+              | yes d ↦ let z = before-names (at .count) (at .from) q (at .stands) listed-row binder (omega arith) d in absurd (omega arith)
+              | no d ↦ (omega arith, omega arith)
             ]
           ]
         ]
-      ]
-    where
-      own-name : holds-in p b ≡ branch-body p q → (in-scope p b r ≡ true) ⊎ ((q ≤ b) × (b < branch-body p q))
-      own-name same =
-          let bd = binder-at fit b (x .below) (x .binds-name) (x .no-global) in
-          let behind = bd .behind in
-          let br = branch-in at listed in
-          let from = br .from in
-          let upto = br .upto in
-          let first = at .behind in
-          let v = spans-takes (br .pattern-stands .spans) in
-          let w = spans-takes (br .body-stands .spans) in
-          let listed′ : List·Memᴰ q (branch-rows p (at .count) (at .from)) = rw (at .rows) listed in
-          elim (decLt b r) [
-            | yes a ↦ let z = bd .heads r a (omega arith) l in absurd (omega arith)
-            | no a ↦ elim (decLt b (at .from)) [
-              | yes c ↦ true-false (x .binds-name) (at .no-name b (omega arith) c)
-              | no c ↦ elim (decLt b q) [
-                | yes d ↦ let z = before-names (at .count) (at .from) q (at .stands) listed′ bd (omega arith) d in absurd (omega arith)
-                | no d ↦ inr (omega arith, omega arith)
-              ]
-            ]
-          ]
+
+    pub scope-branch : in-scope p b (branch-body p q) ≡ true → (in-scope p b r ≡ true) ⊎ ((q ≤ b) × (b < branch-body p q))
+    scope-branch h =
+        let from = br .from in
+        let first = at .behind in
+        let v = spans-takes (br .pattern-stands .spans) in
+        ⊎-elim (λ e. inl e) (λ e. inr (own-pattern e)) (scope-moves r (branch-body p q) (omega arith) before-body h)
