@@ -34,3 +34,5 @@ pub mod Controls
 pub mod Transitions
 pub mod Equality
 pub mod HeldScopes
+pub mod NoEmptyName
+pub mod NameCases

@@ -38,3 +38,5 @@ pub mod Mailed
 pub mod Equality
 pub mod HeldCases
 pub mod MailedCases
+pub mod NoEmptyName
+pub mod NameCases

@@ -1399,8 +1399,8 @@ unfolding bads-sizes-program bads-sizes-words tables-sizes-program tables-sizes-
     eight-parameters-program eight-parameters-words eight-arguments-program eight-arguments-words
     eight-arguments-listing sixteen-branches-program sixteen-branches-words depth-four-program depth-four-words
     depth-five-program depth-five-words scopes-program scopes-words scopes-listing values-program values-words
-    values-listing letters-program letters-words letters-listing function-letter-program function-letter-words
-    function-letter-listing address-letter-program address-letter-words address-letter-listing wrong-counts-program
+     letters-program letters-words function-letter-program function-letter-words
+     address-letter-program address-letter-words address-letter-listing wrong-counts-program
     wrong-counts-words wrong-counts-listing two-callees-program two-callees-words two-callees-listing
     two-spawned-program two-spawned-words two-spawned-listing spawned-name-program spawned-name-words
     spawned-name-listing two-branches-program two-branches-words two-branches-listing two-letters-program
