@@ -15,7 +15,7 @@ use Rattle.model.specs.Verdict.{Check}
 use Rattle.model.specs.Rows.{Program, size, tag, num, body-form, past-items}
 use Rattle.model.specs.Scopes.{uses, binds-name}
 use Rattle.model.specs.Heads.{head-at, branch-body}
-use Rattle.model.specs.Values.{Value, closure, built, address, Bindings, empty, bind, value-of, Process}
+use Rattle.model.specs.Values.{Value, closure, built, address, Bindings, empty, bind, value-of, Process, process}
 use Rattle.model.specs.Run.{run}
 use Rattle.model.specs.Transitions.{read-at}
 use Rattle.model.specs.Verify.{program-check}
@@ -170,6 +170,12 @@ next-pattern =
     ((10, 1) ∷ (7, 0) ∷ (8, 0) ∷ (25, 3) ∷
     (31, 0) ∷ (30, 1) ∷ (1, 0) ∷ (31, 0) ∷ (33, 1) ∷ (1, 0) ∷ (32, 0) ∷ (1, 0) ∷ [])
 
+-- x = self; receive { c0(y) -> x; c0(=y) -> x }: the same in a receive
+unfoldable pub next-receive : Program
+next-receive =
+    station 2 1 0
+    ((10, 1) ∷ (7, 0) ∷ (9, 2) ∷ (31, 0) ∷ (30, 1) ∷ (1, 0) ∷ (31, 0) ∷ (33, 1) ∷ (1, 0) ∷ [])
+
 -- f = fun () -> y; y = self; y: a function that is kept, and never called, reads a name from outside that is bound
 -- after it was made
 unfoldable pub bound-later : Program
@@ -189,13 +195,45 @@ name-cases =
     empty-run 8 row-late (replicate 1 0) (4 ∷ []) ∷
     empty-run 12 next-branch (replicate 2 0) (8 ∷ []) ∷
     empty-run 12 next-pattern (replicate 1 0) (2 ∷ []) ∷
+    empty-run 11 next-receive (replicate 1 0) (2 ∷ []) ∷
     empty-run 6 bound-later (replicate 1 0) (3 ∷ []) ∷
     empty-run 7 own-body (replicate 1 0) (6 ∷ []) ∷
     []
 
--- the definitions above opened at once, for the theorem that computes the table
+-- The function of `bound-later` that keeps nothing, so that the name which it reads from outside is empty, and the same
+-- that keeps it
+unfoldable pub keeps-nothing : Value
+keeps-nothing = closure 0 empty
+
+unfoldable pub keeps-name : Value
+keeps-name = closure 0 (bind 1 (address 0) empty)
+
+-- a process at the start of `bound-later`, where no name is read, with these bindings, pushed bindings and messages
+unfoldable pub process-with : Bindings → List Bindings → List Value → Process
+process-with held pushed mailbox = process 5 3 held (map (λ b. record { call = 0; held = b }) pushed) mailbox
+
+-- Processes that no run comes to, each with a function in one place, and whether each name is held
+unfoldable pub kept-cases : List (Process × Bool)
+kept-cases =
+    (process-with empty [] [], true) ∷
+    (process-with (bind 0 keeps-name empty) (bind 0 keeps-name empty ∷ []) (keeps-name ∷ []), true) ∷
+    -- in the bindings, the older too; in an argument; in what another function keeps
+    (process-with (bind 0 keeps-nothing empty) [] [], false) ∷
+    (process-with (bind 0 (address 0) (bind 0 keeps-nothing empty)) [] [], false) ∷
+    (process-with (bind 0 (built 2 0 (bind 0 keeps-nothing empty)) empty) [] [], false) ∷
+    (process-with (bind 0 (closure 0 (bind 1 keeps-nothing empty)) empty) [] [], false) ∷
+    -- in the bindings of a pushed call, the first and a later one
+    (process-with empty (bind 0 keeps-nothing empty ∷ []) [], false) ∷
+    (process-with empty (empty ∷ bind 0 keeps-nothing empty ∷ []) [], false) ∷
+    -- in the mailbox, the first message and a later one
+    (process-with empty [] (keeps-nothing ∷ []), false) ∷
+    (process-with empty [] (address 0 ∷ built 2 0 (bind 0 keeps-nothing empty) ∷ []), false) ∷
+    []
+
+-- the definitions above opened at once, for the theorems that compute the tables
 unfoldable pub name-cases-opens : Unit {0}
 unfolding each-passes holds-some pattern-held reads-held outside-held value-held bindings-held names-held held-after
     held-throughout obtained-case held-run empty-run nested-functions mailed-function parameters-held made-elsewhere
-    row-late next-branch next-pattern bound-later own-body name-cases
+    row-late next-branch next-pattern next-receive bound-later own-body name-cases keeps-nothing keeps-name process-with
+    kept-cases
 name-cases-opens = tt
