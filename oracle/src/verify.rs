@@ -46,6 +46,7 @@ fn inspect_within(bytes: &[u8], read: &mut Read, within: &Limits) -> Result<(), 
     let tables = &*read.tables.insert(tables::read(message, program)?);
     let analysis = Analysis::new(program, tables);
     crate::closed::check(message, &analysis)?;
+    tables::check_mail(message, program)?;
     let system = &*read.system.insert(system::derive(message, &analysis, within.counters)?);
     let bounds = &*read.bounds.insert(bounds::read(message, system.counters())?);
     let start = tables.state(program.rows, program.start).unwrap_or(0);
