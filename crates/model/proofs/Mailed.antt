@@ -2,11 +2,12 @@
 use Prim.Native.Nat.{ℕ, _+_, _<_}
 use native.Mathlib.Omega.{arith}
 use mathlib.Core.Path.{_≡_, ap, _∙_}
-use mathlib.Core.Bool.{true, false}
-use mathlib.Core.Logic.{⊎-elim}
-use mathlib.Core.Option.{some, none}
+use mathlib.Core.Bool.{true}
+use mathlib.Core.List.{List}
+use mathlib.Core.Option.{none}
 use lib.Dec.{eqb}
 use borrow.Author.Tests.{eqb-true}
+use Rattle.model.specs.Limits.{Limits}
 use Rattle.model.specs.Words.{left, right}
 use Rattle.model.specs.Rows.{Program, num, tag}
 use Rattle.model.specs.Heads.{is-function}
@@ -16,6 +17,7 @@ use Rattle.model.specs.Run.{run}
 use Rattle.model.specs.Bads.{letter-of}
 use Rattle.model.specs.Tables.{Tables}
 use Rattle.model.specs.Counters.{counter-of}
+use Rattle.model.specs.Markings.{standing, count-in}
 use Rattle.model.specs.Verify.{message}
 use Rattle.model.specs.Demands.{Mails-no-function}
 use Rattle.model.specs.Refusals.{Passed, rows-passed, names-passed, scopes-passed, bads-passed, entries-passed, closed-passed, mailed-passed}
@@ -54,9 +56,10 @@ letter-functional p built v h =
     (λ e. absurd (omega (arith, built v (eqb-true (tag p v) 2 e), rw (e, row-shape) at h)))
     (λ e. absurd (omega (arith, rw (e, f, row-shape) at h))))
 
-pub letter-uncounted : Letter-uncounted
+-- the counter of letter C would be that of a function in the mail
+no-letter : (most : Limits) (bytes : List ℕ) → Passed most bytes 9 → (c : ℕ) → counter-of (message bytes .program) (message bytes .tables) (letter-of c (message bytes .program .constructors)) ≡ none
 unfolding letters
-letter-uncounted most bytes (mailed-passed (closed-passed (entries-passed (bads-passed (scopes-passed (names-passed (rows-passed x fit) again bound) within) bads) flow mail states) closed) mailed) c =
+no-letter most bytes (mailed-passed (closed-passed (entries-passed (bads-passed (scopes-passed (names-passed (rows-passed x fit) again bound) within) bads) flow mail states) closed) mailed) c =
     let m = message bytes in
     let p = m .program in
     let t = m .tables in
@@ -67,3 +70,9 @@ letter-uncounted most bytes (mailed-passed (closed-passed (entries-passed (bads-
     let (i, below, key) = letter-entry p t _ has in
     let same = letter-key-injective p (left (t .mail) i) (row-letter p (right (t .mail) i)) c (p .constructors) (row-letter-low p built (right (t .mail) i)) low key in
     absurd (mailed i below (mails-iff p t i .0 (letter-functional p built (right (t .mail) i) (same .1)))))
+
+pub letter-uncounted : Letter-uncounted
+unfolding count-in standing
+letter-uncounted most bytes passed c =
+    let e = no-letter most bytes passed c in
+    record { no-counter = e; stands-at-0 = λ counts. rw (e, standing) }

@@ -9,8 +9,10 @@ use Rattle.model.specs.Limits.{Limits}
 use Rattle.model.specs.Rows.{Program}
 use Rattle.model.specs.Values.{closure, Bindings, Process}
 use Rattle.model.specs.Run.{run}
-use Rattle.model.specs.Bads.{letter-of}
+use Rattle.model.specs.Bads.{Counted, letter-of}
+use Rattle.model.specs.Tables.{Tables}
 use Rattle.model.specs.Counters.{counter-of}
+use Rattle.model.specs.Markings.{Marking, count-in}
 use Rattle.model.specs.Verify.{message, verdict-within}
 use Rattle.model.specs.Demands.{Bytes}
 use Rattle.model.specs.Refusals.{Passed}
@@ -28,9 +30,15 @@ No-function-mailed =
     (most : Limits) (bytes : List ℕ) (lent : ℕ) → Bytes bytes → verdict-within most bytes lent ≡ Safe →
     No-mailbox-holds-function (message bytes .program)
 
--- "letter C keeps its number and has no counter": once 22 has passed, for no class
+-- what has no counter, and "stands at 0" in any counts
+pub record Without-counter (p : Program) (t : Tables) (k : Counted) : Type 0 where
+  pub no-counter : counter-of p t k ≡ none
+  pub stands-at-0 : (counts : Marking) → count-in p t counts k ≡ 0
+
+-- "letter C keeps its number and has no counter": once 22 has passed, for no class. So no counts meet an item (42, C),
+-- whose minimum is from 1.
 abbrev pub Letter-uncounted : Type 0
 Letter-uncounted =
     (most : Limits) (bytes : List ℕ) → Passed most bytes 9 → (c : ℕ) →
-    counter-of (message bytes .program) (message bytes .tables)
-    (letter-of c (message bytes .program .constructors)) ≡ none
+    Without-counter (message bytes .program) (message bytes .tables)
+    (letter-of c (message bytes .program .constructors))

@@ -1,5 +1,5 @@
--- Document 01, "The gate's refusals", and those of document 02: number and place of each answer; a check is a refusal or none, and the first
--- refusal counts.
+-- Document 01, "The gate's refusals", and those of document 02: number and place of each answer; a check is a
+-- refusal or none, and the first refusal counts.
 use Prim.Native.Nat.{ℕ}
 use mathlib.Core.Bool.{Bool, true, false}
 use mathlib.Core.Option.{Option, some, none}
