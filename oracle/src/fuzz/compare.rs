@@ -4,6 +4,7 @@ use super::build;
 use super::damage::{self, Case};
 use super::rng::Rng;
 use crate::counters::check_demand_3;
+use crate::held::check_names;
 use crate::refusal::{VERDICTS, verdict_index};
 use crate::stress::sizes;
 use crate::verify::Outcome;
@@ -83,6 +84,8 @@ pub struct Tally {
     pub largest: [usize; 6],
     pub runs: usize,
     pub steps: usize,
+    /// Runs, of safe messages and of refused ones, in which no process would read a name that holds nothing.
+    pub named: usize,
     /// Messages that are not refused before their bounds are looked at and have many.
     pub many_bounds: usize,
 }
@@ -114,6 +117,7 @@ impl Tally {
         let share = 100 * self.verdicts[0] / self.total().max(1);
         let [rows, flow, mail, states, ceilings, entries] = self.largest;
         text.push_str(&format!("all {}, safe {share} %, runs {} with {} steps\n", self.total(), self.runs, self.steps));
+        text.push_str(&format!("runs without an empty name, safe or not: {}\n", self.named));
         text.push_str(&format!(
             "the most in a safe message: {rows} rows, {flow} flow, {mail} mail, {states} states, {ceilings} ceilings, \
              {entries} entries\n"
@@ -191,6 +195,12 @@ pub fn fuzz(seed: u64, count: usize, first: Verifier, second: Verifier) -> Resul
             let rules = check_demand_3(&case.message, &numbers(&mut cases.rng)).map_err(failed)?;
             tally.runs += 1;
             tally.steps += rules.len();
+        }
+        if (outcome.number == 0 || outcome.number > 5)
+            && cases.rng.chance(1, 4)
+            && check_names(&case.message, &numbers(&mut cases.rng)).map_err(failed)?
+        {
+            tally.named += 1;
         }
     }
     Ok(tally)
