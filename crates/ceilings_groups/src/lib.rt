@@ -17,8 +17,8 @@ ghost use Rattle.masks.specs.Masks.{has};
 ghost use Rattle.ceilings_masks.specs.Compared.{Holders};
 ghost use Rattle.ceilings_groups.specs.Groups.{Allowed-at, Open-step};
 
-// Ceilings that allow the count at counter y: for 1 all that hold it, for every other count those where it is unbounded;
-// all where it is none of the n.
+// Ceilings that allow the count at counter y: for 1 those that hold it, for every other count those where it is
+// unbounded; all where it is none of the n.
 fn open_at(
     limits: &[u16],
     ceilings: usize,
@@ -101,7 +101,17 @@ pub fn open_to_all(
         let other = others[j] as usize;
         all = and(
             all,
-            open_to(limits, ceilings, n, holders, unbounded, count, kind, to, other),
+            open_to(
+                limits,
+                ceilings,
+                n,
+                holders,
+                unbounded,
+                count,
+                kind,
+                to,
+                other,
+            ),
         );
     }
     all
@@ -132,7 +142,16 @@ pub fn held_to_all(
         return none();
     }
     open_to_all(
-        limits, ceilings, n, holders, unbounded, 1, kind, tos, others, m,
+        limits,
+        ceilings,
+        n,
+        holders,
+        unbounded,
+        1,
+        kind,
+        tos,
+        others,
+        m,
     )
 }
 
