@@ -33,7 +33,7 @@ pub struct Read {
     pub bounds: Option<Bounds>,
 }
 
-/// Checks 1 to 13, keeping what was read.
+/// Checks 1 to 13 and 22, keeping what was read.
 pub fn inspect(bytes: &[u8], read: &mut Read) -> Result<(), Refusal> {
     inspect_within(bytes, read, &limits::PRESENT)
 }
