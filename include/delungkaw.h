@@ -10,24 +10,25 @@
 extern "C" {
 #endif
 
-/* The numbers of the verdict, by their words in document 01. The refusals are checked in this order, each over the whole message; lengths and
- * sizes go together, part by part. The place of a refusal is a word of the message, 16 bits each, counted from 0. */
+/* The numbers of the verdict, by their words in documents 01 and 02. The refusals are checked in this order, each over the whole message; lengths
+ * and sizes go together, part by part. The place of a refusal is a word of the message, 16 bits each, counted from 0. */
 enum delungkaw_verdict {
-    DELUNGKAW_SAFE = 0,     /* The message is sound. The place is 0. */
-    DELUNGKAW_LENGTH = 1,   /* A part is not whole, or bytes remain. */
-    DELUNGKAW_SIZE = 2,     /* A size is outside its limits. */
-    DELUNGKAW_ROW = 3,      /* A program row does not fit. */
-    DELUNGKAW_NAME = 4,     /* A name is bound twice, or (at place 1) never. */
-    DELUNGKAW_SCOPE = 5,    /* A name is read where it does not hold. */
-    DELUNGKAW_BAD = 6,      /* The rows of the bads do not fit. */
-    DELUNGKAW_ENTRY = 7,    /* A table entry is out of range, or not above the one before it. */
-    DELUNGKAW_OPEN = 8,     /* The tables miss an entry that they want. */
-    DELUNGKAW_COUNTERS = 9, /* There are more than 1,024 counters. */
-    DELUNGKAW_CEILING = 10, /* The ceilings do not fit. */
-    DELUNGKAW_START = 11,   /* No ceiling holds the start. */
-    DELUNGKAW_MET = 12,     /* A ceiling allows a bad. */
-    DELUNGKAW_LEAK = 13,    /* From counts under a ceiling a rule leads out of all ceilings. */
-    DELUNGKAW_SPACE = 14    /* The system needs more words than were lent. The place is how many it needs. */
+    DELUNGKAW_SAFE = 0,             /* The message is sound. The place is 0. */
+    DELUNGKAW_LENGTH = 1,           /* A part is not whole, or bytes remain. */
+    DELUNGKAW_SIZE = 2,             /* A size is outside its limits. */
+    DELUNGKAW_ROW = 3,              /* A program row does not fit. */
+    DELUNGKAW_NAME = 4,             /* A name is bound twice, or (at place 1) never. */
+    DELUNGKAW_SCOPE = 5,            /* A name is read where it does not hold. */
+    DELUNGKAW_BAD = 6,              /* The rows of the bads do not fit. */
+    DELUNGKAW_ENTRY = 7,            /* A table entry is out of range, or not above the one before it. */
+    DELUNGKAW_OPEN = 8,             /* The tables miss an entry that they want. */
+    DELUNGKAW_FUNCTION_MAILED = 22, /* A mail entry has a function as its value. */
+    DELUNGKAW_COUNTERS = 9,         /* There are more than 1,024 counters. */
+    DELUNGKAW_CEILING = 10,         /* The ceilings do not fit. */
+    DELUNGKAW_START = 11,           /* No ceiling holds the start. */
+    DELUNGKAW_MET = 12,             /* A ceiling allows a bad. */
+    DELUNGKAW_LEAK = 13,            /* From counts under a ceiling a rule leads out of all ceilings. */
+    DELUNGKAW_SPACE = 14            /* The system needs more words than were lent. The place is how many it needs. */
 };
 
 /* Verifies a message and gives the number of its verdict.
@@ -38,13 +39,15 @@ enum delungkaw_verdict {
  * What holds afterwards, which is proved (crates/verifier/src/lib.rt has it as the contract of this function):
  * - The number is 0 exactly when the message is sound and the lent words suffice. Then no run of the station, of any length and in any order of its
  *   processes, meets one of the bads of the message.
+ * - After 0 no mailbox directly holds a function in any run.
  * - After 0 the lent words begin with the system: the numbers of its states, letters, rules and rows, then the tags of the rows, then their numbers.
  *   The words beyond are as they were. `*part` bytes from the beginning of the message are the program, and these are what is to be loaded.
  * - After any other number no lent word has changed, and `*part` is 0: nothing is to be loaded.
  * - The verdict depends on the bytes and on the number of lent words alone, so the same question has the same answer.
  *
- * How many words to lend. Lend 0 first. Space is checked last and a system has at least four words, so the answer is 1 to 13, and the message is
- * refused, or it is 14, and `*place` says how many words the system needs. Lend that many and ask again: the answer is 0.
+ * How many words to lend. Lend 0 first. Space is checked last and a system has at least four words, so the answer is never 0. It is
+ * 14, and `*place` says how many words the system needs: lend that many and ask again, and the answer is 0. Or it is another, and the message
+ * is refused.
  *
  *     uint32_t none;
  *     uint32_t number = delungkaw_verify(message, length, &none, 0, &place, &part);

@@ -51,6 +51,16 @@ impl<'a> Analysis<'a> {
         letters.filter(|(_, with)| values.meets(with)).map(|(letter, _)| letter)
     }
 
+    /// States at a send that may put this value into the mail of this class, in order.
+    pub fn senders(&self, class: usize, value: usize) -> impl Iterator<Item = (usize, Row)> + '_ {
+        self.tables.states.iter().copied().filter(move |&(_, head)| match self.program.head(head) {
+            Some(Head::Send { target, message, .. }) => {
+                self.targets(*target).has(class) && self.flow(*message).has(value)
+            }
+            _ => false,
+        })
+    }
+
     /// Calls of a class that a give-back inside `function` may return to, ascending.
     pub fn returns(&self, class: usize, function: Row) -> impl Iterator<Item = (Row, Name, Row)> + '_ {
         let params = self.program.function(function).map_or(0, |f| f.params.len());

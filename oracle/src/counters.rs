@@ -73,6 +73,12 @@ pub fn rule_of(step: &Step, tables: &Tables, system: &System) -> Option<usize> {
     system.rules[begin..].iter().position(|other| *other == rule).map(|i| begin + i)
 }
 
+/// True if some mailbox directly holds a function; one inside a constructor does not count.
+pub fn holds_function(machine: &Machine) -> bool {
+    let function = machine.program.arities.len();
+    machine.processes.iter().flat_map(|process| &process.mailbox).any(|&message| machine.letter(message) == function)
+}
+
 /// True if a station meets a bad, counted in the station itself.
 pub fn meets(machine: &Machine, bad: &Bad) -> bool {
     let count = |item: &Item| {
@@ -133,8 +139,12 @@ impl<'a> Beside<'a> {
         }
     }
 
-    /// Demand 3 for the counts as they stand; of a station that is not safe, that the counts are equal.
+    /// Demand 3 for the counts as they stand, and that no mailbox directly holds a function ((x) of 02); of a station
+    /// that is not safe, that the counts are equal.
     pub fn check(&self) -> Result<(), String> {
+        if self.bounds.is_some() && holds_function(&self.machine) {
+            return Err("a mailbox directly holds a function".to_string());
+        }
         let station = station_counts(&self.machine, self.tables, self.system);
         if station.as_ref() != Some(&self.counts) {
             return Err(format!("the station counts {station:?}, the counters {:?}", self.counts));

@@ -1,5 +1,6 @@
 //! The verdict in words: what the place is, what was wanted there, what to do.
 
+use crate::analysis::Analysis;
 use crate::bads::Bad;
 use crate::bounds::{Bounds, item_counter};
 use crate::limits;
@@ -60,7 +61,10 @@ pub fn trade_word(number: u32) -> &'static str {
         "safe", "length", "size", "row", "name", "scope", "bad", "entry", "open", "counters", "ceiling", "start",
         "met", "leak", "space",
     ];
-    WORDS.get(number as usize).copied().unwrap_or("unknown")
+    match number {
+        refusal::FUNCTION_MAILED => "function mailed",
+        _ => WORDS.get(number as usize).copied().unwrap_or("unknown"),
+    }
 }
 
 impl Explainer<'_> {
@@ -75,6 +79,7 @@ impl Explainer<'_> {
             refusal::BAD => self.bad(),
             refusal::ENTRY => self.entry(),
             refusal::OPEN => self.open(),
+            refusal::FUNCTION_MAILED => self.function_mailed(),
             refusal::COUNTERS => self.counters(),
             refusal::BOUND => self.bound(),
             refusal::START => self.start(),
@@ -231,6 +236,27 @@ impl Explainer<'_> {
             wanted,
             "add this entry, then verify again: it may want others (`oracle assemble` finds them all)".to_string(),
         )
+    }
+
+    /// A mail entry of a function, and the first send that puts it there, if one does.
+    fn function_mailed(&self) -> (String, String, String) {
+        let Detail::Mailed { class, function } = self.refusal.detail else { return Default::default() };
+        let what = self.want(&Want::Mail { class, value: function });
+        let wanted = "no function in the mail, unless inside a constructor";
+        let (sent, to_do) = match (self.sender(class, function), self.symbols) {
+            (Some((sender, head)), Some(symbols)) => {
+                let to_do = "send a constructor that holds the function, and take it out where it is received";
+                (format!("sent by {}", symbols.state(sender, head)), to_do)
+            }
+            _ => ("no send puts this one there".to_string(), "drop the entry"),
+        };
+        (what, format!("{wanted}; {sent}"), to_do.to_string())
+    }
+
+    /// The first state whose send may put a value into the mail of a class.
+    fn sender(&self, class: usize, value: usize) -> Option<(usize, usize)> {
+        let (program, tables) = self.read.program.as_ref().zip(self.read.tables.as_ref())?;
+        Analysis::new(program, tables).senders(class, value).next()
     }
 
     fn counters(&self) -> (String, String, String) {

@@ -10,6 +10,7 @@ pub mod evidence;
 pub mod explain;
 pub mod explore;
 pub mod fuzz;
+pub mod held;
 pub mod leak;
 pub mod least;
 pub mod limits;

@@ -101,6 +101,11 @@ impl<'a> Machine<'a> {
         Ok(step)
     }
 
+    /// True if the name holds something in the process of this number.
+    pub fn holds(&self, number: usize, name: Name) -> bool {
+        self.store.look_up(self.processes[number].bindings, name).is_some()
+    }
+
     /// The step that the process of this number would take, or why it takes none.
     pub fn peek(&self, number: usize) -> Result<Step, Idle> {
         self.next(number).map(|act| self.foreseen(number, &act))
@@ -148,7 +153,7 @@ impl<'a> Machine<'a> {
         }
     }
 
-    /// The value of a name; scopes hold, so only an unsound program would lack one.
+    /// The value of a name; a program that passes the checks up to 5 never lacks one ((xi) of 02, `held::check_names`).
     fn held(&self, process: &Process, name: Name) -> Result<ValueId, Idle> {
         self.store.look_up(process.bindings, name).ok_or(Idle::Stopped("no such name"))
     }

@@ -14,9 +14,20 @@ pub enum Detail {
     Nothing,
     Wanted(&'static str),
     Lacks(Want),
+    /// The class and the function of a mail entry.
+    Mailed {
+        class: usize,
+        function: usize,
+    },
     Counted(usize),
-    Met { bad: usize, bound: usize },
-    Leak { bound: usize, rule: usize },
+    Met {
+        bad: usize,
+        bound: usize,
+    },
+    Leak {
+        bound: usize,
+        rule: usize,
+    },
 }
 
 #[derive(Clone, Debug, PartialEq, Eq)]
@@ -51,3 +62,13 @@ pub const START: u32 = 11;
 pub const MET: u32 = 12;
 pub const LEAK: u32 = 13;
 pub const SPACE: u32 = 14;
+/// Of (x) in 02; checked between 8 and 9.
+pub const FUNCTION_MAILED: u32 = 22;
+
+/// Every verdict, in the order of the checks but for 0, which comes first.
+pub const VERDICTS: [u32; 16] = [0, 1, 2, 3, 4, 5, 6, 7, 8, FUNCTION_MAILED, 9, 10, 11, 12, 13, 14];
+
+/// Place of a verdict in that list.
+pub fn verdict_index(number: u32) -> Option<usize> {
+    VERDICTS.iter().position(|&verdict| verdict == number)
+}

@@ -24,8 +24,8 @@ pub struct Shown {
     pub met: bool,
 }
 
-/// Shows a run. A program that passed the checks up to 5 can run; the counters run beside it where the tables are
-/// closed, and demand 3 is checked where the message is safe.
+/// Shows a run. A program that passed the checks up to 5 can run; the counters run beside it where the checks got as
+/// far as a system (8, 22 and 9 passed), and demand 3 is checked where the message is safe.
 pub fn show(message: &[u8], words: Option<&Words>, wanted: &Wanted) -> Result<Shown, String> {
     let mut read = Read::default();
     let refusal = inspect(message, &mut read).err();
@@ -65,7 +65,7 @@ pub fn show(message: &[u8], words: Option<&Words>, wanted: &Wanted) -> Result<Sh
     Ok(Shown { met: show.ever, text: show.text })
 }
 
-/// The station beside its counters, or alone where its tables are not closed.
+/// The station beside its counters, or alone where it has none: a check before them has refused the message.
 enum Station<'a> {
     Beside(Box<Beside<'a>>),
     Alone(Box<Machine<'a>>),
@@ -93,7 +93,7 @@ impl Show<'_> {
     fn run(&mut self, wanted: &Wanted) -> Result<(), String> {
         match &self.station {
             Station::Beside(beside) => self.text.push_str(&self.counts(&beside.counts)),
-            Station::Alone(_) => self.text.push_str("the tables are not closed: the station runs alone\n"),
+            Station::Alone(_) => self.text.push_str("no counters were derived: the station runs alone\n"),
         }
         self.look()?;
         for &number in &wanted.numbers {

@@ -77,7 +77,10 @@ impl<'a> Symbols<'a> {
         }
         match (self.program.nodes.get(value), self.program.function(value)) {
             (Some(Node::Named), Some(f)) => format!("function {}", self.name(f.name)),
-            _ => format!("function made at {}", self.label(value)),
+            _ => {
+                let line = self.lines.get(&value).map_or(String::new(), |line| format!(" (line {line})"));
+                format!("function made at {}{line}", self.label(value))
+            }
         }
     }
 

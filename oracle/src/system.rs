@@ -114,10 +114,13 @@ impl System {
     }
 }
 
-/// Distinct (class, letter) of the mail, ascending.
+/// Distinct (class, letter) of the mail, ascending. A function's letter keeps its number and has no counter ((x) of 02).
 fn letter_counters(a: &Analysis) -> Vec<(usize, usize)> {
+    let function = a.program.arities.len();
     let mails = a.program.classes().zip(&a.tables.mail);
-    mails.flat_map(|(class, mail)| a.letters(mail).map(move |letter| (class, letter)).collect::<Vec<_>>()).collect()
+    let letters =
+        mails.flat_map(|(class, mail)| a.letters(mail).map(move |letter| (class, letter)).collect::<Vec<_>>());
+    letters.filter(|&(_, letter)| letter != function).collect()
 }
 
 /// Refusal 9 where there are more than the `most` counters, or the system of closed tables.
@@ -133,7 +136,8 @@ pub fn derive(message: &Message, a: &Analysis, most: usize) -> Result<System, Re
     Ok(system)
 }
 
-/// Adds the rules of one state. Tables are closed, so every counter looked up is there.
+/// Adds the rules of one state. Tables are closed, so every counter looked up is there, but for a function's letter:
+/// where the mail may hold one the message is refused, and there is no rule for it.
 struct Derive<'a> {
     a: &'a Analysis<'a>,
     system: &'a mut System,

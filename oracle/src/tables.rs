@@ -1,8 +1,8 @@
-//! Flow, mail and states: their entries in range and in order (refusal 7).
+//! Flow, mail and states: their entries in range and in order (refusal 7), no function in the mail (refusal 22).
 
 use crate::message::Message;
 use crate::program::Program;
-use crate::refusal::{self, Refusal};
+use crate::refusal::{self, Detail, Refusal};
 use crate::set::Set;
 
 #[derive(Clone, Debug, Default, PartialEq, Eq)]
@@ -34,6 +34,11 @@ impl Tables {
 
     pub fn mail_of(&self, program: &Program, class: usize) -> Set {
         program.class_index(class).map_or(Set::EMPTY, |i| self.mail[i])
+    }
+
+    /// True if a function is in the mail of some class.
+    pub fn mails_function(&self, program: &Program) -> bool {
+        program.functions.iter().any(|f| self.mail.iter().any(|mail| mail.has(f.row)))
     }
 
     /// Flow entries in order.
@@ -99,4 +104,17 @@ pub fn read(message: &Message, program: &Program) -> Result<Tables, Refusal> {
         |class, head| tables.states.push((class, head)),
     )?;
     Ok(tables)
+}
+
+/// Refusal 22: a mail value is a function. Every entry of the list counts, whether a send wants it or not.
+pub fn check_mail(message: &Message, program: &Program) -> Result<(), Refusal> {
+    let mut mail = message.flow..message.flow + message.mail;
+    match mail.find(|&i| program.function(message.tables.pair(i).1).is_some()) {
+        Some(i) => {
+            let (class, function) = message.tables.pair(i);
+            let detail = Detail::Mailed { class, function };
+            Err(Refusal::new(refusal::FUNCTION_MAILED, message.tables.at + i, detail))
+        }
+        None => Ok(()),
+    }
 }

@@ -33,7 +33,7 @@ pub struct Read {
     pub bounds: Option<Bounds>,
 }
 
-/// Checks 1 to 13, keeping what was read.
+/// Checks 1 to 13 and 22, keeping what was read.
 pub fn inspect(bytes: &[u8], read: &mut Read) -> Result<(), Refusal> {
     inspect_within(bytes, read, &limits::PRESENT)
 }
@@ -46,6 +46,7 @@ fn inspect_within(bytes: &[u8], read: &mut Read, within: &Limits) -> Result<(), 
     let tables = &*read.tables.insert(tables::read(message, program)?);
     let analysis = Analysis::new(program, tables);
     crate::closed::check(message, &analysis)?;
+    tables::check_mail(message, program)?;
     let system = &*read.system.insert(system::derive(message, &analysis, within.counters)?);
     let bounds = &*read.bounds.insert(bounds::read(message, system.counters())?);
     let start = tables.state(program.rows, program.start).unwrap_or(0);

@@ -27,6 +27,9 @@ fn the_table_of_verdicts() {
     stands(verdicts::table(&source("verdicts.txt")), "VerdictCases.antt");
 }
 
+/// Sizes, and the pairs of the two columns.
+type Part<'a> = (&'a [u16], &'a [(u16, u16)]);
+
 /// A message whose states want nothing, with these states: the start, which takes its own address and then tries to
 /// spawn it so many times. With 15 it is the message of CounterCases.antt.
 fn crowd(spawns: u16, states: &[(u16, u16)]) -> Vec<u8> {
@@ -38,7 +41,7 @@ fn crowd(spawns: u16, states: &[(u16, u16)]) -> Vec<u8> {
     let mut tables = vec![(0, size), (size, size)];
     tables.extend(states);
     let bads = [(40, size), (41, 1), (43, 2), (44, 0)];
-    let parts: [(&[u16], &[(u16, u16)]); 4] =
+    let parts: [Part; 4] =
         [(&[size, spawns + 1, 1, 0], &rows), (&[1, 4], &bads), (&[1, 1, states.len() as u16], &tables), (&[0, 0], &[])];
     let columns = |pairs: &[(u16, u16)]| {
         [pairs.iter().map(|p| p.0).collect(), pairs.iter().map(|p| p.1).collect::<Vec<_>>()].concat()

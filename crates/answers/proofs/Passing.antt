@@ -3,7 +3,7 @@ use mathlib.Core.Path.{_≡_, refl, sym, ap, _∙_}
 use mathlib.Core.Bool.{Bool, true, false}
 use mathlib.Core.Option.{some, none}
 use Rattle.model.specs.declared.Verdict.{Verdict}
-use Rattle.model.specs.declared.Verdict.the-variants.{Safe, Length, Size, Row, Name, Scope, Bad, Entry, Open, Counters, Ceiling, Start, Met, Leak, Space}
+use Rattle.model.specs.declared.Verdict.the-variants.{Safe, Length, Size, Row, Name, Scope, Bad, Entry, Open, Counters, Ceiling, Start, Met, Leak, Space, FunctionMailed}
 use Rattle.model.specs.Verdict.{Check, _>>_, number}
 use Rattle.model.specs.Verify.{answer, if-safe}
 use Rattle.model.proofs.Logic.{true-false}
@@ -27,6 +27,7 @@ safe-only (Start at) h = true-false h refl
 safe-only (Met at) h = true-false h refl
 safe-only (Leak at) h = true-false h refl
 safe-only (Space at) h = true-false h refl
+safe-only (FunctionMailed at) h = true-false h refl
 
 -- what is so after a refusal
 pub else-is : {A : Type 0} (v : Verdict) (a b : A) → is-safe v ≡ false → if-safe v a b ≡ b

@@ -4,7 +4,7 @@ ghost use mathlib.Core.Path.{_≡_};
 ghost use Rattle.model.specs.Verdict.{number, place};
 ghost use Rattle.answers.specs.Safe.{is-safe};
 
-// What document 01 prints of a verdict.
+// What document 01 prints of a verdict, and document 02 of its own.
 pub struct Told {
     pub number: usize,
     pub place: usize,
@@ -73,6 +73,10 @@ pub fn told_of(v: Verdict) -> Told
         },
         Verdict::Space(at) => Told {
             number: 14,
+            place: at,
+        },
+        Verdict::FunctionMailed(at) => Told {
+            number: 22,
             place: at,
         },
     }

@@ -8,7 +8,7 @@ use mathlib.Core.Logic.{inl, inr, ⊎-elim}
 use mathlib.Core.List.{List, List·Memᴰ}
 use lib.Dec.{eqb, leb, ltb}
 use lib.ListN.{getD}
-use borrow.Author.Tests.{eq-eqb, ne-eqb, eqb-true, leb-true, lt-leb}
+use borrow.Author.Tests.{eq-eqb, ne-eqb, eqb-true, leb-true, le-leb, lt-ltb}
 use Rattle.model.specs.Limits.{omega-limit}
 use Rattle.model.specs.Index.{any, all}
 use Rattle.model.specs.Rows.{Program}
@@ -16,9 +16,10 @@ use Rattle.model.specs.Tables.{Tables, state-at}
 use Rattle.model.specs.Rules.{Rule, state-rules}
 use Rattle.model.specs.Markings.{Marking, usable, fire}
 use Rattle.model.specs.Ceilings.{allowed, highest, under, under-some, leads-out}
-use Rattle.model.proofs.Logic.{test, and-left, and-right, or-left, or-cases}
-use Rattle.model.proofs.Index.{any-elim, any-intro, all-intro}
+use Rattle.model.proofs.Logic.{test, and-left, and-right, and-intro, or-left, or-right, or-cases}
+use Rattle.model.proofs.Index.{any-elim, any-intro, all-intro, all-elim}
 use Rattle.bits.specs.Bits.{member}
+use Rattle.bits.proofs.Loops.{both, not-not}
 use Rattle.masks.specs.declared.Mask.{Mask}
 use Rattle.masks.specs.Masks.{has}
 use Rattle.steps.specs.declared.Step.{Step}
@@ -27,16 +28,19 @@ use Rattle.steps.proofs.Stepping.{fire-fewer, less-pass, less-fail}
 use Rattle.ceilings.specs.Table.{held}
 use Rattle.ceilings_form.proofs.Limited.{highest-limit}
 use Rattle.ceilings_masks.specs.declared.Over.{Over}
-use Rattle.ceilings_masks.specs.Compared.{allows, most, exceeds, Counted}
+use Rattle.ceilings_masks.specs.Compared.{reaches, most, exceeds, Counted}
 use Rattle.ceilings_covers.specs.Covers.{Left}
 use Rattle.ceilings_covers.proofs.Covering.{allowed-lower, fits-not, adds-elim, adds-apart, fire-once, more-allows}
 use Rattle.ceilings_groups.specs.Groups.{table-ceilings, escapes, Open-step, Open-to, Groups-upto}
-use Rattle.ceilings_groups.proofs.Leading.{leads-none}
+use Rattle.ceilings_groups.proofs.Leading.{any-same, leads-none}
 
--- by what the mask of a count says
-pub allows-at : (limits : List ℕ) (ceilings y count k : ℕ) → allows limits ceilings y count k ≡ true → allowed (held limits ceilings k y) count ≡ true
-unfolding allows
-allows-at limits ceilings y count k h = and-right (ltb k ceilings) _ h
+-- a limit that reaches more than the count allows it
+pub reached-allows : (limits : List ℕ) (ceilings y least count k : ℕ) → count ≤ least → reaches limits ceilings y least k ≡ true → allowed (held limits ceilings k y) count ≡ true
+unfolding allowed reaches
+reached-allows limits ceilings y least count k low h =
+    let l : ℕ = held limits ceilings k y in
+    let z = leb-true least l (and-right (ltb k ceilings) _ h) in
+    or-right (eqb l omega-limit) _ (le-leb count l (omega arith))
 
 -- a step is open to a ceiling that allows the count where it adds
 pub step-open : (limits : List ℕ) (ceilings n count k : ℕ) (σ : Step) → σ .kind ≤ 3 → Open-step limits ceilings n count k (σ .kind) (σ .to) (σ .other) → Open-to limits ceilings n count k (rule-of-step σ)
@@ -122,3 +126,26 @@ module _ (limits : List ℕ) (ceilings n count kind : ℕ) (tos others : List �
 -- a bit of the masks by which a state is settled
 pub settled-bit : (l a first raised either all p q r : Bool) → all ≡ (l && either) → either ≡ (first || raised) → first ≡ p → raised ≡ (a && r) → r ≡ q → all ≡ (l && (p || a && q))
 settled-bit l a first raised either all p q r e f g h i = e ∙ rw (f, g, h, i)
+
+-- the mask has the ceilings that have no bound at the counters before x
+unfoldable pub Boundless-upto : List ℕ → ℕ → Mask → Type 0
+Boundless-upto unbounded x m = (k : ℕ) → k < 256 → has m k ≡ all 0 x (λ y. member unbounded 4 y k)
+
+all-more : (x : ℕ) (f : ℕ → Bool) → (all 0 x f && f x) ≡ all 0 (x + 1) f
+all-more x f =
+    both _ _
+    (λ t. all-intro 0 (x + 1) f (λ y a b. elim (ℕ-discrete y x) [ yes e ↦ rw e (and-right (all 0 x f) (f x) t) | no e ↦ all-elim 0 x y f (and-left (all 0 x f) (f x) t) a (omega arith) ]))
+    (λ t. and-intro _ _ (all-intro 0 x f (λ y a b. all-elim 0 (x + 1) y f t a (omega arith))) (all-elim 0 (x + 1) x f t (omega arith) (omega arith)))
+
+module _ (unbounded : List ℕ) where
+  pub boundless-start : (m : Mask) → ((k : ℕ) → k < 256 → has m k ≡ ltb k 256) → Boundless-upto unbounded 0 m
+  unfolding Boundless-upto
+  boundless-start m is k h = is k h ∙ (lt-ltb k 256 h ∙ sym (all-intro 0 0 (λ y. member unbounded 4 y k) (λ y a b. absurd (omega arith))))
+
+  pub boundless-next : (x : ℕ) (m next r : Mask) → Boundless-upto unbounded x m → ((k : ℕ) → k < 256 → has next k ≡ member unbounded 4 x k) → ((k : ℕ) → has r k ≡ (has m k && has next k)) → Boundless-upto unbounded (x + 1) r
+  unfolding Boundless-upto
+  boundless-next x m next r b is and k h = and k ∙ (rw (b k h, is k h) (all-more x (λ y. member unbounded 4 y k)))
+
+  pub boundless-some : (n x : ℕ) (m : Mask) (r : Bool) → x ≡ n → Boundless-upto unbounded x m → r ≡ not (any 0 256 (has m)) → not r ≡ any 0 256 (λ k. all 0 n (λ y. member unbounded 4 y k))
+  unfolding Boundless-upto
+  boundless-some n x m r e b is = ap not is ∙ (not-not _ ∙ (any-same 256 _ _ b ∙ rw e))

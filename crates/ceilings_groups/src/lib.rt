@@ -1,5 +1,4 @@
 // The rules of a state as one: the ceilings that allow a count at every counter to which one of them adds.
-use ceilings_masks::allowing;
 use masks::Mask;
 use masks::and;
 use masks::below;
@@ -11,14 +10,15 @@ ghost use mathlib.Core.Path.{_≡_};
 ghost use mathlib.Core.Bool.{true, _&&_, _||_};
 ghost use Prim.Native.Nat.{ℕ, _+_, _*_, _≤_, _<_};
 ghost use lib.ListN.{length, getD};
-ghost use Rattle.model.specs.Limits.{maxCeilings};
-ghost use Rattle.model.specs.Index.{any};
+ghost use Rattle.model.specs.Limits.{omega-limit};
+ghost use Rattle.model.specs.Index.{any, all};
 ghost use Rattle.bits.specs.Bits.{member};
 ghost use Rattle.masks.specs.Masks.{has};
 ghost use Rattle.ceilings_masks.specs.Compared.{Holders};
 ghost use Rattle.ceilings_groups.specs.Groups.{Allowed-at, Open-step};
 
-// The ceilings that allow the count at counter y; all where it is none of the n.
+// Ceilings that allow the count at counter y: for 1 those that hold it, for every other count those where it is
+// unbounded; all where it is none of the n.
 fn open_at(
     limits: &[u16],
     ceilings: usize,
@@ -28,17 +28,21 @@ fn open_at(
     count: usize,
     y: usize,
 ) -> Mask
-    requires { ⌜ (ceilings ≤ maxCeilings) × (n * ceilings ≤ length (now limits)) ⌝ }
+    requires { ⌜ count ≤ omega-limit ⌝ }
     requires { ⌜ Holders (now limits) ceilings n (now holders) (now unbounded) ⌝ }
     ensures { λ r. ⌜ ((k : ℕ) → k < 256 → has r k ≡ true → Allowed-at (now (limits .entry)) ceilings n count k y) ⌝ }
 {
     if n <= y {
         return below(256);
     }
-    allowing(limits, ceilings, n, holders, unbounded, y, count)
+    if count == 1 {
+        let first = 2 * y;
+        return load(holders, first);
+    }
+    load(unbounded, y)
 }
 
-// The ceilings that allow the count where a rule of this kind adds: where it leads, and what it puts or starts. None
+// Ceilings that allow the count where a rule of this kind adds: where it leads, and what it puts or starts. None
 // where these are one counter, which then gets two.
 fn open_to(
     limits: &[u16],
@@ -51,7 +55,7 @@ fn open_to(
     to: usize,
     other: usize,
 ) -> Mask
-    requires { ⌜ (ceilings ≤ maxCeilings) × (n * ceilings ≤ length (now limits)) ⌝ }
+    requires { ⌜ count ≤ omega-limit ⌝ }
     requires { ⌜ Holders (now limits) ceilings n (now holders) (now unbounded) ⌝ }
     ensures { λ r. ⌜
         ((k : ℕ) → k < 256 → has r k ≡ true → Open-step (now (limits .entry)) ceilings n count k kind to other) ⌝ }
@@ -69,7 +73,7 @@ fn open_to(
     )
 }
 
-// The ceilings that allow the count where the m rules add, all of one kind: where they lead, and what they put or
+// Ceilings that allow the count where the m rules add, all of one kind: where they lead, and what they put or
 // start.
 pub fn open_to_all(
     limits: &[u16],
@@ -83,7 +87,7 @@ pub fn open_to_all(
     others: &[u16],
     m: usize,
 ) -> Mask
-    requires { ⌜ (ceilings ≤ maxCeilings) × (n * ceilings ≤ length (now limits)) ⌝ }
+    requires { ⌜ count ≤ omega-limit ⌝ }
     requires { ⌜ Holders (now limits) ceilings n (now holders) (now unbounded) ⌝ }
     requires { ⌜ (m ≤ length (now tos)) × (m ≤ length (now others)) ⌝ }
     ensures { λ r. ⌜
@@ -97,10 +101,70 @@ pub fn open_to_all(
         let other = others[j] as usize;
         all = and(
             all,
-            open_to(limits, ceilings, n, holders, unbounded, count, kind, to, other),
+            open_to(
+                limits,
+                ceilings,
+                n,
+                holders,
+                unbounded,
+                count,
+                kind,
+                to,
+                other,
+            ),
         );
     }
     all
+}
+
+// The same for the count 1, but none where some ceiling has no bound at all: that one is open to every rule and left
+// beside every ceiling, so that a second set would settle nothing more.
+pub fn held_to_all(
+    boundless: bool,
+    limits: &[u16],
+    ceilings: usize,
+    n: usize,
+    holders: &[u64],
+    unbounded: &[u64],
+    kind: usize,
+    tos: &[u16],
+    others: &[u16],
+    m: usize,
+) -> Mask
+    requires { ⌜ Holders (now limits) ceilings n (now holders) (now unbounded) ⌝ }
+    requires { ⌜ (m ≤ length (now tos)) × (m ≤ length (now others)) ⌝ }
+    ensures { λ r. ⌜
+        ((k j : ℕ) → k < 256 → j < m → has r k ≡ true →
+        Open-step (now (limits .entry)) ceilings n 1 k kind (getD (now (tos .entry)) j 0)
+        (getD (now (others .entry)) j 0)) ⌝ }
+{
+    if boundless {
+        return none();
+    }
+    open_to_all(
+        limits,
+        ceilings,
+        n,
+        holders,
+        unbounded,
+        1,
+        kind,
+        tos,
+        others,
+        m,
+    )
+}
+
+// Some ceiling has no bound at any of the n counters.
+pub fn is_boundless(unbounded: &[u64], n: usize) -> bool
+    requires { ⌜ n * 4 ≤ length (now unbounded) ⌝ }
+    ensures { λ r. ⌜ r ≡ any 0 256 (λ k. all 0 n (λ x. member (now (unbounded .entry)) 4 x k)) ⌝ }
+{
+    let mut left = below(256);
+    for x in 0..n {
+        left = and(left, load(unbounded, x));
+    }
+    !is_none(left)
 }
 
 // Some ceiling of the mask is in the first set of state i; or in the second, and in `above`.

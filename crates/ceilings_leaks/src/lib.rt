@@ -8,6 +8,8 @@ use ceilings_covers::passes;
 use ceilings_covers::surely_covered;
 use ceilings_form::entries::ceilings_at;
 use ceilings_form::entries::counter_at;
+use ceilings_groups::held_to_all;
+use ceilings_groups::is_boundless;
 use ceilings_groups::open_to_all;
 use ceilings_groups::settled;
 use ceilings_masks::compare;
@@ -98,6 +100,7 @@ pub fn fill_groups(
         (s .ceilings) n (s .states) (now (group .exit)) ⌝ }
     ensures { λ g. ⌜ Totalled (program (now (ws .entry)) s) (tables (now (ws .entry)) s) (g .totals) ⌝ }
 {
+    let boundless = is_boundless(unbounded, n);
     let mut class = k;
     let mut rules = 0;
     let mut rows = 0;
@@ -146,13 +149,13 @@ pub fn fill_groups(
         store(
             group,
             second,
-            open_to_all(
+            held_to_all(
+                boundless,
                 limits,
                 s.ceilings,
                 n,
                 holders,
                 unbounded,
-                1,
                 kind,
                 tos,
                 others,

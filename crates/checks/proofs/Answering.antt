@@ -19,7 +19,8 @@ use Rattle.model.specs.Verify.{program-check, evidence-check, ceilings-check, m
 use Rattle.model.proofs.Exact.Answer.{Refuses, program-refuses, ceilings-refuse}
 use Rattle.system_space.specs.Space.{words-after}
 use Rattle.answers.specs.Safe.{is-safe}
-use Rattle.checks.specs.Order.{taken, under-ceilings, from-3, from-4, from-5, from-6, from-7, from-8, from-9, from-10, from-11, from-14}
+use Rattle.mailed.specs.Mailed.{mailed-then-counters}
+use Rattle.checks.specs.Order.{taken, under-ceilings, from-3, from-4, from-5, from-6, from-7, from-8, from-22, from-10, from-11, from-14}
 use Rattle.answers.proofs.Passing.{else-is, ends, goes-on, no-safe}
 
 -- the checks in the order in which the code takes them
@@ -39,7 +40,7 @@ in-threes a b c d e f g h i l =
     three a b c _ ∙ ap (λ x. a >> (b >> (c >> x))) (four d e f g _ ∙ ap (λ x. d >> (e >> (f >> (g >> x)))) (assoc h i l))
 
 pub in-order : (ws : List ℕ) (s : Sizes) (n : ℕ) → message-check present (taken ws s) n ≡ from-3 ws s n
-unfolding message-check taken program-check evidence-check ceilings-check under-ceilings from-3 from-4 from-5 from-6 from-7 from-8 from-9 from-10 from-11 from-14
+unfolding message-check taken program-check evidence-check ceilings-check under-ceilings mailed-then-counters from-3 from-4 from-5 from-6 from-7 from-8 from-22 from-10 from-11 from-14
 in-order ws s n = in-threes _ _ _ _ _ _ _ _ _ _
 
 -- a check that finds nothing leaves those behind it

@@ -1,7 +1,6 @@
 -- The checks of a message whose parts are whole, in their order: each with all that come behind it.
 use Prim.Native.Nat.{ℕ}
 use mathlib.Core.List.{List}
-use Rattle.model.specs.Limits.{present}
 use Rattle.model.specs.declared.Sizes.{Sizes}
 use Rattle.model.specs.Verdict.{Check, _>>_}
 use Rattle.model.specs.Rows.{program, row-check}
@@ -9,11 +8,12 @@ use Rattle.model.specs.Scopes.{name-check, scope-check}
 use Rattle.model.specs.Bads.{bad-rows, bad-check}
 use Rattle.model.specs.Tables.{tables, entry-check}
 use Rattle.model.specs.Closed.{open-check}
-use Rattle.model.specs.Counters.{counter-count, counter-check}
+use Rattle.model.specs.Counters.{counter-count}
 use Rattle.model.specs.Rules.{rules}
 use Rattle.model.specs.Ceilings.{ceilings-of, ceiling-check, start-check, met-check, leak-check}
 use Rattle.model.specs.Listing.{space-check}
 use Rattle.model.specs.Verify.{Message}
+use Rattle.mailed.specs.Mailed.{mailed-then-counters}
 
 -- the message of these words and sizes
 unfoldable pub taken : List ℕ → Sizes → Message
@@ -44,11 +44,12 @@ module _ (ws : List ℕ) (s : Sizes) (lent : ℕ) where
   unfoldable pub from-10 : Check
   from-10 = ceiling-check ws s (counter-count (program ws s) (tables ws s)) >> from-11
 
-  unfoldable pub from-9 : Check
-  from-9 = counter-check present s (program ws s) (tables ws s) >> from-10
+  -- 22 and 9: 22 is "between 8 and 9"
+  unfoldable pub from-22 : Check
+  from-22 = mailed-then-counters s (program ws s) (tables ws s) >> from-10
 
   unfoldable pub from-8 : Check
-  from-8 = open-check s (program ws s) (tables ws s) >> from-9
+  from-8 = open-check s (program ws s) (tables ws s) >> from-22
 
   unfoldable pub from-7 : Check
   from-7 = entry-check s (program ws s) (tables ws s) >> from-8

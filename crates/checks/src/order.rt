@@ -1,4 +1,4 @@
-// The order of the checks: refusals 3 to 14 of the words of a message whose parts are whole.
+// The order of the checks: refusals 3 to 14, and 22 between 8 and 9, of the words of a message whose parts are whole.
 use crate::leaks::ceilings_verdict;
 use crate::listing::listing_verdict;
 use answers::is_safe;
@@ -9,6 +9,7 @@ use evidence::entries::entry_check;
 use grammar::row_check;
 use layout::ends::fill_ends;
 use layout::inner::fill_inners;
+use mailed::counters_verdict;
 use model::Sizes;
 use model::Verdict;
 use rooms::row_words16;
@@ -16,7 +17,6 @@ use rooms::words16_512;
 use rooms::words64_1024;
 use scopes::names::name_check;
 use scopes::scope::scope_check;
-use system_letters::counter_check;
 use system_letters::counter_count;
 use system_letters::fill_letters;
 use system_letters::fill_names;
@@ -30,7 +30,7 @@ ghost use Rattle.system_space.specs.Space.{words-after};
 ghost use Rattle.checks.specs.Order.{taken};
 ghost use Rattle.closure_sized.specs.Flow.{Flow-room};
 
-// Refusals 3 to 14, one after the other; after none the listing is written.
+// Refusals 3 to 8, 22 and 9 to 14, one after the other; after none the listing is written.
 pub fn words_verdict(ws: &[u16], s: Sizes, flow: &mut [u64], lent: &mut [u32]) -> Verdict
     requires { ⌜ Parts-whole (now ws) s ⌝ }
     requires { ⌜ Flow-room s (now flow) ⌝ }
@@ -80,7 +80,8 @@ pub fn words_verdict(ws: &[u16], s: Sizes, flow: &mut [u64], lent: &mut [u32]) -
     let mut letter_at = row_words16();
     let mut letters = words16_512();
     fill_letters(ws, s, &mut letter_at, &mut letters);
-    let counters = counter_check(ws, s, &letter_at, &letters);
+    // 22, then 9
+    let counters = counters_verdict(ws, s, &letter_at, &letters);
     if !is_safe(counters) {
         return counters;
     }

@@ -16,7 +16,7 @@ ghost use Rattle.evidence.specs.Whole.{Parts-whole};
 ghost use Rattle.system_space.specs.Space.{words-after};
 ghost use Rattle.checks.specs.Order.{taken};
 
-// Refusals 3 to 14 of few rows and names.
+// Refusals 3 to 14, and 22, of few rows and names.
 fn small_flow(ws: &[u16], s: Sizes, lent: &mut [u32]) -> Verdict
     requires { ⌜ Parts-whole (now ws) s ⌝ }
     requires { ⌜ (s .rows ≤ 64) × (s .names ≤ 64) ⌝ }
@@ -27,7 +27,7 @@ fn small_flow(ws: &[u16], s: Sizes, lent: &mut [u32]) -> Verdict
     words_verdict(ws, s, &mut flow, lent)
 }
 
-// Refusals 3 to 14 of more.
+// The same of more.
 fn middle_flow(ws: &[u16], s: Sizes, lent: &mut [u32]) -> Verdict
     requires { ⌜ Parts-whole (now ws) s ⌝ }
     requires { ⌜ (s .rows ≤ 256) × (s .names ≤ 256) ⌝ }
@@ -38,7 +38,7 @@ fn middle_flow(ws: &[u16], s: Sizes, lent: &mut [u32]) -> Verdict
     words_verdict(ws, s, &mut flow, lent)
 }
 
-// Refusals 3 to 14 of any number.
+// The same of any number.
 fn large_flow(ws: &[u16], s: Sizes, lent: &mut [u32]) -> Verdict
     requires { ⌜ Parts-whole (now ws) s ⌝ }
     ensures { λ v. ⌜ v ≡ answer (message-check present (taken (now (ws .entry)) s) (length (now (lent .entry)))) ⌝ }
@@ -48,7 +48,7 @@ fn large_flow(ws: &[u16], s: Sizes, lent: &mut [u32]) -> Verdict
     words_verdict(ws, s, &mut flow, lent)
 }
 
-// Refusals 3 to 14 over the least scratch that fits, which that for `most` rows and names or more may be. It calls
+// All of these over the least scratch that fits, which that for `most` rows and names or more may be. It calls
 // itself for the next size: each size has a frame of its own (DECISIONS 46).
 pub fn sized_verdict(most: usize, ws: &[u16], s: Sizes, lent: &mut [u32]) -> Verdict
     requires { ⌜ 1 ≤ most ⌝ }

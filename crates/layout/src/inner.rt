@@ -1,27 +1,18 @@
 // The innermost function around each row.
 use crate::tables::entry;
 use model::Sizes;
-use model::TAG_FUNCTION;
-use model::TAG_GLOBAL;
+use program::rows::is_function;
 use program::rows::num;
 use program::rows::tag;
 ghost use mathlib.Core.Path.{_≡_};
-ghost use mathlib.Core.Bool.{true, _||_};
+ghost use mathlib.Core.Bool.{true};
 ghost use mathlib.Core.Option.{none};
 ghost use Prim.Native.Nat.{_+_, _≤_, _<_};
 ghost use lib.ListN.{length};
-ghost use lib.Dec.{eqb};
 ghost use Rattle.model.specs.Rows.{program, body-form, past-items, row-check};
 ghost use Rattle.model.specs.Heads.{is-function, innermost};
 ghost use Rattle.program.specs.Rows.{Whole};
 ghost use Rattle.layout.specs.Tables.{After-table, Inner-upto, Candidate, or-end};
-
-// A function is a row with tag 3 or 11.
-fn is_function(t: usize) -> bool
-    ensures { λ b. ⌜ b ≡ (eqb t 3 || eqb t 11) ⌝ }
-{
-    t == TAG_FUNCTION || t == TAG_GLOBAL
-}
 
 // The row after the body form of the function at row f.
 fn form_end(ws: &[u16], s: Sizes, ends: &[u16], f: usize) -> usize

@@ -1,5 +1,5 @@
--- What the counters and rules ask of a message: the checks before refusal 9 found nothing. (That the tables are closed
--- is not asked.)
+-- What the counters and rules ask of a message: the checks before refusal 8 found nothing. (That the tables are closed
+-- is not asked, nor that no function is mailed.)
 use Prim.Native.Nat.{ℕ, _≤_}
 use mathlib.Core.Path.{_≡_}
 use mathlib.Core.List.{List}

@@ -1,10 +1,11 @@
--- The cases of specs/Cases.antt, LongerCases.antt and HeldCases.antt, by computation: one theorem a table.
+-- The cases of specs/Cases.antt, LongerCases.antt, HeldCases.antt and MailedCases.antt, by computation: one theorem a table.
 use mathlib.Core.Path.{_≡_, refl}
 use mathlib.Core.List.{map}
 use Rattle.model.proofs.Opens.{model-opens}
 use Rattle.model.specs.Cases.{obtained, proved-cases, own-cases}
 use Rattle.model.specs.LongerCases.{obtained-each, expected-each, limit-cases}
 use Rattle.model.specs.HeldCases.{reached, held-cases, held-runs}
+use Rattle.model.specs.MailedCases.{mailed-cases, mailed-runs}
 
 pub proved-cases-hold : map obtained proved-cases ≡ map (λ k. k .expected) proved-cases
 unfolding model-opens
@@ -25,3 +26,11 @@ held-cases-hold = refl
 pub held-runs-hold : map reached held-runs ≡ map (λ k. k .expected) held-runs
 unfolding model-opens
 held-runs-hold = refl
+
+pub mailed-cases-hold : obtained-each mailed-cases ≡ expected-each mailed-cases
+unfolding model-opens
+mailed-cases-hold = refl
+
+pub mailed-runs-hold : map reached mailed-runs ≡ map (λ k. k .expected) mailed-runs
+unfolding model-opens
+mailed-runs-hold = refl

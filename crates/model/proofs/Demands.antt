@@ -6,7 +6,7 @@ use mathlib.Core.List.{List}
 use lib.ListN.{length, take, drop, length-take, length-drop}
 use lib.Dec.{eqb}
 use Rattle.model.specs.declared.Verdict.{Verdict}
-use Rattle.model.specs.declared.Verdict.the-variants.{Safe, Length, Size, Row, Name, Scope, Bad, Entry, Open, Counters, Ceiling, Start, Met, Leak, Space}
+use Rattle.model.specs.declared.Verdict.the-variants.{Safe, Length, Size, Row, Name, Scope, Bad, Entry, Open, Counters, Ceiling, Start, Met, Leak, Space, FunctionMailed}
 use Rattle.model.specs.Verdict.{number}
 use Rattle.model.specs.Message.{sizes, ceilings-at, end-at}
 use Rattle.model.specs.Words.{words, columns}
@@ -43,6 +43,7 @@ safe-number (Start at) h = absurd (omega (arith, h))
 safe-number (Met at) h = absurd (omega (arith, h))
 safe-number (Leak at) h = absurd (omega (arith, h))
 safe-number (Space at) h = absurd (omega (arith, h))
+safe-number (FunctionMailed at) h = absurd (omega (arith, h))
 
 -- what an answer other than safe gives
 not-safe : {A : Type 0} (v : Verdict) (a b : A) → (v ≡ Safe → ⊥) → if-safe v a b ≡ b

@@ -56,11 +56,11 @@ module _ {p : Program} where
       patterns-on n (step-patterns p d r (f .says) ps) (omega arith) l (f .rest) loc
 
   -- an expression whose head is among these rows ends among them
-  ends-within : {xs below : List Item} {r s e : ℕ} → r ≤ s → s < e → Stands p xs below r e → (loc : Location p s) → loc .end ≤ e
+  pub ends-within : {xs below : List Item} {r s e : ℕ} → r ≤ s → s < e → Stands p xs below r e → (loc : Location p s) → loc .end ≤ e
   ends-within {s = s} lo hi h loc = let k = stands-inside s lo hi h in stands-within (loc .stands) (k .stands)
 
   -- a branch is behind where the branches begin
-  branch-behind : (n s q : ℕ) {e : ℕ} {below : List Item} → Stands p (branch-items n) below s e → List·Memᴰ q (branch-rows p n s) → s ≤ q
+  pub branch-behind : (n s q : ℕ) {e : ℕ} {below : List Item} → Stands p (branch-items n) below s e → List·Memᴰ q (branch-rows p n s) → s ≤ q
   unfolding branch-items branch-rows
   branch-behind zero s q h m = absurd (List·Memᴰ·not-nil m)
   branch-behind (suc n) s q h m =
@@ -70,7 +70,7 @@ module _ {p : Program} where
       ⊎-elim (λ here. omega arith) (λ there. let y = branch-behind n a q others (rw z at there) in omega arith) (List·Memᴰ·cases-cons m)
 
   -- of the branches before the one at row q, each expression ends before q
-  before-branch : (n s q : ℕ) {e : ℕ} {below : List Item} → Stands p (branch-items n) below s e → List·Memᴰ q (branch-rows p n s) → (f : ℕ) → s ≤ f → f < q → (loc : Location p f) → loc .end ≤ q
+  pub before-branch : (n s q : ℕ) {e : ℕ} {below : List Item} → Stands p (branch-items n) below s e → List·Memᴰ q (branch-rows p n s) → (f : ℕ) → s ≤ f → f < q → (loc : Location p f) → loc .end ≤ q
   unfolding branch-items branch-rows
   before-branch zero s q h m f lo hi loc = absurd (List·Memᴰ·not-nil m)
   before-branch (suc n) s q h m f lo hi loc =
@@ -134,7 +134,7 @@ ceiling-rest {p} {b} l k e f =
     let z = spans-past (front .spans) in
     rw (e, z) (record { below = l .below; end = l .end; stands = others })
 
-unbound : {A : Type 0} (t k : ℕ) → t ≡ k → binds k ≡ false → binds t ≡ true → A
+pub unbound : {A : Type 0} (t k : ℕ) → t ≡ k → binds k ≡ false → binds t ≡ true → A
 unbound t k e n u = true-false u (ap binds e ∙ n)
 
 head-holds : {p : Program} {b : ℕ} (l : Location p b) → binds (tag p b) ≡ true → Location p (rest p b)

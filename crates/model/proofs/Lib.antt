@@ -29,7 +29,10 @@ pub mod Runs
 pub mod Demands
 pub mod Refusals
 pub mod Longer
+pub mod Mailed
 pub mod Controls
 pub mod Transitions
 pub mod Equality
 pub mod HeldScopes
+pub mod NoEmptyName
+pub mod NameCases

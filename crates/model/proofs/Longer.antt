@@ -92,7 +92,7 @@ module _ (few many : Limits) (wider : Wider few many) where
   check-raised bytes lent =
       then-raised _ (parts-raised bytes)
       (then-raised _ (same _)
-      (then-raised _ (then-raised _ (same _) (then-raised _ (same _) (then-raised _ (same _) (counter-raised _ _ _)))) (same _)))
+      (then-raised _ (then-raised _ (same _) (then-raised _ (same _) (then-raised _ (same _) (then-raised _ (same _) (counter-raised _ _ _))))) (same _)))
 
   -- two gates agree, or the one of fewer refuses by a limit
   verdict-raised : (bytes : List ℕ) (lent : ℕ) → By-limit (verdict-within few bytes lent) ⊎ (verdict-within many bytes lent ≡ verdict-within few bytes lent)
@@ -139,6 +139,7 @@ module _ (few many : Limits) (wider : Wider few many) where
         program = f .program;
         form = f .form;
         closed = f .closed;
+        mailed = f .mailed;
         counters = leb-iff _ _ .0 c;
       }))
       (λ c. inr (inr (inr (past _ _ c)))))

@@ -12,7 +12,7 @@ use Rattle.model.specs.Matching.{match-rows, match, first-branch, receiv
 use Rattle.model.specs.Run.{_>>=_, moved, function-of, deliver, give-back, enter, spawned, act, step-of, starting, next, run-from, run}
 use Rattle.model.specs.Letters.{letter, letters, row-shape, row-letter, value-shape, value-letter, one-if, processes-at, letters-in, mailbox-count, messages-of}
 use Rattle.model.specs.Bads.{bad-rows, bad-step, bad-check, bad-row, counted, met-from, met}
-use Rattle.model.specs.Tables.{entries, tables, is-value, ascends, first-misplaced, list-check, entry-check, has, each, some-of, same-state, state-at, state-index, has-state}
+use Rattle.model.specs.Tables.{entries, tables, is-value, ascends, first-misplaced, list-check, entry-check, mailed-check, has, each, some-of, same-state, state-at, state-index, has-state}
 use Rattle.model.specs.Closed.{subpattern, argument, same-constructor, may-match, names-hold, may-take, branches-closed, may-call, passes, call-closed, returns-to, return-closed, give-closed, send-closed, spawn-closed, state-closed, opening-closed, open-check, may-equal}
 use Rattle.model.specs.Counters.{letter-key, letter-keys, has-letter, letter-count, counter-count, letter-index, counter-of, counter-check}
 use Rattle.model.specs.Rules.{from-each, from-all, from-letters, letter-of-some, state-rules, rules}
@@ -22,8 +22,9 @@ use Rattle.model.specs.Ceilings.{ceiling-entries, ceiling-step, ceiling-
 use Rattle.model.specs.Verify.{message, program-check, evidence-check, ceilings-check, message-check, check, answer, verdict-within, if-safe, lent-after-within, part-handed-within}
 use Rattle.model.specs.Cases.{arrays, program-words, bad-words, table-words, ceiling-words, to-bytes, outcome, obtained-within, lend, refused, safe, a-program, a-bads, a-tables, a-ceilings, a-words, with-word, with-tables, with-ceilings, a-listing, proved-cases, two-receives, two-receives-bads, two-receives-with, two-receives-listing, two-callers, two-callers-evidence, two-callers-listing, nested, nested-with, nested-listing, two-classes, two-classes-with, two-classes-listing, no-argument, no-argument-evidence, no-argument-listing, endless, endless-evidence, endless-listing, brood, brood-evidence, brood-listing, selective, selective-evidence, selective-listing, own-cases}
 use Rattle.model.specs.LongerCases.{obtained-each, expected-each, limit-cases}
-use Rattle.model.specs.HeldCases.{process-words, reached, free-ceilings, held-message, quiet-listing, bare-message, patterns, sent-names, sent, sent-tables, deep, four-deep, deep-tables, global, function-inside, function-tables, one-class, one-class-tables, one-class-listing, other-arguments, other-arguments-tables, passed-over, passed-over-tables, passed-over-listing, address-sent, address-tables, address-unread, two-values, two-values-tables, valueless-argument, valueless-argument-tables, held-cases, held-runs}
+use Rattle.model.specs.HeldCases.{process-words, reached, free-ceilings, held-message, quiet-listing, bare-message, patterns, sent-names, sent, sent-tables, deep, four-deep, deep-tables, global, function-inside, function-tables, one-class, one-class-tables, one-class-listing, other-arguments, other-arguments-tables, passed-over, passed-over-tables, passed-over-listing, deep-receive, deep-receive-tables, function-sent, address-sent, address-tables, address-unread, two-values, two-values-tables, valueless-argument, valueless-argument-tables, held-cases, held-runs}
+use Rattle.model.specs.MailedCases.{mailing, mailing-tables, sends-m, mailing-message, mailing-listing, mailed-cases, mailed-runs}
 
 unfoldable pub model-opens : Unit {0}
-unfolding implies anyIn allIn firstIn countIn gatherIn any all first count gather last only words left right columns number place _>>_ unless bads-at tables-at ceilings-at end-at sizes sizes-check part-check program-part bads-part tables-part ceilings-part nothing-left parts-check row-of fits read after complete first-wrong program tag num kind is-head branch-items lead arity is-name is-branch-count expression-step pattern-step step declarations whole past-items row-check binds uses binds-name binder bound-again name-check rest next-head holds-in in-scope out-of-scope scope-check nums call-at branch-rows head-at branch-body is-function parameters body takes innermost start is-class lookup global-row value-of values-of bind-all join arguments-of match-rows match first-branch receive-from _>>=_ moved function-of process-of deliver give-back enter spawned act step-of starting next run-from run letter letters row-shape row-letter value-shape value-letter one-if processes-at letters-in mailbox-count messages-of bad-rows bad-step bad-check bad-row counted met-from met entries tables is-value ascends first-misplaced list-check entry-check has each some-of same-state state-at state-index has-state subpattern argument same-constructor may-match names-hold may-take branches-closed may-call passes call-closed returns-to return-closed give-closed send-closed spawn-closed state-closed opening-closed open-check letter-key letter-keys has-letter letter-count counter-count letter-index counter-of counter-check from-each from-all from-letters letter-of-some state-rules rules effect-lines rule-lines listing system-words written space-check listed-rows effect-at rules-from listed-rules taking adding readable usable effect-taken effect-added fire initial fire-all standing count-in ceiling-entries ceiling-step ceiling-check ceiling-entry limit-from ceilings-of allowed under under-some highest start-check bad-allowed met-check leads-out leak-check message program-check evidence-check ceilings-check message-check check answer verdict-within if-safe lent-after-within part-handed-within arrays program-words bad-words table-words ceiling-words to-bytes outcome obtained-within lend refused safe a-program a-bads a-tables a-ceilings a-words with-word with-tables with-ceilings a-listing proved-cases two-receives two-receives-bads two-receives-with two-receives-listing two-callers two-callers-evidence two-callers-listing nested nested-with nested-listing two-classes two-classes-with two-classes-listing no-argument no-argument-evidence no-argument-listing endless endless-evidence endless-listing brood brood-evidence brood-listing selective selective-evidence selective-listing own-cases obtained-each expected-each limit-cases equal equal-each equals-held passes-over may-equal process-words reached free-ceilings held-message quiet-listing bare-message patterns sent-names sent sent-tables deep four-deep deep-tables global function-inside function-tables one-class one-class-tables one-class-listing other-arguments other-arguments-tables passed-over passed-over-tables passed-over-listing address-sent address-tables address-unread two-values two-values-tables valueless-argument valueless-argument-tables held-cases held-runs
+unfolding implies anyIn allIn firstIn countIn gatherIn any all first count gather last only words left right columns number place _>>_ unless bads-at tables-at ceilings-at end-at sizes sizes-check part-check program-part bads-part tables-part ceilings-part nothing-left parts-check row-of fits read after complete first-wrong program tag num kind is-head branch-items lead arity is-name is-branch-count expression-step pattern-step step declarations whole past-items row-check binds uses binds-name binder bound-again name-check rest next-head holds-in in-scope out-of-scope scope-check nums call-at branch-rows head-at branch-body is-function parameters body takes innermost start is-class lookup global-row value-of values-of bind-all join arguments-of match-rows match first-branch receive-from _>>=_ moved function-of process-of deliver give-back enter spawned act step-of starting next run-from run letter letters row-shape row-letter value-shape value-letter one-if processes-at letters-in mailbox-count messages-of bad-rows bad-step bad-check bad-row counted met-from met entries tables is-value ascends first-misplaced list-check entry-check has each some-of same-state state-at state-index has-state subpattern argument same-constructor may-match names-hold may-take branches-closed may-call passes call-closed returns-to return-closed give-closed send-closed spawn-closed state-closed opening-closed open-check letter-key letter-keys has-letter letter-count counter-count letter-index counter-of counter-check from-each from-all from-letters letter-of-some state-rules rules effect-lines rule-lines listing system-words written space-check listed-rows effect-at rules-from listed-rules taking adding readable usable effect-taken effect-added fire initial fire-all standing count-in ceiling-entries ceiling-step ceiling-check ceiling-entry limit-from ceilings-of allowed under under-some highest start-check bad-allowed met-check leads-out leak-check message program-check evidence-check ceilings-check message-check check answer verdict-within if-safe lent-after-within part-handed-within arrays program-words bad-words table-words ceiling-words to-bytes outcome obtained-within lend refused safe a-program a-bads a-tables a-ceilings a-words with-word with-tables with-ceilings a-listing proved-cases two-receives two-receives-bads two-receives-with two-receives-listing two-callers two-callers-evidence two-callers-listing nested nested-with nested-listing two-classes two-classes-with two-classes-listing no-argument no-argument-evidence no-argument-listing endless endless-evidence endless-listing brood brood-evidence brood-listing selective selective-evidence selective-listing own-cases obtained-each expected-each limit-cases equal equal-each equals-held passes-over may-equal process-words reached free-ceilings held-message quiet-listing bare-message patterns sent-names sent sent-tables deep four-deep deep-tables global function-inside function-tables one-class one-class-tables one-class-listing other-arguments other-arguments-tables passed-over passed-over-tables passed-over-listing deep-receive deep-receive-tables function-sent address-sent address-tables address-unread two-values two-values-tables valueless-argument valueless-argument-tables held-cases held-runs mailed-check mailing mailing-tables sends-m mailing-message mailing-listing mailed-cases mailed-runs
 model-opens = tt

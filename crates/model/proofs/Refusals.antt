@@ -1,17 +1,17 @@
 -- The table of refusals is exact (`Refused` of specs/Refusals.antt): each check refuses what its line says and nothing else; where it refuses nothing,
 -- what holds is more, and where a line holds, no check before it refuses.
-use Prim.Native.Nat.{ℕ, _+_, _-_, _≤_, _<_}
+use Prim.Native.Nat.{ℕ, _+_, _≤_, _<_}
 use native.Mathlib.Omega.{arith}
 use mathlib.Core.Path.{_≡_, refl, sym, ap, subst, _∙_}
-use mathlib.Core.Bool.{Bool, true}
+use mathlib.Core.Bool.{Bool, true, false}
 use mathlib.Core.Logic.{_↔_, Iff·trans, Iff·and, Iff·rfl, _⊎_, inl, inr, ⊎-elim}
 use mathlib.Core.List.{List, [], _∷_}
 use mathlib.Core.Option.{some, none, Option·map, map-eq-some-iff, Option·some-injective, Option·none-ne-some}
-use lib.ListN.{length, drop, replicate}
-use lib.Dec.{leb}
+use lib.ListN.{length, replicate}
+use lib.Dec.{leb, eqb}
 use Rattle.model.specs.declared.Sizes.{Sizes}
 use Rattle.model.specs.declared.Verdict.{Verdict}
-use Rattle.model.specs.declared.Verdict.the-variants.{Safe, Row, Name, Scope, Bad, Entry, Open, Counters, Ceiling, Start, Met, Space}
+use Rattle.model.specs.declared.Verdict.the-variants.{Safe, Row, Name, Scope, Bad, Entry, Open, Counters, Ceiling, Start, Met, Space, FunctionMailed}
 use Rattle.model.specs.Limits.{Limits}
 use Rattle.model.specs.Words.{Columns, left, right}
 use Rattle.model.specs.Verdict.{Check, _>>_}
@@ -21,7 +21,7 @@ use Rattle.model.specs.Rows.{Program, size, tag, is-head, is-name, step,
 use Rattle.model.specs.Scopes.{bound-again, name-check, out-of-scope, scope-check}
 use Rattle.model.specs.Heads.{is-class}
 use Rattle.model.specs.Bads.{bad, bad-step, bad-row, bad-check}
-use Rattle.model.specs.Tables.{Tables, is-value, first-misplaced, list-check, entry-check}
+use Rattle.model.specs.Tables.{Tables, is-value, first-misplaced, list-check, entry-check, mailed-check}
 use Rattle.model.specs.Closed.{opening-closed, open-check}
 use Rattle.model.specs.Counters.{counter-count, counter-check}
 use Rattle.model.specs.Rules.{rules}
@@ -33,8 +33,8 @@ use Rattle.model.specs.Wanted.{Present, Wanted-first}
 use Rattle.model.specs.Wanted.{Entry as Table-entry}
 use Rattle.model.specs.Demands.{Bytes, Listed, Under-one}
 use Rattle.model.specs.Refusals.{First-such, Behind, Behind, Message-part, parts, Whole, Wrong, Bound-again, Bound, Reads-outside, Placed, Lacks, Allowed, Passed, Refused, Refused-exactly, Said, Verdict-exactly, of-sound, of-refused}
-use Rattle.model.specs.Refusals.{parts-passed, rows-passed, names-passed, scopes-passed, bads-passed, entries-passed, closed-passed, counters-passed, ceilings-passed, start-passed, bad-passed, kept-passed}
-use Rattle.model.specs.Refusals.{sizes-short, arrays-short, bytes-remain, size-outside, row-wrong, name-again, name-unbound, scope-left, bad-wrong, flow-misplaced, mail-misplaced, state-misplaced, opening-missing, state-open, counters-over, ceiling-wrong, start-outside, bad-met, ceiling-left, no-space}
+use Rattle.model.specs.Refusals.{parts-passed, rows-passed, names-passed, scopes-passed, bads-passed, entries-passed, closed-passed, mailed-passed, counters-passed, ceilings-passed, start-passed, bad-passed, kept-passed}
+use Rattle.model.specs.Refusals.{sizes-short, arrays-short, bytes-remain, size-outside, row-wrong, name-again, name-unbound, scope-left, bad-wrong, flow-misplaced, mail-misplaced, state-misplaced, opening-missing, state-open, function-mailed, counters-over, ceiling-wrong, start-outside, bad-met, ceiling-left, no-space}
 use Rattle.model.proofs.Logic.{test}
 use Rattle.model.proofs.Reader.{by-option}
 use Rattle.model.proofs.Exact.Tests.{leb-iff, fails-iff, passes-iff, all-refuted}
@@ -44,7 +44,7 @@ use Rattle.model.proofs.Exact.Parts.{Part-wrong, parts-none, parts-some
 use Rattle.model.proofs.Exact.Reading.{first-wrong-some}
 use Rattle.model.proofs.Exact.Rows.{row-none, reads-name}
 use Rattle.model.proofs.Exact.Names.{None-again, again-iff, again-none, once-iff, binder-iff, name-none, outside-iff}
-use Rattle.model.proofs.Exact.Entries.{placed-iff, list-none, entry-none, bad-none, ceiling-none}
+use Rattle.model.proofs.Exact.Entries.{placed-iff, list-none, entry-none, mailed-none, mailed-some, bad-none, ceiling-none}
 use Rattle.model.proofs.Exact.Closed.{finds-first, lacks-iff, function-below, open-none}
 use Rattle.model.proofs.Exact.Finds.{Finds, found-iff, missing-iff}
 use Rattle.model.proofs.Bounded.Under.{under-some-exact}
@@ -168,10 +168,10 @@ module _ (most : Limits) (bytes : List ℕ) (short : Bytes bytes) (lent : ℕ) w
   start-some v = unless-refutes _ _ v (under-some-exact bs (initial p t))
 
   keys : Passed most bytes 12 → Keys p t
-  keys (start-passed (ceilings-passed (counters-passed (closed-passed (entries-passed (bads-passed (scopes-passed (names-passed (rows-passed x fit) again bound) within) bads) flow mail states) closed) few) form) under) = message-keys bytes fit mail
+  keys (start-passed (ceilings-passed (counters-passed (mailed-passed (closed-passed (entries-passed (bads-passed (scopes-passed (names-passed (rows-passed x fit) again bound) within) bads) flow mail states) closed) mailed) few) form) under) = message-keys bytes fit mail
 
   bads-known : Passed most bytes 12 → first-wrong (bad-step p) (m .bads) (replicate (s .bads) bad) ≡ none
-  bads-known (start-passed (ceilings-passed (counters-passed (closed-passed (entries-passed (bads-passed x bads) flow mail states) closed) few) form) under) = bads
+  bads-known (start-passed (ceilings-passed (counters-passed (mailed-passed (closed-passed (entries-passed (bads-passed x bads) flow mail states) closed) mailed) few) form) under) = bads
 
   met-none : Passed most bytes 12 → (met-check s p t bs (m .bads) ≡ none) ↔ ((j : ℕ) → j < s .bads → Allowed m j → ⊥)
   met-none x = met-exact bytes short (keys x) (bads-known x)
@@ -261,7 +261,7 @@ module _ (most : Limits) (bytes : List ℕ) (short : Bytes bytes) (lent : ℕ) w
         passes = λ x h. let (flow, (mail, states)) = entry-none s p t .0 h in entries-passed x flow mail states;
       }
 
-  open-stage : Stage (open-check s p t) (Passed most bytes 8) (Passed most bytes 9)
+  open-stage : Stage (open-check s p t) (Passed most bytes 8) (Passed most bytes 22)
   unfolding message
   open-stage =
       record {
@@ -269,6 +269,13 @@ module _ (most : Limits) (bytes : List ℕ) (short : Bytes bytes) (lent : ℕ) w
             (λ y. let (o, (i, f, q)) = y in told (state-open i x o f) q)
             (open-some v .0 h);
         passes = λ x h. closed-passed x (open-none (m .words) s t .0 h);
+      }
+
+  mailed-stage : Stage (mailed-check s p t) (Passed most bytes 22) (Passed most bytes 9)
+  mailed-stage =
+      record {
+        refuses = λ x v h. let (i, f, q) = mailed-some s p t v .0 h in told (function-mailed i x f) q;
+        passes = λ x h. mailed-passed x (mailed-none s p t .0 h);
       }
 
   counter-stage : Stage (counter-check most s p t) (Passed most bytes 9) (Passed most bytes 10)
@@ -314,15 +321,21 @@ module _ (most : Limits) (bytes : List ℕ) (short : Bytes bytes) (lent : ℕ) w
         passes = λ x h. tt;
       }
 
-  -- "Checked in that order"
-  abbrev checks : List Check
+  -- "Checked in that order", each beside its number
+  abbrev checks : List (ℕ × Check)
   checks =
-      row-check p ∷ name-check p ∷ scope-check p ∷ bad-check (m .words) s p ∷ entry-check s p t ∷ open-check s p t ∷ counter-check most s p t ∷
-      ceiling-check (m .words) s (counter-count p t) ∷ start-check s p t bs ∷ met-check s p t bs (m .bads) ∷ leak-check (m .words) s bs (rules p t) ∷ []
+      (3, row-check p) ∷ (4, name-check p) ∷ (5, scope-check p) ∷ (6, bad-check (m .words) s p) ∷ (7, entry-check s p t) ∷ (8, open-check s p t) ∷
+      (22, mailed-check s p t) ∷ (9, counter-check most s p t) ∷ (10, ceiling-check (m .words) s (counter-count p t)) ∷ (11, start-check s p t bs) ∷
+      (12, met-check s p t bs (m .bads)) ∷ (13, leak-check (m .words) s bs (rules p t)) ∷ []
 
-  abbrev from : List Check → Check
+  abbrev from : List (ℕ × Check) → Check
   from [] = space-check p t lent
-  from (c ∷ cs) = c >> from cs
+  from (c ∷ cs) = c .1 >> from cs
+
+  -- the check with this number and those behind it; of 14, the last, none
+  abbrev starting-with : ℕ → List (ℕ × Check) → List (ℕ × Check)
+  starting-with k [] = []
+  starting-with k (c ∷ cs) = elim (eqb (c .0) k) [ true ↦ c ∷ cs | false ↦ starting-with k cs ]
 
   in-order : check most bytes lent ≡ (parts-check most bytes >> from checks)
   unfolding check message-check program-check evidence-check ceilings-check
@@ -330,12 +343,12 @@ module _ (most : Limits) (bytes : List ℕ) (short : Bytes bytes) (lent : ℕ) w
 
   refuses-as-said : (v : Verdict) → check most bytes lent ≡ some v → Refused most bytes lent v
   refuses-as-said v h =
-      (parts-stage then row-stage then name-stage then scope-stage then bad-stage then entry-stage then open-stage then counter-stage then
+      (parts-stage then row-stage then name-stage then scope-stage then bad-stage then entry-stage then open-stage then mailed-stage then counter-stage then
       ceiling-stage then start-stage then met-stage then leak-stage then space-stage)
       .refuses tt v (sym in-order ∙ h)
 
   -- Where checks have passed, the answer is that of the others.
-  others : {k : ℕ} → Passed most bytes k → check most bytes lent ≡ from (drop (k - 3) checks)
+  others : {k : ℕ} → Passed most bytes k → check most bytes lent ≡ from (starting-with k checks)
   unfolding message ceilings-of
   others (parts-passed a b) = in-order ∙ skip _ (parts-none most bytes .1 (a, b))
   others (rows-passed x fit) = others x ∙ skip _ (row-none p .1 fit)
@@ -344,6 +357,7 @@ module _ (most : Limits) (bytes : List ℕ) (short : Bytes bytes) (lent : ℕ) w
   others (bads-passed x fit) = others x ∙ skip _ (bad-none (m .words) s p .1 fit)
   others (entries-passed x flow mail states) = others x ∙ skip _ (entry-none s p t .1 (flow, (mail, states)))
   others (closed-passed x closed) = others x ∙ skip _ (open-none (m .words) s t .1 closed)
+  others (mailed-passed x mailed) = others x ∙ skip _ (mailed-none s p t .1 mailed)
   others (counters-passed x few) = others x ∙ skip _ (counter-none .1 few)
   others (ceilings-passed x fit) = others x ∙ skip _ (ceiling-none (m .words) s (bs .counters) .1 fit)
   others (start-passed x under) = others x ∙ skip _ (start-check-exact s p t bs .1 under)
@@ -374,6 +388,7 @@ module _ (most : Limits) (bytes : List ℕ) (short : Bytes bytes) (lent : ℕ) w
   said-refuses v (state-misplaced i x flow mail f) = others x ∙ stop _ (entry-some v .1 (inr (flow, inr (mail, (i, f, refl)))))
   said-refuses v (opening-missing e x w n) = others x ∙ stop _ (open-some v .1 (inl ((e, w, n), refl)))
   said-refuses v (state-open i x o f) = others x ∙ stop _ (open-some v .1 (inr (o, (i, f, refl))))
+  said-refuses v (function-mailed i x f) = others x ∙ stop _ (mailed-some s p t v .1 (i, f, refl))
   said-refuses v (counters-over x l) = others x ∙ stop _ (counter-some v .1 (λ z. omega arith, refl))
   said-refuses v (ceiling-wrong e x w) = others x ∙ stop _ (ceiling-some v .1 (e, w, refl))
   said-refuses v (start-outside x n) = others x ∙ stop _ (start-some v .1 (n, refl))

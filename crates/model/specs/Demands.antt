@@ -11,6 +11,7 @@ use Rattle.model.specs.declared.Sizes.{Sizes}
 use Rattle.model.specs.declared.Verdict.the-variants.{Safe}
 use Rattle.model.specs.Limits.{Limits, maxNames, maxConstructors, maxFunctions, maxBads, minBadRows, maxBadRows}
 use Rattle.model.specs.Limits.{maxFlows, maxMails, maxCeilings, maxCeilingEntries, omega-limit}
+use Rattle.model.specs.Tags.{tag-function, tag-global}
 use Rattle.model.specs.Words.{Columns, left, right}
 use Rattle.model.specs.Message.{end-at}
 use Rattle.model.specs.Reader.{first-wrong}
@@ -21,7 +22,7 @@ use Rattle.model.specs.Values.{Processes}
 use Rattle.model.specs.Run.{step-of, run}
 use Rattle.model.specs.Letters.{processes-at, messages-of}
 use Rattle.model.specs.Bads.{bad-step, bad, state-of, letter-of}
-use Rattle.model.specs.Tables.{is-value}
+use Rattle.model.specs.Tables.{Tables, is-value}
 use Rattle.model.specs.Wanted.{Closed}
 use Rattle.model.specs.Met.{All-met}
 use Rattle.model.specs.Counters.{counter-count}
@@ -115,6 +116,14 @@ pub record Inductive (m : Message) : Type 0 where
   pub meet-no-bad :
       (counts : Marking) (j : ℕ) → Under-one (m .ceilings) counts → j < m .sizes .bads → Met m counts j → ⊥
 
+-- Document 02, (x): the value of mail entry i "has tag 3 or 11"
+abbrev pub Mails-function : Program → Tables → ℕ → Type 0
+Mails-function p t i = (tag p (right (t .mail) i) ≡ tag-function) ⊎ (tag p (right (t .mail) i) ≡ tag-global)
+
+-- messages that have one "are never found safe, which demand 2 now asks too"
+abbrev pub Mails-no-function : Program → Tables → Type 0
+Mails-no-function p t = (i : ℕ) → i < t .mail .size → Mails-function p t i → ⊥
+
 -- everything that a safe message has
 pub record Sound (most : Limits) (bytes : List ℕ) (lent : ℕ) : Type 0 where
   pub whole : length bytes ≡ 2 * end-at (message bytes .sizes)
@@ -122,6 +131,7 @@ pub record Sound (most : Limits) (bytes : List ℕ) (lent : ℕ) : Type 0 where
   pub program : Well-formed (message bytes .program)
   pub form : In-form (message bytes)
   pub closed : Closed (message bytes .program) (message bytes .tables)
+  pub mailed : Mails-no-function (message bytes .program) (message bytes .tables)
   pub counters : counter-count (message bytes .program) (message bytes .tables) ≤ most .counters
   pub bounded : Inductive (message bytes)
   pub space : length (system-words (message bytes .program) (message bytes .tables)) ≤ lent

@@ -15,7 +15,7 @@ use Rattle.model.specs.Cases.{refused, safe, a-listing}
 
 -- A run, and its processes then: of each its class, its place, and the letters in its mailbox with their count
 -- before them
-pub record Held-run : Type 0 where
+pub record Arrival : Type 0 where
   pub program : List ℕ
   pub numbers : List ℕ
   pub expected : List ℕ
@@ -23,12 +23,12 @@ pub record Held-run : Type 0 where
 unfoldable pub process-words : Program → Process → List ℕ
 process-words p q = q .class ∷ q .location ∷ length (q .mailbox) ∷ map (value-letter p) (q .mailbox)
 
-unfoldable pub reached : Held-run → List ℕ
+unfoldable pub reached : Arrival → List ℕ
 reached k =
     let p : Program = program (k .program) (sizes (k .program)) in from-all (run p (k .numbers)) (process-words p)
 
 -- process 0 makes so many steps, and these are the processes then
-abbrev steps : List ℕ → ℕ → List ℕ → Held-run
+abbrev pub steps : List ℕ → ℕ → List ℕ → Arrival
 steps program n expected = record { program = program; numbers = replicate n 0; expected = expected }
 
 -- A bad on a letter that has no counter, and one ceiling without limits: the verdict hangs on the tables alone.
@@ -242,6 +242,33 @@ unfoldable pub valueless-argument-tables : Pairs → List ℕ
 valueless-argument-tables xs =
     table-words (((0, 1) ∷ []) ++ xs ++ ((4, 9) ∷ [])) [] ((16, 8) ∷ (16, 9) ∷ (16, 12) ∷ (16, 15) ∷ [])
 
+-- x = self; a = c0(x); b = c0(a); d = c0(b); send x d; receive { c0(c0(c0(P))) -> x }, where P is given: four levels
+-- deep in a receive. Row 18, then x is given back in row 19.
+unfoldable pub deep-receive : ℕ × ℕ → List ℕ
+deep-receive a =
+    program-words 5 1 0
+    ((10, 1) ∷ (7, 0) ∷
+    (2, 1) ∷ (20, 0) ∷ (21, 0) ∷
+    (2, 2) ∷ (20, 0) ∷ (21, 1) ∷
+    (2, 3) ∷ (20, 0) ∷ (21, 2) ∷
+    (5, 4) ∷ (21, 0) ∷ (21, 3) ∷
+    (9, 1) ∷ (31, 0) ∷ (31, 0) ∷ (31, 0) ∷ a ∷ (1, 0) ∷ [])
+
+unfoldable pub deep-receive-tables : List ℕ
+deep-receive-tables =
+    table-words ((0, 20) ∷ (1, 2) ∷ (2, 5) ∷ (3, 8) ∷ (4, 8) ∷ []) ((20, 8) ∷ [])
+    ((20, 1) ∷ (20, 2) ∷ (20, 5) ∷ (20, 8) ∷ (20, 11) ∷ (20, 14) ∷ (20, 19) ∷ [])
+
+-- x = self; f = fun () -> x; s = send x f; receive { =f -> x }: a function in the mailbox (which 22 refuses), rows 8
+-- to 10
+unfoldable pub function-sent : List ℕ
+function-sent =
+    program-words 3 0 0
+    ((7, 0) ∷
+    (3, 1) ∷ (22, 0) ∷ (1, 0) ∷
+    (5, 2) ∷ (21, 0) ∷ (21, 1) ∷
+    (9, 1) ∷ (33, 1) ∷ (1, 0) ∷ [])
+
 unfoldable pub held-cases : List Case
 held-cases =
     -- R 20, so 6 is at word 46. Names in scope at the receive: x at both; y, of the branch, at the second
@@ -267,6 +294,15 @@ held-cases =
     safe 3 (four-deep (33, 1)) (held-message (four-deep (33, 1)) 18 0 deep-tables 6)
     (quiet-listing 6 ((0, 1) ∷ (1, 2) ∷ (2, 3) ∷ (3, 4) ∷ [])) ∷
     refused 9 (bare-message (deep ((31, 0) ∷ (31, 0) ∷ (31, 0) ∷ (31, 0) ∷ (33, 0) ∷ []))) 3 21 ∷
+    -- four levels deep in a receive: letter counter 7 is read where x may be x, and not where x may not be a c0
+    safe 3 (deep-receive (33, 0)) (held-message (deep-receive (33, 0)) 20 1 deep-receive-tables 8)
+    (7 ∷ 1 ∷ 6 ∷ 14 ∷
+    50 ∷ 51 ∷ 50 ∷ 51 ∷ 50 ∷ 51 ∷ 50 ∷ 51 ∷ 50 ∷ 51 ∷ 53 ∷ 50 ∷ 51 ∷ 52 ∷
+    0 ∷ 1 ∷ 1 ∷ 2 ∷ 2 ∷ 3 ∷ 3 ∷ 4 ∷ 4 ∷ 5 ∷ 7 ∷ 5 ∷ 6 ∷ 7 ∷ []) ∷
+    safe 3 (deep-receive (33, 1)) (held-message (deep-receive (33, 1)) 20 1 deep-receive-tables 8)
+    (7 ∷ 1 ∷ 5 ∷ 11 ∷
+    50 ∷ 51 ∷ 50 ∷ 51 ∷ 50 ∷ 51 ∷ 50 ∷ 51 ∷ 50 ∷ 51 ∷ 53 ∷
+    0 ∷ 1 ∷ 1 ∷ 2 ∷ 2 ∷ 3 ∷ 3 ∷ 4 ∷ 4 ∷ 5 ∷ 7 ∷ []) ∷
     -- a tag 11 name: row 0 is a function, and may match nothing; so the first branch is not wanted
     safe 3 global (held-message global 10 0 (table-words ((0, 0) ∷ []) [] ((10, 4) ∷ (10, 9) ∷ [])) 2)
     (quiet-listing 2 ((0, 1) ∷ [])) ∷
@@ -302,7 +338,7 @@ held-cases =
     (quiet-listing 4 ((0, 1) ∷ (1, 2) ∷ [])) ∷
     []
 
-unfoldable pub held-runs : List Held-run
+unfoldable pub held-runs : List Arrival
 held-runs =
     -- the own address is the one held
     steps (sent (33, 0)) 4 (12 ∷ 11 ∷ 0 ∷ []) ∷
@@ -310,7 +346,10 @@ held-runs =
     steps (sent (33, 1)) 4 (12 ∷ 8 ∷ 1 ∷ 0 ∷ []) ∷
     steps (four-deep (33, 0)) 5 (18 ∷ 17 ∷ 0 ∷ []) ∷
     steps (four-deep (33, 1)) 5 (18 ∷ 11 ∷ 0 ∷ []) ∷
-    -- a function is not equal to itself, nor is what holds one
+    steps (deep-receive (33, 0)) 6 (20 ∷ 19 ∷ 0 ∷ []) ∷
+    steps (deep-receive (33, 1)) 6 (20 ∷ 14 ∷ 1 ∷ 0 ∷ []) ∷
+    -- a function is not equal to itself, nor is what holds one; one in the mailbox, of letter C, stays there
+    steps function-sent 4 (10 ∷ 7 ∷ 1 ∷ 0 ∷ []) ∷
     steps global 1 (10 ∷ 9 ∷ 0 ∷ []) ∷
     steps function-inside 3 (14 ∷ 13 ∷ 0 ∷ []) ∷
     -- two processes of one class are two; one is itself

@@ -34,5 +34,9 @@ pub mod Demands
 pub mod Refusals
 pub mod Longer
 pub mod LongerCases
+pub mod Mailed
 pub mod Equality
 pub mod HeldCases
+pub mod MailedCases
+pub mod NoEmptyName
+pub mod NameCases

@@ -10,10 +10,10 @@ pub record Limit-case : Type 0 where
   pub most : Limits
   pub case : Case
 
-abbrev within : Limits → Case → Limit-case
+abbrev pub within : Limits → Case → Limit-case
 within most k = record { most = most; case = k }
 
-abbrev limits : ℕ → ℕ → ℕ → Limits
+abbrev pub limits : ℕ → ℕ → ℕ → Limits
 limits rows states counters = record { rows = rows; states = states; counters = counters }
 
 unfoldable pub obtained-each : List Limit-case → List (List ℕ)

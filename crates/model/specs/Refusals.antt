@@ -1,4 +1,5 @@
--- Document 01, "The gate's refusals", said outright: each line of the table is a way to be refused at a place.
+-- Document 01, "The gate's refusals", and those of document 02, said outright: each line of the table is a way to be
+-- refused at a place.
 -- (Verify.antt says the same as checks.)
 use Prim.Native.Nat.{ℕ, _+_, _-_, _*_, _≤_, _<_}
 use mathlib.Core.Path.{_≡_}
@@ -10,7 +11,7 @@ use lib.ListN.{length, replicate}
 use Rattle.model.specs.declared.Sizes.{Sizes}
 use Rattle.model.specs.declared.Verdict.{Verdict}
 use Rattle.model.specs.declared.Verdict.the-variants.{Safe, Length, Size, Row, Name, Scope, Bad, Entry, Open}
-use Rattle.model.specs.declared.Verdict.the-variants.{Counters, Ceiling, Start, Met, Leak, Space}
+use Rattle.model.specs.declared.Verdict.the-variants.{Counters, Ceiling, Start, Met, Leak, Space, FunctionMailed}
 use Rattle.model.specs.Limits.{Limits}
 use Rattle.model.specs.Words.{Columns, left, right}
 use Rattle.model.specs.Message.{bads-at, tables-at, ceilings-at, end-at, Limited, program-sizes, bads-sizes}
@@ -30,6 +31,7 @@ use Rattle.model.specs.Verify.{Message, message, verdict-within}
 use Rattle.model.specs.Wanted.{Present, Wanted-first, Wanted-by, Closed}
 use Rattle.model.specs.Wanted.{Entry as Table-entry}
 use Rattle.model.specs.Demands.{Bytes, Between, Within-limits, Pair-below, Listed, Under, Under-one, Sound}
+use Rattle.model.specs.Demands.{Mails-function, Mails-no-function}
 use Rattle.model.specs.Demands.{Met as Meets}
 
 -- the first of n that is so
@@ -166,7 +168,8 @@ module _ (most : Limits) (bytes : List ℕ) where
     bads-passed : Passed 6 → first-wrong (bad-step p) (m .bads) (replicate (s .bads) bad) ≡ none → Passed 7
     entries-passed :
         Passed 7 → Flow-listed → Mail-listed → Listed (is-class p) (λ r. is-head (tag p r)) (t .states) → Passed 8
-    closed-passed : Passed 8 → Closed p t → Passed 9
+    closed-passed : Passed 8 → Closed p t → Passed 22
+    mailed-passed : Passed 22 → Mails-no-function p t → Passed 9
     counters-passed : Passed 9 → counter-count p t ≤ most .counters → Passed 10
     ceilings-passed :
         Passed 10 →
@@ -220,6 +223,11 @@ module _ (most : Limits) (bytes : List ℕ) where
         (i : ℕ) → Passed 8 → ((e : Table-entry) → Wanted-first p e → Present t e) →
         First-such (t .states .size) (λ j. Lacks p t (left (t .states) j) (right (t .states) j)) i →
         Refused lent (Open (tables-at s + 3 + s .flows + s .mails + i))
+    -- 22 function mailed, "between 8 and 9": "exactly when a mail value has tag 3 or 11, placed at the first such
+    -- entry's first column"
+    function-mailed :
+        (i : ℕ) → Passed 22 → First-such (t .mail .size) (Mails-function p t) i →
+        Refused lent (FunctionMailed (tables-at s + 3 + s .flows + i))
     -- 9 counters: "over 512: size S", by the limits in force
     counters-over : Passed 9 → most .counters < counter-count p t → Refused lent (Counters (tables-at s + 2))
     -- 10 ceiling: "form, or not K ceilings: first such entry's counter number, an entry after K ceilings included;

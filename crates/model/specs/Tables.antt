@@ -1,10 +1,11 @@
--- Document 01, "Closed tables": the flow, mail and state lists; refusal 7 (entry).
+-- Document 01, "Closed tables": the flow, mail and state lists; refusal 7 (entry). Document 02, (x): refusal 22
+-- (function mailed).
 use Prim.Native.Nat.{ℕ, _+_, _-_}
 use mathlib.Core.Bool.{Bool, not, _&&_, _||_}
 use mathlib.Core.List.{List}
 use lib.Dec.{ltb, eqb}
 use Rattle.model.specs.declared.Sizes.{Sizes}
-use Rattle.model.specs.declared.Verdict.the-variants.{Entry}
+use Rattle.model.specs.declared.Verdict.the-variants.{Entry, FunctionMailed}
 use Rattle.model.specs.Tags.{tag-build}
 use Rattle.model.specs.Index.{implies, any, all, first}
 use Rattle.model.specs.Words.{Columns, left, right, columns}
@@ -58,6 +59,12 @@ entry-check s p t =
     list-check at (is-name p) (is-value p) (t .flow) >>
     (list-check (at + s .flows) (is-class p) (is-value p) (t .mail) >>
     list-check (at + s .flows + s .mails) (is-class p) (λ r. is-head (tag p r)) (t .states))
+
+-- 22: "exactly when a mail value has tag 3 or 11, placed at the first such entry's first column"
+unfoldable pub mailed-check : Sizes → Program → Tables → Check
+mailed-check s p t =
+    let i : ℕ = first 0 (t .mail .size) (λ k. is-function p (right (t .mail) k)) in
+    unless (eqb i (t .mail .size)) (FunctionMailed (tables-at s + 3 + s .flows + i))
 
 -- the list has the pair
 unfoldable pub has : Columns → ℕ → ℕ → Bool

@@ -115,50 +115,53 @@ read-at (cases n branches) = n ∷ []
 read-at (receives branches) = []
 read-at no-head = []
 
--- The number i changes nothing. More than one reason may hold.
-pub data No-step (p : Program) (qs : Processes) (i : ℕ) : Type 0 where
+-- The number i changes nothing, for a reason that document 01 gives. More than one may hold.
+pub data Stays (p : Program) (qs : Processes) (i : ℕ) : Type 0 where
   -- "A number without a process yet"
-  no-process : length qs ≤ i → No-step p qs i
+  no-process : length qs ≤ i → Stays p qs i
   -- "Giving back with nothing pushed ends the process: no step"
-  ended : {q : Process} {n : ℕ} → Acting p qs i q (gives n) → q .frames ≡ [] → No-step p qs i
+  ended : {q : Process} {n : ℕ} → Acting p qs i q (gives n) → q .frames ≡ [] → Stays p qs i
   -- "A target that is no process"
   no-target : {q : Process} {n t m r : ℕ} {v : Value} →
       Acting p qs i q (sends n t m r) →
       Holds p (q .held) t v →
       ((j : ℕ) → j < length qs → v ≡ address j → ⊥) →
-      No-step p qs i
+      Stays p qs i
   -- "a value that can't be called with that count"
   not-callable : {q : Process} {call : Call} {v : Value} →
       Acting p qs i q (calls call) →
       Holds p (q .held) (call .callee) v →
       (Callable p (call .count) v → ⊥) →
-      No-step p qs i
+      Stays p qs i
   -- "a spawn of anything but a function without parameters"
   not-spawnable : {q : Process} {n g r : ℕ} {v : Value} →
       Acting p qs i q (spawns n g r) →
       Holds p (q .held) g v →
       (Callable p 0 v → ⊥) →
-      No-step p qs i
+      Stays p qs i
   -- "a case without a match"
   no-match : {q : Process} {n : ℕ} {branches : List ℕ} {v : Value} →
       Acting p qs i q (cases n branches) →
       Holds p (q .held) n v →
       ((b : ℕ) → List·Memᴰ b branches → Refuses p (q .held) b v) →
-      No-step p qs i
+      Stays p qs i
   -- "waits at a receive that matches nothing"
   waits : {q : Process} {branches : List ℕ} →
       Acting p qs i q (receives branches) →
       ((m : Value) → List·Memᴰ m (q .mailbox) → (b : ℕ) → List·Memᴰ b branches → Refuses p (q .held) b m) →
-      No-step p qs i
-  -- A name that is read holds nothing. (Document 01 names no such reason. That a program which passes 1 to 5 never
-  -- reads such a name is request (xi)'s to show.)
+      Stays p qs i
+
+-- The number i changes nothing, in whatever program. (In one that passes 1 to 5 for a reason of document 01 alone: the
+-- other two are never met, specs/NoEmptyName.antt.)
+pub data No-step (p : Program) (qs : Processes) (i : ℕ) : Type 0 where
+  with-reason : Stays p qs i → No-step p qs i
+  -- a name that is read holds nothing
   holds-nothing : {q : Process} {h : Head} {n : ℕ} →
       Acting p qs i q h →
       List·Memᴰ n (read-at h) →
       ((v : Value) → Holds p (q .held) n v → ⊥) →
       No-step p qs i
-  -- The process stands at a row that is no head. (A program that passes 1 to 5 never gets there: its start, rests,
-  -- bodies and branches are heads.)
+  -- the process stands at a row that is no head
   nowhere : {q : Process} → Acting p qs i q no-head → No-step p qs i
 
 -- "For each number in turn that process steps, from what the number before left."

@@ -1,11 +1,11 @@
--- Document 01, "The gate's refusals": number and place of each answer; a check is a refusal or none, and the first
--- refusal counts.
+-- Document 01, "The gate's refusals", and those of document 02: number and place of each answer; a check is a
+-- refusal or none, and the first refusal counts.
 use Prim.Native.Nat.{ℕ}
 use mathlib.Core.Bool.{Bool, true, false}
 use mathlib.Core.Option.{Option, some, none}
 use Rattle.model.specs.declared.Verdict.{Verdict}
 use Rattle.model.specs.declared.Verdict.the-variants.{Safe, Length, Size, Row, Name, Scope, Bad, Entry, Open}
-use Rattle.model.specs.declared.Verdict.the-variants.{Counters, Ceiling, Start, Met, Leak, Space}
+use Rattle.model.specs.declared.Verdict.the-variants.{Counters, Ceiling, Start, Met, Leak, Space, FunctionMailed}
 
 -- the column "number"
 unfoldable pub number : Verdict → ℕ
@@ -24,6 +24,7 @@ number (Start at) = 11
 number (Met at) = 12
 number (Leak at) = 13
 number (Space at) = 14
+number (FunctionMailed at) = 22
 
 -- the column "place"; of safe, place 0
 unfoldable pub place : Verdict → ℕ
@@ -42,6 +43,7 @@ place (Start at) = at
 place (Met at) = at
 place (Leak at) = at
 place (Space at) = at
+place (FunctionMailed at) = at
 
 -- a refusal, or none
 abbrev pub Check : Type 0

@@ -296,103 +296,105 @@ scopes-listing =
     (50 ∷ 51 ∷ 50 ∷ 51 ∷ 50 ∷ 51 ∷ []) ++
     (0 ∷ 1 ∷ 1 ∷ 2 ∷ 1 ∷ 3 ∷ [])
 
--- Values of every kind but a built one: functions of tags 11 and 3 and the address of a spawned process.
---     constructors a/0.
+-- Values of every kind: boxes with functions of tags 11 and 3, and the address of a spawned process.
+--     constructors a/0, box/1.
 --     function f() -> f.
 --     start ->
 --         Me = self(),
 --         P = spawn(f),
 --         G = fun() -> a end,
---         Me ! f,
+--         Me ! box(f),
 --         Me ! P,
---         Me ! G.
+--         Me ! box(G).
 --     bad none: start holds a >= 1.
 unfoldable pub values-program : List ℕ
 values-program =
-    program-words 8 1 1
-    ((10, 0) ∷ (11, 0) ∷ (22, 0) ∷ (1, 0) ∷ (7, 1) ∷ (6, 2) ∷ (21, 0) ∷ (3, 3) ∷ (22, 0) ∷ (2, 4) ∷ (20, 0) ∷ (1, 4) ∷
-    (5, 5) ∷ (21, 1) ∷ (21, 0) ∷ (5, 6) ∷ (21, 1) ∷ (21, 2) ∷ (5, 7) ∷ (21, 1) ∷ (21, 3) ∷ (1, 7) ∷ [])
+    program-words 10 2 1
+    ((10, 0) ∷ (10, 1) ∷ (11, 0) ∷ (22, 0) ∷ (1, 0) ∷ (7, 1) ∷ (6, 2) ∷ (21, 0) ∷ (3, 3) ∷ (22, 0) ∷ (2, 4) ∷
+    (20, 0) ∷ (1, 4) ∷ (2, 5) ∷ (20, 1) ∷ (21, 0) ∷ (5, 6) ∷ (21, 1) ∷ (21, 5) ∷ (5, 7) ∷ (21, 1) ∷ (21, 2) ∷ (2, 8) ∷
+    (20, 1) ∷ (21, 3) ∷ (5, 9) ∷ (21, 1) ∷ (21, 8) ∷ (1, 9) ∷ [])
 
 unfoldable pub values-words : List ℕ
 values-words =
     values-program ++
     bad-words 1
-    ((40, 22) ∷ (42, 0) ∷ (43, 1) ∷ (44, 0) ∷ []) ++
+    ((40, 29) ∷ (42, 0) ∷ (43, 1) ∷ (44, 0) ∷ []) ++
     table-words
-    ((0, 1) ∷ (1, 22) ∷ (2, 5) ∷ (3, 7) ∷ (5, 1) ∷ (6, 5) ∷ (7, 7) ∷ [])
-    ((22, 1) ∷ (22, 5) ∷ (22, 7) ∷ [])
-    ((5, 3) ∷ (22, 4) ∷ (22, 5) ∷ (22, 7) ∷ (22, 12) ∷ (22, 15) ∷ (22, 18) ∷ (22, 21) ∷ []) ++
+    ((0, 2) ∷ (1, 29) ∷ (2, 6) ∷ (3, 8) ∷ (5, 13) ∷ (6, 13) ∷ (7, 6) ∷ (8, 22) ∷ (9, 22) ∷ [])
+    ((29, 6) ∷ (29, 13) ∷ (29, 22) ∷ [])
+    ((6, 4) ∷ (29, 5) ∷ (29, 6) ∷ (29, 8) ∷ (29, 13) ∷ (29, 16) ∷ (29, 19) ∷ (29, 22) ∷ (29, 25) ∷ (29, 28) ∷ []) ++
     ceiling-words 1
     ((0, 65535) ∷ (1, 65535) ∷ (2, 65535) ∷ (3, 65535) ∷ (4, 65535) ∷ (5, 65535) ∷ (6, 65535) ∷ (7, 65535) ∷
-    (8, 65535) ∷ (9, 65535) ∷ (10, 0) ∷ [])
+    (8, 65535) ∷ (9, 65535) ∷ (10, 65535) ∷ (11, 65535) ∷ (12, 0) ∷ [])
 
 unfoldable pub values-listing : List ℕ
 values-listing =
-    (8 ∷ 2 ∷ 6 ∷ 16 ∷ []) ++
-    (50 ∷ 51 ∷ 50 ∷ 51 ∷ 54 ∷ 50 ∷ 51 ∷ 50 ∷ 51 ∷ 53 ∷ 50 ∷ 51 ∷ 53 ∷ 50 ∷ 51 ∷ 53 ∷ []) ++
-    (1 ∷ 2 ∷ 2 ∷ 3 ∷ 0 ∷ 3 ∷ 4 ∷ 4 ∷ 5 ∷ 8 ∷ 5 ∷ 6 ∷ 9 ∷ 6 ∷ 7 ∷ 8 ∷ [])
+    (10 ∷ 2 ∷ 8 ∷ 20 ∷ []) ++
+    (50 ∷ 51 ∷ 50 ∷ 51 ∷ 54 ∷ 50 ∷ 51 ∷ 50 ∷ 51 ∷ 50 ∷ 51 ∷ 53 ∷ 50 ∷ 51 ∷ 53 ∷ 50 ∷ 51 ∷ 50 ∷ 51 ∷ 53 ∷ []) ++
+    (1 ∷ 2 ∷ 2 ∷ 3 ∷ 0 ∷ 3 ∷ 4 ∷ 4 ∷ 5 ∷ 5 ∷ 6 ∷ 10 ∷ 6 ∷ 7 ∷ 11 ∷ 7 ∷ 8 ∷ 8 ∷ 9 ∷ 10 ∷ [])
 
--- A function and an address as messages: letters C and C + 1.
---     constructors a/0, b/0.
+-- A function in a box and an address as messages: letters 2 and C + 1.
+--     constructors a/0, b/0, box/1.
 --     start ->
 --         Me = self(),
---         Me ! fun() -> Me end,
---         receive F -> Me ! Me end.
+--         Me ! box(fun() -> Me end),
+--         receive box(F) -> Me ! Me end.
 --     bad none: start holds a >= 1.
 unfoldable pub letters-program : List ℕ
 letters-program =
-    program-words 5 2 0
-    ((10, 0) ∷ (10, 0) ∷ (7, 0) ∷ (3, 1) ∷ (22, 0) ∷ (1, 0) ∷ (5, 2) ∷ (21, 0) ∷ (21, 1) ∷ (9, 1) ∷ (30, 3) ∷ (5, 4) ∷
-    (21, 0) ∷ (21, 0) ∷ (1, 4) ∷ [])
+    program-words 6 3 0
+    ((10, 0) ∷ (10, 0) ∷ (10, 1) ∷ (7, 0) ∷ (3, 1) ∷ (22, 0) ∷ (1, 0) ∷ (2, 2) ∷ (20, 2) ∷ (21, 1) ∷ (5, 3) ∷
+    (21, 0) ∷ (21, 2) ∷ (9, 1) ∷ (31, 2) ∷ (30, 4) ∷ (5, 5) ∷ (21, 0) ∷ (21, 0) ∷ (1, 5) ∷ [])
 
 unfoldable pub letters-words : List ℕ
 letters-words =
     letters-program ++
     bad-words 1
-    ((40, 15) ∷ (42, 0) ∷ (43, 1) ∷ (44, 0) ∷ []) ++
+    ((40, 20) ∷ (42, 0) ∷ (43, 1) ∷ (44, 0) ∷ []) ++
     table-words
-    ((0, 15) ∷ (1, 3) ∷ (2, 3) ∷ (3, 3) ∷ (3, 15) ∷ (4, 15) ∷ [])
-    ((15, 3) ∷ (15, 15) ∷ [])
-    ((15, 2) ∷ (15, 3) ∷ (15, 6) ∷ (15, 9) ∷ (15, 11) ∷ (15, 14) ∷ []) ++
+    ((0, 20) ∷ (1, 4) ∷ (2, 7) ∷ (3, 7) ∷ (4, 4) ∷ (5, 20) ∷ [])
+    ((20, 7) ∷ (20, 20) ∷ [])
+    ((20, 3) ∷ (20, 4) ∷ (20, 7) ∷ (20, 10) ∷ (20, 13) ∷ (20, 16) ∷ (20, 19) ∷ []) ++
     ceiling-words 1
-    ((0, 65535) ∷ (1, 65535) ∷ (2, 65535) ∷ (3, 65535) ∷ (4, 65535) ∷ (5, 65535) ∷ (6, 65535) ∷ (7, 65535) ∷ (8, 0) ∷
-    [])
+    ((0, 65535) ∷ (1, 65535) ∷ (2, 65535) ∷ (3, 65535) ∷ (4, 65535) ∷ (5, 65535) ∷ (6, 65535) ∷ (7, 65535) ∷
+    (8, 65535) ∷ (9, 0) ∷ [])
 
 unfoldable pub letters-listing : List ℕ
 letters-listing =
-    (6 ∷ 2 ∷ 6 ∷ 16 ∷ []) ++
-    (50 ∷ 51 ∷ 50 ∷ 51 ∷ 50 ∷ 51 ∷ 53 ∷ 50 ∷ 51 ∷ 52 ∷ 50 ∷ 51 ∷ 52 ∷ 50 ∷ 51 ∷ 53 ∷ []) ++
-    (0 ∷ 1 ∷ 1 ∷ 2 ∷ 2 ∷ 3 ∷ 6 ∷ 3 ∷ 4 ∷ 6 ∷ 3 ∷ 4 ∷ 7 ∷ 4 ∷ 5 ∷ 7 ∷ [])
+    (7 ∷ 2 ∷ 6 ∷ 15 ∷ []) ++
+    (50 ∷ 51 ∷ 50 ∷ 51 ∷ 50 ∷ 51 ∷ 50 ∷ 51 ∷ 53 ∷ 50 ∷ 51 ∷ 52 ∷ 50 ∷ 51 ∷ 53 ∷ []) ++
+    (0 ∷ 1 ∷ 1 ∷ 2 ∷ 2 ∷ 3 ∷ 3 ∷ 4 ∷ 7 ∷ 4 ∷ 5 ∷ 7 ∷ 5 ∷ 6 ∷ 8 ∷ [])
 
--- A function as message, read by a name; a bad of one letter.
---     constructors a/0.
+-- A function in a box as message, which is never read; a bad of one letter.
+--     constructors box/1.
 --     start ->
 --         Me = self(),
---         Me ! fun() -> Me end,
+--         Me ! box(fun() -> Me end),
 --         Me.
 --     bad address: start holds address >= 1.
 unfoldable pub function-letter-program : List ℕ
 function-letter-program =
-    program-words 3 1 0
-    ((10, 0) ∷ (7, 0) ∷ (3, 1) ∷ (22, 0) ∷ (1, 0) ∷ (5, 2) ∷ (21, 0) ∷ (21, 1) ∷ (1, 0) ∷ [])
+    program-words 4 1 0
+    ((10, 1) ∷ (7, 0) ∷ (3, 1) ∷ (22, 0) ∷ (1, 0) ∷ (2, 2) ∷ (20, 0) ∷ (21, 1) ∷ (5, 3) ∷ (21, 0) ∷ (21, 2) ∷ (1, 0) ∷
+    [])
 
 unfoldable pub function-letter-words : List ℕ
 function-letter-words =
     function-letter-program ++
     bad-words 1
-    ((40, 9) ∷ (42, 2) ∷ (43, 1) ∷ (44, 0) ∷ []) ++
+    ((40, 12) ∷ (42, 2) ∷ (43, 1) ∷ (44, 0) ∷ []) ++
     table-words
-    ((0, 9) ∷ (1, 2) ∷ (2, 2) ∷ [])
-    ((9, 2) ∷ [])
-    ((9, 1) ∷ (9, 2) ∷ (9, 5) ∷ (9, 8) ∷ []) ++
+    ((0, 12) ∷ (1, 2) ∷ (2, 5) ∷ (3, 5) ∷ [])
+    ((12, 5) ∷ [])
+    ((12, 1) ∷ (12, 2) ∷ (12, 5) ∷ (12, 8) ∷ (12, 11) ∷ []) ++
     ceiling-words 1
-    ((0, 65535) ∷ (1, 65535) ∷ (2, 65535) ∷ (3, 65535) ∷ (4, 65535) ∷ (5, 0) ∷ [])
+    ((0, 65535) ∷ (1, 65535) ∷ (2, 65535) ∷ (3, 65535) ∷ (4, 65535) ∷ (5, 65535) ∷ (6, 0) ∷ [])
 
 unfoldable pub function-letter-listing : List ℕ
 function-letter-listing =
-    (4 ∷ 1 ∷ 3 ∷ 7 ∷ []) ++
-    (50 ∷ 51 ∷ 50 ∷ 51 ∷ 50 ∷ 51 ∷ 53 ∷ []) ++
-    (0 ∷ 1 ∷ 1 ∷ 2 ∷ 2 ∷ 3 ∷ 4 ∷ [])
+    (5 ∷ 1 ∷ 4 ∷ 9 ∷ []) ++
+    (50 ∷ 51 ∷ 50 ∷ 51 ∷ 50 ∷ 51 ∷ 50 ∷ 51 ∷ 53 ∷ []) ++
+    (0 ∷ 1 ∷ 1 ∷ 2 ∷ 2 ∷ 3 ∷ 3 ∷ 4 ∷ 5 ∷ [])
 
 -- An address as message.
 --     constructors a/0.
@@ -986,6 +988,184 @@ held-in-mail-listing =
     (50 ∷ 51 ∷ 50 ∷ 51 ∷ 50 ∷ 51 ∷ 50 ∷ 51 ∷ 54 ∷ 50 ∷ 51 ∷ 53 ∷ 50 ∷ 51 ∷ 52 ∷ []) ++
     (0 ∷ 1 ∷ 2 ∷ 3 ∷ 3 ∷ 4 ∷ 4 ∷ 5 ∷ 0 ∷ 5 ∷ 6 ∷ 8 ∷ 6 ∷ 7 ∷ 8 ∷ [])
 
+-- A function of tag 3 is sent.
+--     constructors a/0.
+--     start ->
+--         Me = self(),
+--         Me ! fun() -> Me end,
+--         Me.
+--     bad none: start holds a >= 1.
+unfoldable pub mailed-function-program : List ℕ
+mailed-function-program =
+    program-words 3 1 0
+    ((10, 0) ∷ (7, 0) ∷ (3, 1) ∷ (22, 0) ∷ (1, 0) ∷ (5, 2) ∷ (21, 0) ∷ (21, 1) ∷ (1, 0) ∷ [])
+
+unfoldable pub mailed-function-words : List ℕ
+mailed-function-words =
+    mailed-function-program ++
+    bad-words 1
+    ((40, 9) ∷ (42, 0) ∷ (43, 1) ∷ (44, 0) ∷ []) ++
+    table-words
+    ((0, 9) ∷ (1, 2) ∷ (2, 2) ∷ [])
+    ((9, 2) ∷ [])
+    ((9, 1) ∷ (9, 2) ∷ (9, 5) ∷ (9, 8) ∷ []) ++
+    ceiling-words 0
+    []
+
+-- A function of tag 11 is sent.
+--     constructors a/0.
+--     function f() -> f.
+--     start ->
+--         Me = self(),
+--         Me ! f,
+--         Me.
+--     bad function: start holds function >= 1.
+unfoldable pub mailed-front-program : List ℕ
+mailed-front-program =
+    program-words 3 1 1
+    ((10, 0) ∷ (11, 0) ∷ (22, 0) ∷ (1, 0) ∷ (7, 1) ∷ (5, 2) ∷ (21, 1) ∷ (21, 0) ∷ (1, 1) ∷ [])
+
+unfoldable pub mailed-front-words : List ℕ
+mailed-front-words =
+    mailed-front-program ++
+    bad-words 1
+    ((40, 9) ∷ (42, 1) ∷ (43, 1) ∷ (44, 0) ∷ []) ++
+    table-words
+    ((0, 1) ∷ (1, 9) ∷ (2, 1) ∷ [])
+    ((9, 1) ∷ [])
+    ((9, 4) ∷ (9, 5) ∷ (9, 8) ∷ []) ++
+    ceiling-words 0
+    []
+
+-- A function inside a constructor is sent, taken out and called.
+--     constructors box/1.
+--     function f() -> f.
+--     start ->
+--         Me = self(),
+--         Me ! box(f),
+--         receive box(F) -> F() end.
+--     bad function: start holds function >= 1.
+unfoldable pub mailed-inside-program : List ℕ
+mailed-inside-program =
+    program-words 6 1 1
+    ((10, 1) ∷ (11, 0) ∷ (22, 0) ∷ (1, 0) ∷ (7, 1) ∷ (2, 2) ∷ (20, 0) ∷ (21, 0) ∷ (5, 3) ∷ (21, 1) ∷ (21, 2) ∷
+    (9, 1) ∷ (31, 0) ∷ (30, 4) ∷ (4, 5) ∷ (21, 4) ∷ (22, 0) ∷ (1, 5) ∷ [])
+
+unfoldable pub mailed-inside-words : List ℕ
+mailed-inside-words =
+    mailed-inside-program ++
+    bad-words 1
+    ((40, 18) ∷ (42, 1) ∷ (43, 1) ∷ (44, 0) ∷ []) ++
+    table-words
+    ((0, 1) ∷ (1, 18) ∷ (2, 5) ∷ (3, 5) ∷ (4, 1) ∷ (5, 1) ∷ [])
+    ((18, 5) ∷ [])
+    ((18, 3) ∷ (18, 4) ∷ (18, 5) ∷ (18, 8) ∷ (18, 11) ∷ (18, 14) ∷ (18, 17) ∷ []) ++
+    ceiling-words 1
+    ((0, 65535) ∷ (1, 65535) ∷ (2, 65535) ∷ (3, 65535) ∷ (4, 65535) ∷ (5, 65535) ∷ (6, 65535) ∷ (7, 65535) ∷ (8, 0) ∷
+    [])
+
+unfoldable pub mailed-inside-listing : List ℕ
+mailed-inside-listing =
+    (7 ∷ 1 ∷ 6 ∷ 14 ∷ []) ++
+    (50 ∷ 51 ∷ 50 ∷ 51 ∷ 50 ∷ 51 ∷ 50 ∷ 51 ∷ 53 ∷ 50 ∷ 51 ∷ 52 ∷ 50 ∷ 51 ∷ []) ++
+    (0 ∷ 6 ∷ 1 ∷ 2 ∷ 2 ∷ 3 ∷ 3 ∷ 4 ∷ 7 ∷ 4 ∷ 5 ∷ 7 ∷ 5 ∷ 0 ∷ [])
+
+-- A built value is sent, and then a function.
+--     constructors a/0.
+--     start ->
+--         Me = self(),
+--         Me ! a,
+--         Me ! fun() -> Me end,
+--         Me.
+--     bad none: start holds a >= 2.
+unfoldable pub mailed-second-program : List ℕ
+mailed-second-program =
+    program-words 5 1 0
+    ((10, 0) ∷ (7, 0) ∷ (2, 1) ∷ (20, 0) ∷ (5, 2) ∷ (21, 0) ∷ (21, 1) ∷ (3, 3) ∷ (22, 0) ∷ (1, 0) ∷ (5, 4) ∷ (21, 0) ∷
+    (21, 3) ∷ (1, 0) ∷ [])
+
+unfoldable pub mailed-second-words : List ℕ
+mailed-second-words =
+    mailed-second-program ++
+    bad-words 1
+    ((40, 14) ∷ (42, 0) ∷ (43, 2) ∷ (44, 0) ∷ []) ++
+    table-words
+    ((0, 14) ∷ (1, 2) ∷ (2, 2) ∷ (3, 7) ∷ (4, 7) ∷ [])
+    ((14, 2) ∷ (14, 7) ∷ [])
+    ((14, 1) ∷ (14, 2) ∷ (14, 4) ∷ (14, 7) ∷ (14, 10) ∷ (14, 13) ∷ []) ++
+    ceiling-words 0
+    []
+
+-- Two processes are sent a function each; the start's has the lower row, the other one's class is lower.
+--     constructors a/0.
+--     function f() -> f.
+--     start ->
+--         Me = self(),
+--         P = spawn(f),
+--         P ! fun() -> Me end,
+--         Me ! f.
+--     bad none: start holds a >= 1.
+unfoldable pub mailed-twice-program : List ℕ
+mailed-twice-program =
+    program-words 6 1 1
+    ((10, 0) ∷ (11, 0) ∷ (22, 0) ∷ (1, 0) ∷ (7, 1) ∷ (6, 2) ∷ (21, 0) ∷ (3, 3) ∷ (22, 0) ∷ (1, 1) ∷ (5, 4) ∷ (21, 2) ∷
+    (21, 3) ∷ (5, 5) ∷ (21, 1) ∷ (21, 0) ∷ (1, 5) ∷ [])
+
+unfoldable pub mailed-twice-words : List ℕ
+mailed-twice-words =
+    mailed-twice-program ++
+    bad-words 1
+    ((40, 17) ∷ (42, 0) ∷ (43, 1) ∷ (44, 0) ∷ []) ++
+    table-words
+    ((0, 1) ∷ (1, 17) ∷ (2, 5) ∷ (3, 7) ∷ (4, 7) ∷ (5, 1) ∷ [])
+    ((5, 7) ∷ (17, 1) ∷ [])
+    ((5, 3) ∷ (17, 4) ∷ (17, 5) ∷ (17, 7) ∷ (17, 10) ∷ (17, 13) ∷ (17, 16) ∷ []) ++
+    ceiling-words 0
+    []
+
+-- f() = f; x = self; x. A mail entry that no send wants: (R, 0), the function f. Its class is word 29, its value word 34; the flow's second columns are
+-- words 32 and 33, the ceiling's counter numbers words 39 to 41.
+unfoldable pub mailed-extra-program : List ℕ
+mailed-extra-program =
+    program-words 2 0 1
+    ((11, 0) ∷ (22, 0) ∷ (1, 0) ∷ (7, 1) ∷ (1, 1) ∷ [])
+
+unfoldable pub mailed-extra-words : List ℕ
+mailed-extra-words =
+    mailed-extra-program ++
+    bad-words 1
+    ((40, 5) ∷ (42, 0) ∷ (43, 1) ∷ (44, 0) ∷ []) ++
+    table-words
+    ((0, 0) ∷ (1, 5) ∷ [])
+    ((5, 0) ∷ [])
+    ((5, 3) ∷ (5, 4) ∷ []) ++
+    ceiling-words 1
+    ((0, 65535) ∷ (1, 65535) ∷ (2, 0) ∷ [])
+
+-- The same without the mail entry. The bad's letter is 0, and C is 0.
+unfoldable pub mailed-no-letter-program : List ℕ
+mailed-no-letter-program =
+    program-words 2 0 1
+    ((11, 0) ∷ (22, 0) ∷ (1, 0) ∷ (7, 1) ∷ (1, 1) ∷ [])
+
+unfoldable pub mailed-no-letter-words : List ℕ
+mailed-no-letter-words =
+    mailed-no-letter-program ++
+    bad-words 1
+    ((40, 5) ∷ (42, 0) ∷ (43, 1) ∷ (44, 0) ∷ []) ++
+    table-words
+    ((0, 0) ∷ (1, 5) ∷ [])
+    []
+    ((5, 3) ∷ (5, 4) ∷ []) ++
+    ceiling-words 1
+    ((0, 65535) ∷ (1, 65535) ∷ (2, 0) ∷ [])
+
+unfoldable pub mailed-no-letter-listing : List ℕ
+mailed-no-letter-listing =
+    (2 ∷ 0 ∷ 1 ∷ 2 ∷ []) ++
+    (50 ∷ 51 ∷ []) ++
+    (0 ∷ 1 ∷ [])
+
 unfoldable pub verdict-cases : List Verdict-case
 verdict-cases =
     -- R 0: too few rows.
@@ -1359,6 +1539,26 @@ verdict-cases =
     at 8 30 (to-bytes held-depth-words) ∷
     -- Depth 5: the row is wrong.
     at 3 11 (to-bytes held-too-deep-words) ∷
+    -- 22 at the function's mail entry, though no ceiling holds the start and no bad speaks of functions.
+    at 22 38 (to-bytes mailed-function-words) ∷
+    -- 22 at its mail entry; (42, C) in the bad is in form.
+    at 22 38 (to-bytes mailed-front-words) ∷
+    -- The first mail entry is the a: 22 at the second.
+    at 22 51 (to-bytes mailed-second-words) ∷
+    -- Two mail entries are functions: 22 at the first of them in the list, which goes by class.
+    at 22 57 (to-bytes mailed-twice-words) ∷
+    -- No run puts the function there: 22 all the same, as every entry of the list counts.
+    at 22 29 (to-bytes mailed-extra-words) ∷
+    -- 22 comes before 10.
+    at 22 29 (to-bytes (changed mailed-extra-words ((39, 2) ∷ []))) ∷
+    -- 8 comes before 22: the name of self does not hold the own address.
+    at 8 30 (to-bytes (changed mailed-extra-words ((33, 0) ∷ []))) ∷
+    -- 7 comes before 22: row 1 is no value.
+    at 7 29 (to-bytes (changed mailed-extra-words ((34, 1) ∷ []))) ∷
+    -- An address in its place has a counter, the third: 10, as the ceiling is not closed by it.
+    at 10 41 (to-bytes (changed mailed-extra-words ((34, 5) ∷ []))) ∷
+    -- 6: there are letters C and C + 1 alone.
+    at 6 17 (to-bytes (changed mailed-no-letter-words ((21, 2) ∷ []))) ∷
     []
 
 unfoldable pub listing-cases : List Case
@@ -1369,9 +1569,9 @@ listing-cases =
     safe 2 eight-arguments-program (to-bytes eight-arguments-words) eight-arguments-listing ∷
     -- As it is; f is never called.
     safe 2 scopes-program (to-bytes scopes-words) scopes-listing ∷
-    -- The two functions share a letter and a counter, the address has its own.
+    -- The two boxes share a letter and a counter, whatever function they hold; the address has its own.
     safe 2 values-program (to-bytes values-words) values-listing ∷
-    -- Functions and addresses have counters of their own, in that order.
+    -- Boxes and addresses have counters of their own, in that order; letter C, between them, has none.
     safe 2 letters-program (to-bytes letters-words) letters-listing ∷
     -- No address is ever sent.
     safe 2 function-letter-program (to-bytes function-letter-words) function-letter-listing ∷
@@ -1407,6 +1607,10 @@ listing-cases =
     safe 2 held-two-values-program (to-bytes held-two-values-words) held-two-values-listing ∷
     -- The address is of P's class: the first branch reads no letter, the second that of addresses.
     safe 2 held-in-mail-program (to-bytes held-in-mail-words) held-in-mail-listing ∷
+    -- The mail value is the box: safe. The bad asks for letter C, which has no counter, and so is never met.
+    safe 2 mailed-inside-program (to-bytes mailed-inside-words) mailed-inside-listing ∷
+    -- (42, C) is in form and has no counter: the bad is never met, under whatever ceiling.
+    safe 2 mailed-no-letter-program (to-bytes mailed-no-letter-words) mailed-no-letter-listing ∷
     []
 
 -- the definitions above opened at once, for the theorems that compute the table
@@ -1428,5 +1632,8 @@ unfolding bads-sizes-program bads-sizes-words tables-sizes-program tables-sizes-
     held-scope-program held-scope-words held-depth-program held-depth-words held-too-deep-program held-too-deep-words
     held-classes-program held-classes-words held-classes-listing held-arguments-program held-arguments-words
     held-arguments-listing held-two-values-program held-two-values-words held-two-values-listing held-in-mail-program
-    held-in-mail-words held-in-mail-listing verdict-cases listing-cases
+    held-in-mail-words held-in-mail-listing mailed-function-program mailed-function-words mailed-front-program
+    mailed-front-words mailed-inside-program mailed-inside-words mailed-inside-listing mailed-second-program
+    mailed-second-words mailed-twice-program mailed-twice-words mailed-extra-program mailed-extra-words
+    mailed-no-letter-program mailed-no-letter-words mailed-no-letter-listing verdict-cases listing-cases
 verdict-cases-opens = tt

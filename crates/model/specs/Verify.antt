@@ -15,7 +15,7 @@ use Rattle.model.specs.Message.{sizes, bads-at, parts-check}
 use Rattle.model.specs.Rows.{Program, program, row-check}
 use Rattle.model.specs.Scopes.{name-check, scope-check}
 use Rattle.model.specs.Bads.{bad-rows, bad-check}
-use Rattle.model.specs.Tables.{Tables, tables, entry-check}
+use Rattle.model.specs.Tables.{Tables, tables, entry-check, mailed-check}
 use Rattle.model.specs.Closed.{open-check}
 use Rattle.model.specs.Counters.{counter-count, counter-check}
 use Rattle.model.specs.Rules.{rules}
@@ -51,12 +51,13 @@ message bytes =
 unfoldable pub program-check : Program → Check
 program-check p = row-check p >> name-check p >> scope-check p
 
--- refusals 6 to 9: bads and tables
+-- refusals 6 to 9, and 22 "between 8 and 9": bads and tables
 unfoldable pub evidence-check : Limits → Message → Check
 evidence-check most m =
     bad-check (m .words) (m .sizes) (m .program) >>
     entry-check (m .sizes) (m .program) (m .tables) >>
     open-check (m .sizes) (m .program) (m .tables) >>
+    mailed-check (m .sizes) (m .program) (m .tables) >>
     counter-check most (m .sizes) (m .program) (m .tables)
 
 -- refusals 10 to 13: the ceilings
@@ -67,7 +68,7 @@ ceilings-check m =
     met-check (m .sizes) (m .program) (m .tables) (m .ceilings) (m .bads) >>
     leak-check (m .words) (m .sizes) (m .ceilings) (rules (m .program) (m .tables))
 
--- refusals 3 to 14: a message whose parts are whole, and the number of lent words
+-- refusals 3 to 14 and 22: a message whose parts are whole, and the number of lent words
 unfoldable pub message-check : Limits → Message → ℕ → Check
 message-check most m lent =
     program-check (m .program) >> evidence-check most m >> ceilings-check m >> space-check (m .program) (m .tables) lent

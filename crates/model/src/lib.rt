@@ -35,6 +35,8 @@ pub enum Verdict {
     Met(usize),
     Leak(usize),
     Space(usize),
+    // Request (x) of document 02, number 22: checked between Open and Counters.
+    FunctionMailed(usize),
 }
 
 // The limits of document 01, three of them raised by request (vi) of document 02, for the code. specs/Limits.antt has

@@ -1,8 +1,10 @@
 // The rows of a program, as the words of the message have them.
 use model::MAX_ARITY;
 use model::Sizes;
+use model::TAG_FUNCTION;
+use model::TAG_GLOBAL;
 ghost use mathlib.Core.Path.{_≡_};
-ghost use mathlib.Core.Bool.{_&&_};
+ghost use mathlib.Core.Bool.{_&&_, _||_};
 ghost use Prim.Native.Nat.{_+_, _≤_};
 ghost use lib.ListN.{length, getD, take, drop};
 ghost use lib.Dec.{eqb, ltb, leb};
@@ -32,6 +34,13 @@ pub fn num(ws: &[u16], s: Sizes, r: usize) -> usize
     ensures { λ n. ⌜ n ≡ num (program (now (ws .entry)) s) r ⌝ }
 {
     column(ws, s.rows, 4 + s.rows, r)
+}
+
+// A function is a row with tag 3 or 11.
+pub fn is_function(t: usize) -> bool
+    ensures { λ b. ⌜ b ≡ (eqb t 3 || eqb t 11) ⌝ }
+{
+    t == TAG_FUNCTION || t == TAG_GLOBAL
 }
 
 // Row r has the tag t, and a number below the limit.

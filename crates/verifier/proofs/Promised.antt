@@ -1,4 +1,4 @@
--- The demands, the table of refusals and what is kept of the former gate, of what the entry gives back.
+-- The demands, the table of refusals, what is kept of the former gate and that no function is mailed, of what the entry gives back.
 use Prim.Native.Nat.{ℕ, _≤_}
 use native.Mathlib.Omega.{arith}
 use mathlib.Core.Logic.{_↔_}
@@ -8,7 +8,7 @@ use lib.ListN.{length}
 use lib.Dec.{eqb}
 use borrow.Author.Tests.{eq-eqb}
 use Rattle.model.specs.declared.Verdict.{Verdict}
-use Rattle.model.specs.declared.Verdict.the-variants.{Safe, Length, Size, Row, Name, Scope, Bad, Entry, Open, Counters, Ceiling, Start, Met, Leak, Space}
+use Rattle.model.specs.declared.Verdict.the-variants.{Safe, Length, Size, Row, Name, Scope, Bad, Entry, Open, Counters, Ceiling, Start, Met, Leak, Space, FunctionMailed}
 use Rattle.model.specs.Verdict.{number, place}
 use Rattle.model.specs.Limits.{present}
 use Rattle.model.specs.Verify.{message, verdict, lent-after, part-handed}
@@ -17,8 +17,9 @@ use Rattle.model.specs.Demands.{Bytes, All-runs-followed}
 use Rattle.model.proofs.Demands as demands
 use Rattle.model.proofs.Refusals.{refused-exactly}
 use Rattle.model.proofs.Longer.{messages-kept, longer-turned-away}
+use Rattle.model.proofs.Mailed.{no-function-mailed}
 use Rattle.answers.specs.Safe.{is-safe}
-use Rattle.verifier.specs.Promises.{Refusal-changes-nothing, Safe-exactly-when-sound, System-is-written, Runs-are-followed, Refused-exactly-by-the-table, As-the-former-gate}
+use Rattle.verifier.specs.Promises.{Refusal-changes-nothing, Safe-exactly-when-sound, System-is-written, Runs-are-followed, Refused-exactly-by-the-table, As-the-former-gate, Mailboxes-hold-no-function}
 use Rattle.answers.proofs.Passing.{safe-only}
 
 -- only safe has the number 0
@@ -39,7 +40,9 @@ module _ (bytes lent out part : List ℕ) (told at : ℕ) where
   Promised =
       Refusal-changes-nothing told lent out part ×
       (Safe-exactly-when-sound told bytes (length lent) ×
-      (System-is-written told bytes lent out × (Runs-are-followed told bytes out × (Refused-exactly-by-the-table told at bytes (length lent) × As-the-former-gate told at bytes lent out part))))
+      (System-is-written told bytes lent out ×
+      (Runs-are-followed told bytes out ×
+      (Refused-exactly-by-the-table told at bytes (length lent) × (As-the-former-gate told at bytes lent out part × Mailboxes-hold-no-function told bytes)))))
 
   module _ (is-number : told ≡ number v) (is-place : at ≡ place v) where
     safe : told ≡ 0 → v ≡ Safe
@@ -53,6 +56,9 @@ module _ (bytes lent out part : List ℕ) (told at : ℕ) where
       sound-exactly =
           let sound = demands.safe-exactly present bytes (length lent) short in
           (λ z. sound .0 (safe z), λ s. is-number ∙ safe-zero v (sound .1 s))
+
+      mailboxes : Mailboxes-hold-no-function told bytes
+      mailboxes z = no-function-mailed present bytes (length lent) short (safe z)
 
       by-the-table : Refused-exactly-by-the-table told at bytes (length lent)
       by-the-table =
@@ -84,14 +90,14 @@ module _ (bytes lent out part : List ℕ) (told at : ℕ) where
             }
 
         pub promised : part ≡ part-handed bytes (length lent) → Promised
-        promised h = (nothing-changed h, (sound-exactly, (system-put, (runs-followed, (by-the-table, former-kept h)))))
+        promised h = (nothing-changed h, (sound-exactly, (system-put, (runs-followed, (by-the-table, (former-kept h, mailboxes))))))
 
 -- two numbers told
 pub both : (a b x y : ℕ) → a ≡ x → b ≡ y → _≡_ {A = List ℕ} (a ∷ b ∷ []) (x ∷ y ∷ [])
 both a b x y e f = rw (e, f)
 
 -- numbers are small
-pub number-most : (v : Verdict) → number v ≤ 14
+pub number-most : (v : Verdict) → number v ≤ 22
 unfolding number
 number-most Safe = omega arith
 number-most (Length at) = omega arith
@@ -108,3 +114,4 @@ number-most (Start at) = omega arith
 number-most (Met at) = omega arith
 number-most (Leak at) = omega arith
 number-most (Space at) = omega arith
+number-most (FunctionMailed at) = omega arith

@@ -1,5 +1,5 @@
 -- What a caller has of the entry, said of what it gives back: the verdict's number and place, the three demands, the
--- table of refusals, and what a gate of the former limits answers.
+-- table of refusals, what a gate of the former limits answers, and that no mailbox holds a function.
 use Prim.Native.Nat.{ℕ}
 use mathlib.Core.Logic.{_↔_}
 use mathlib.Core.Path.{_≡_}
@@ -13,6 +13,7 @@ use Rattle.model.specs.Verify.{message, verdict, verdict-within, lent-after-wit
 use Rattle.model.specs.Demands.{Sound, All-runs-followed}
 use Rattle.model.specs.Refusals.{Refused}
 use Rattle.model.specs.Longer.{By-limit, Passes}
+use Rattle.model.specs.Mailed.{No-mailbox-holds-function}
 
 -- An answer is two numbers: the verdict's, and its place.
 abbrev pub answer-to : List ℕ → ℕ → List ℕ
@@ -58,3 +59,7 @@ pub record As-the-former-gate (told at : ℕ) (bytes before after part : List �
       (part ≡ part-handed-within former bytes (length before)) × (after ≡ lent-after-within former bytes before)
   pub turned-away :
       told ≡ 0 → Passes former (message bytes) ↔ By-limit (verdict-within former bytes (length before))
+
+-- Document 02, (x): after safe, in no run, after no number of any list, does a mailbox directly hold a function.
+abbrev pub Mailboxes-hold-no-function : ℕ → List ℕ → Type 0
+Mailboxes-hold-no-function told bytes = told ≡ 0 → No-mailbox-holds-function (message bytes .program)

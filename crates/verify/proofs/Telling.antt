@@ -8,7 +8,7 @@ use lib.ListN.{length, getD, take, replicate, length-append, length-take, length
 use lib.Seq.{length-take-le}
 use Rattle.io.specs.Counts.{Counts}
 use Rattle.model.specs.declared.Verdict.{Verdict}
-use Rattle.model.specs.declared.Verdict.the-variants.{Safe, Length, Size, Row, Name, Scope, Bad, Entry, Open, Counters, Ceiling, Start, Met, Leak, Space}
+use Rattle.model.specs.declared.Verdict.the-variants.{Safe, Length, Size, Row, Name, Scope, Bad, Entry, Open, Counters, Ceiling, Start, Met, Leak, Space, FunctionMailed}
 use Rattle.model.specs.Verdict.{number, place}
 use Rattle.model.specs.Listing.{listing, system-words, written}
 use Rattle.model.specs.Limits.{present}
@@ -42,6 +42,7 @@ number-safe (Start at) h = absurd (omega arith)
 number-safe (Met at) h = absurd (omega arith)
 number-safe (Leak at) h = absurd (omega arith)
 number-safe (Space at) h = absurd (omega arith)
+number-safe (FunctionMailed at) h = absurd (omega arith)
 
 -- what another verdict gives
 number-refused : {A : Type 0} (v : Verdict) (a b : A) → (number v ≡ 0 → ⊥) → if-safe v a b ≡ b
@@ -61,6 +62,7 @@ number-refused (Start at) a b h = refl
 number-refused (Met at) a b h = refl
 number-refused (Leak at) a b h = refl
 number-refused (Space at) a b h = refl
+number-refused (FunctionMailed at) a b h = refl
 
 -- after safe the lent words have a system in them, whole
 module _ (bytes lent : List ℕ) (safe : verdict bytes (length lent) ≡ Safe) where

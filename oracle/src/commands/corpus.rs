@@ -2,6 +2,7 @@
 
 use super::{Answer, number, told};
 use oracle::fuzz::{compare, corpus};
+use oracle::refusal::VERDICTS;
 use oracle::verify;
 
 pub fn command(args: &[String]) -> Answer {
@@ -10,7 +11,9 @@ pub fn command(args: &[String]) -> Answer {
     let io = |e: std::io::Error| format!("{out}: {e}");
     std::fs::write(format!("{out}.bin"), corpus::stream(&made.cases)).map_err(io)?;
     std::fs::write(format!("{out}.txt"), &made.lines).map_err(io)?;
-    told(&format!("{} cases, by verdict from 0 to 14: {:?}\n", made.cases.len(), made.verdicts))
+    let verdicts: Vec<String> =
+        VERDICTS.iter().zip(made.verdicts).map(|(number, n)| format!("{number}: {n}")).collect();
+    told(&format!("{} cases, by verdict {}\n", made.cases.len(), verdicts.join(", ")))
 }
 
 /// Verifies every case of a stored corpus anew and compares the lines.

@@ -2,6 +2,7 @@
 
 use super::{Answer, number, told};
 use oracle::fuzz::compare::{self, Tally, Verifier};
+use oracle::refusal::VERDICTS;
 use oracle::{naive, verify};
 
 /// Where the message of a difference is kept.
@@ -35,7 +36,7 @@ fn complete(tally: &Tally) -> Answer {
     let missing = tally.verdicts.iter().position(|&seen| seen == 0);
     match missing {
         _ if tally.total() < MANY => told(&tally.words()),
-        Some(number) => Err(format!("{}verdict {number} did not come", tally.words())),
+        Some(verdict) => Err(format!("{}verdict {} did not come", tally.words(), VERDICTS[verdict])),
         None if 3 * tally.verdicts[0] < tally.total() => Err(format!("{}less than a third is safe", tally.words())),
         None => told(&tally.words()),
     }

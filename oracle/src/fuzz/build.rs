@@ -53,22 +53,20 @@ fn known(message: &[u8]) -> Result<Station, String> {
 pub fn station(rng: &mut Rng) -> Station {
     loop {
         let crowded = rng.chance(1, 20);
+        let mailing = rng.chance(1, if crowded { 3 } else { 10 });
         let size = size(rng);
-        let rows = if crowded { generate::crowded(rng) } else { generate::program(rng, size) };
-        if let Some(station) = finish(rng, &rows, crowded) {
+        let rows = if crowded { generate::crowded(rng, mailing) } else { generate::program(rng, size, mailing) };
+        if let Some(station) = finish(rng, &rows, crowded, mailing) {
             return station;
         }
     }
 }
 
-fn finish(rng: &mut Rng, rows: &Rows, crowded: bool) -> Option<Station> {
+fn finish(rng: &mut Rng, rows: &Rows, crowded: bool, mailing: bool) -> Option<Station> {
     let sizes = (rows.names, rows.constructors, rows.functions);
     let mut m = evidence::bare(sizes, &rows.rows, 1, &[(40, rows.rows.len()), (42, 0), (43, 1), (44, 0)]);
     let (program, _) = evidence::read(&m).ok()?;
-    let mut tables = least::least(&program);
-    if rng.chance(1, 3) {
-        tables = with_extra(rng, &program, tables);
-    }
+    let tables = random_tables(rng, &program, mailing)?;
     evidence::put_tables(&mut m, &program, &tables).ok()?;
     let Ok(system) = evidence::derive(&m, &program, &tables) else {
         return crowded.then(|| Station { message: uncounted(m), words: 0, counters: 0 });
@@ -94,6 +92,25 @@ fn finish(rng: &mut Rng, rows: &Rows, crowded: bool) -> Option<Station> {
     }
     evidence::put_bounds(&mut m, &limits);
     Some(Station { message: m, words: system.words(), counters: system.counters() })
+}
+
+/// The least tables or larger ones. Functions are in the mail exactly where they are wanted there, by a send or as
+/// entries that nothing wants; none where a program sends them all the same.
+fn random_tables(rng: &mut Rng, program: &Program, mailing: bool) -> Option<Tables> {
+    let least = least::least(program);
+    if !mailing && least.mails_function(program) {
+        return None;
+    }
+    let mut tables = if rng.chance(1, 3) { with_extra(rng, program, least.clone()) } else { least.clone() };
+    if !mailing && tables.mails_function(program) {
+        return Some(least);
+    }
+    if mailing && (!tables.mails_function(program) || rng.chance(1, 4)) {
+        let functions: Vec<usize> = program.functions.iter().map(|f| f.row).collect();
+        (0..rng.range(1, 3)).for_each(|_| insert(rng, tables.mail.as_mut_slice(), &functions));
+        tables = least::close(program, tables);
+    }
+    Some(tables)
 }
 
 /// Bounds under those that are there: no rule leads out of them that does not lead out of these.

@@ -4,6 +4,8 @@ use super::build;
 use super::damage::{self, Case};
 use super::rng::Rng;
 use crate::counters::check_demand_3;
+use crate::held::check_names;
+use crate::refusal::{VERDICTS, verdict_index};
 use crate::stress::sizes;
 use crate::verify::Outcome;
 
@@ -76,11 +78,14 @@ pub fn compare(first: Verifier, second: Verifier, case: &Case) -> Result<Outcome
 /// How often each verdict was seen, the largest sizes of safe messages, and their runs.
 #[derive(Clone, Debug, Default, PartialEq, Eq)]
 pub struct Tally {
-    pub verdicts: [usize; 15],
+    /// By the list of all verdicts.
+    pub verdicts: [usize; VERDICTS.len()],
     /// Rows, flow, mail, states, ceilings and their entries: the most of each.
     pub largest: [usize; 6],
     pub runs: usize,
     pub steps: usize,
+    /// Runs, of safe messages and of refused ones, in which no process would read a name that holds nothing.
+    pub named: usize,
     /// Messages that are not refused before their bounds are looked at and have many.
     pub many_bounds: usize,
 }
@@ -92,10 +97,10 @@ impl Tally {
 
     /// Counts a message with this verdict; false if there is no such verdict.
     pub fn count(&mut self, number: u32, message: &[u8]) -> bool {
-        let Some(seen) = self.verdicts.get_mut(number as usize) else { return false };
-        *seen += 1;
+        let Some(index) = verdict_index(number) else { return false };
+        self.verdicts[index] += 1;
         let sizes = sizes(message);
-        if (number == 0 || number >= 11) && sizes[4] >= build::MANY_BOUNDS {
+        if matches!(number, 0 | 11..=14) && sizes[4] >= build::MANY_BOUNDS {
             self.many_bounds += 1;
         }
         if number == 0 {
@@ -106,12 +111,13 @@ impl Tally {
 
     pub fn words(&self) -> String {
         let mut text = String::new();
-        for (number, count) in self.verdicts.iter().enumerate() {
-            text.push_str(&format!("{number:>3} {:<9} {count}\n", crate::explain::trade_word(number as u32)));
+        for (number, count) in VERDICTS.into_iter().zip(self.verdicts) {
+            text.push_str(&format!("{number:>3} {:<15} {count}\n", crate::explain::trade_word(number)));
         }
         let share = 100 * self.verdicts[0] / self.total().max(1);
         let [rows, flow, mail, states, ceilings, entries] = self.largest;
         text.push_str(&format!("all {}, safe {share} %, runs {} with {} steps\n", self.total(), self.runs, self.steps));
+        text.push_str(&format!("runs without an empty name, safe or not: {}\n", self.named));
         text.push_str(&format!(
             "the most in a safe message: {rows} rows, {flow} flow, {mail} mail, {states} states, {ceilings} ceilings, \
              {entries} entries\n"
@@ -189,6 +195,12 @@ pub fn fuzz(seed: u64, count: usize, first: Verifier, second: Verifier) -> Resul
             let rules = check_demand_3(&case.message, &numbers(&mut cases.rng)).map_err(failed)?;
             tally.runs += 1;
             tally.steps += rules.len();
+        }
+        if (outcome.number == 0 || outcome.number > 5)
+            && cases.rng.chance(1, 4)
+            && check_names(&case.message, &numbers(&mut cases.rng)).map_err(failed)?
+        {
+            tally.named += 1;
         }
     }
     Ok(tally)

@@ -4,6 +4,7 @@
 use super::compare::{Cases, Seen, Verifier, see};
 use super::damage::Case;
 use crate::limits;
+use crate::refusal::{VERDICTS, verdict_index};
 
 /// The first bytes of a stored corpus.
 const MAGIC: &[u8; 8] = b"ORACLE01";
@@ -23,21 +24,23 @@ pub fn line(case: &Case, seen: &Seen) -> String {
 pub struct Corpus {
     pub cases: Vec<Case>,
     pub lines: String,
-    pub verdicts: [usize; 15],
+    /// By the list of all verdicts.
+    pub verdicts: [usize; VERDICTS.len()],
 }
 
 impl Corpus {
-    fn keep(&mut self, case: Case, seen: &Seen) {
-        self.verdicts[seen.outcome.number as usize] += 1;
+    fn keep(&mut self, case: Case, seen: &Seen, verdict: usize) {
+        self.verdicts[verdict] += 1;
         self.lines.push_str(&line(&case, seen));
         self.cases.push(case);
     }
 }
 
 /// Cases of one verdict that are kept: each refusal as often as the others, a third of all safe.
-fn quota(number: usize, count: usize) -> usize {
-    let refused = (count * 2 / 3 / 14).max(1);
-    if number == 0 { count.saturating_sub(14 * refused) } else { refused }
+fn quota(verdict: usize, count: usize) -> usize {
+    let others = VERDICTS.len() - 1;
+    let refused = (count * 2 / 3 / others).max(1);
+    if verdict == 0 { count.saturating_sub(others * refused) } else { refused }
 }
 
 /// No bytes; station A with as many words as it needs, with one too few; A and a byte more.
@@ -55,20 +58,20 @@ fn fits(case: &Case) -> bool {
 /// So many cases, the fixed ones first; a word if some verdict never comes.
 pub fn collect(seed: u64, count: usize, verifier: Verifier) -> Result<Corpus, String> {
     let mut source = Cases::new(seed);
-    let mut corpus = Corpus { cases: Vec::new(), lines: String::new(), verdicts: [0; 15] };
+    let mut corpus = Corpus { cases: Vec::new(), lines: String::new(), verdicts: [0; VERDICTS.len()] };
     let random = std::iter::repeat_with(|| source.next_case()).take(count.saturating_mul(200));
     for case in fixed().into_iter().chain(random) {
         if corpus.cases.len() >= count {
             break;
         }
         let seen = see(verifier, &case)?;
-        let number = seen.outcome.number as usize;
-        if fits(&case) && number < 15 && corpus.verdicts[number] < quota(number, count) {
-            corpus.keep(case, &seen);
+        let Some(verdict) = verdict_index(seen.outcome.number) else { continue };
+        if fits(&case) && corpus.verdicts[verdict] < quota(verdict, count) {
+            corpus.keep(case, &seen, verdict);
         }
     }
     match corpus.verdicts.iter().position(|&kept| kept == 0) {
-        Some(number) => Err(format!("verdict {number} did not come")),
+        Some(verdict) => Err(format!("verdict {} did not come", VERDICTS[verdict])),
         None => Ok(corpus),
     }
 }

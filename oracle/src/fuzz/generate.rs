@@ -39,12 +39,14 @@ struct Maker<'r> {
     outside: usize,
     /// Names that some row so far builds, with the constructor.
     built: Vec<(Binder, usize)>,
+    /// Whether sends of functions are wanted.
+    mailing: bool,
 }
 
-/// A program of about `size` rows.
-pub fn program(rng: &mut Rng, size: usize) -> Rows {
+/// A program of about `size` rows, perhaps with sends of functions.
+pub fn program(rng: &mut Rng, size: usize, mailing: bool) -> Rows {
     loop {
-        let made = attempt(rng, size);
+        let made = attempt(rng, size, mailing);
         let fits = made.rows.len() <= limits::ROWS.1 as usize && made.names <= limits::NAMES.1 as usize;
         if fits && made.names > 0 {
             return made;
@@ -52,13 +54,13 @@ pub fn program(rng: &mut Rng, size: usize) -> Rows {
     }
 }
 
-fn attempt(rng: &mut Rng, size: usize) -> Rows {
+fn attempt(rng: &mut Rng, size: usize, mailing: bool) -> Rows {
     let constructors = if rng.chance(1, 30) { rng.range(0, 64.min(size)) } else { rng.range(0, 5) };
     let functions = if rng.chance(1, 30) { rng.range(0, 64.min(size / 8)) } else { rng.range(0, 4.min(size / 8)) };
     let arities =
         (0..constructors).map(|_| if rng.chance(1, 20) { rng.range(0, 8) } else { rng.range(0, 3) }).collect();
     let mut maker =
-        Maker { rng, arities, rows: Vec::new(), binders: 0, scope: Vec::new(), outside: 0, built: Vec::new() };
+        Maker { rng, arities, rows: Vec::new(), binders: 0, scope: Vec::new(), outside: 0, built: Vec::new(), mailing };
     maker.whole(size, functions);
     let numbers = maker.numbers();
     let rows = maker.rows.iter().map(|&(tag, operand)| match operand {
@@ -344,7 +346,10 @@ impl Maker<'_> {
 
     fn send(&mut self) {
         let target = self.name(|kind| kind == Kind::Address);
-        let message = self.name(|kind| matches!(kind, Kind::Built | Kind::Unknown));
+        let message = match self.mailing && self.rng.chance(1, 3) {
+            true => self.name(|kind| matches!(kind, Kind::Function(_))),
+            false => self.name(|kind| matches!(kind, Kind::Built | Kind::Unknown)),
+        };
         self.simple(5, Kind::Built);
         self.named(21, target);
         self.named(21, message);
@@ -352,24 +357,28 @@ impl Maker<'_> {
 }
 
 /// A program whose tables come near the most counters, now or formerly: some spawns of one long body, and
-/// letters in the mail of each class.
-pub fn crowded(rng: &mut Rng) -> Rows {
+/// letters in the mail of each class; the last process may be sent the function that it runs.
+pub fn crowded(rng: &mut Rng, mailing: bool) -> Rows {
     let classes = rng.range(3, 12);
     let letters = rng.range(1, 8);
     let sends: Vec<usize> = (0..classes).map(|_| rng.range(1, letters)).collect();
     let others = letters + 1 + 2 * classes + 2 * sends.iter().sum::<usize>();
-    let most = if rng.chance(1, 2) { limits::COUNTERS } else { limits::FORMER.counters };
+    let most = if mailing || rng.chance(1, 2) { limits::COUNTERS } else { limits::FORMER.counters };
     let length = (most + rng.range(0, 20)).saturating_sub(others + rng.range(0, 15)) / classes;
     let mut crowd = RowList { rows: vec![(10, 0); letters], names: 1 };
     crowd.rows.extend([(11, 0), (22, 0)]);
     let last = (0..length).map(|_| crowd.bind(7, &[])).last().unwrap_or(0);
     crowd.rows.push((1, last));
     let built: Vec<usize> = (0..letters).map(|letter| crowd.bind(2, &[(20, letter)])).collect();
+    let mut address = 0;
     for count in sends {
-        let address = crowd.bind(6, &[(21, 0)]);
+        address = crowd.bind(6, &[(21, 0)]);
         for &message in &built[..count] {
             crowd.bind(5, &[(21, address), (21, message)]);
         }
+    }
+    if mailing {
+        crowd.bind(5, &[(21, address), (21, 0)]);
     }
     crowd.rows.push((1, 0));
     Rows { rows: crowd.rows, names: crowd.names, constructors: letters, functions: 1 }

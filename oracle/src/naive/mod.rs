@@ -46,6 +46,7 @@ fn check(bytes: &[u8], lent: &mut [u32]) -> Result<usize, Refused> {
     parts::entries(&m)?;
     let pairs = Pairs::new(&m);
     closed::check(&m, &program, &pairs)?;
+    parts::no_function_mailed(&m)?;
     let system = Plain::new(&program, &pairs);
     if system.counters.len() > 1024 {
         return Err((9, m.tables_at + 2));

@@ -94,6 +94,17 @@ pub fn entries(m: &Message) -> Result<(), Refused> {
     Ok(())
 }
 
+/// Refusal 22.
+pub fn no_function_mailed(m: &Message) -> Result<(), Refused> {
+    for i in m.flow..m.flow + m.mail {
+        let value = m.tables.second[i] as usize;
+        if value < m.rows && [3, 11].contains(&m.program.first[value]) {
+            return Err((22, m.tables_at + 3 + i));
+        }
+    }
+    Ok(())
+}
+
 /// Refusal 10.
 pub fn ceilings(m: &Message, counters: usize) -> Result<(), Refused> {
     let (mut whole, mut before) = (0, None);

@@ -262,7 +262,7 @@ fn everything(bounds: impl Bounds) -> Result<Vec<u8>, String> {
     let work = list.bind(11, &[(22, 0)]);
     list.row(9, 16);
     (0..16).for_each(|i| deep_branch(&mut list, i, work));
-    let small: Vec<usize> = (0..40).map(|_| list.bind(2, &[(20, 1)])).collect();
+    let small: Vec<usize> = (0..43).map(|_| list.bind(2, &[(20, 1)])).collect();
     (0..4).for_each(|_| {
         big_build(&mut list, &small[..8]);
     });
@@ -279,7 +279,7 @@ fn everything(bounds: impl Bounds) -> Result<Vec<u8>, String> {
         hold(tables, functions[0], &functions_of);
         small[..20].iter().for_each(|&name| hold(tables, name, &values));
         for mail in &mut tables.mail {
-            builds.iter().chain(&functions_of).take(56).for_each(|&v| {
+            builds.iter().copied().chain(program.classes()).take(56).for_each(|v| {
                 mail.insert(v);
             });
         }

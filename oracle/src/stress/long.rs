@@ -3,11 +3,12 @@
 use super::bounds::{self, Bounds};
 use super::finish::{Rows, bytes, changed};
 use super::rows::{mail_of_start, nested_functions, nested_receives, set_last};
-use super::sends::{builds, classes_of, unused};
+use super::sends::{builds, every_letter, unused};
 use super::{Sample, sample};
 use crate::fuzz::row_list::RowList;
 use crate::message::Message;
 use crate::program::Program;
+use crate::set::Set;
 use crate::tables::Tables;
 
 pub fn hostile() -> Result<Vec<Sample>, String> {
@@ -52,8 +53,23 @@ pub fn hostile() -> Result<Vec<Sample>, String> {
         )?,
         sample("counters-1025", "1,024 states and a letter", 9, changed(states(bounds::one), one_letter))?,
         sample(
+            "function-and-counters",
+            "the same with a function in the mail too",
+            22,
+            changed(states(bounds::one), |m| {
+                one_letter(m);
+                mail_first(m, 0);
+            }),
+        )?,
+        sample(
+            "function-last",
+            "512 mail entries, of which the last is a function, 1,022 states and 256 ceilings",
+            22,
+            function_last(),
+        )?,
+        sample(
             "long-counters",
-            "1,536 rows, 512 states and 512 letters, 256 ceilings of 8,192 entries, 187,683 rules",
+            "1,536 rows, 512 states and 512 letters, 256 ceilings of 8,192 entries, 187,537 rules",
             0,
             counters(bounds::alike),
         )?,
@@ -100,27 +116,59 @@ fn states(bounds: impl Bounds) -> Result<Vec<u8>, String> {
 
 /// A mail entry: the starting process holds its own address.
 fn one_letter(m: &mut Message) {
-    let start = m.rows as u16;
-    m.tables.first.insert(m.flow, start);
-    m.tables.second.insert(m.flow, start);
+    mail_first(m, m.rows);
+}
+
+/// The first mail entry: a value that the starting process holds.
+fn mail_first(m: &mut Message, value: usize) {
+    m.tables.first.insert(m.flow, m.rows as u16);
+    m.tables.second.insert(m.flow, value as u16);
     m.mail += 1;
+}
+
+/// Three classes in one body of 337 builds that hold functions. The builds are all in the mail of the first class, 174
+/// in that of the second; the start may hold the function of its own, which is the last entry.
+fn function_last() -> Result<Vec<u8>, String> {
+    let mut list = RowList::default();
+    list.row(10, 2);
+    let work = list.bind(11, &[(22, 0)]);
+    let built: Vec<usize> = (0..337).map(|_| list.bind(2, &[(20, 0), (21, work), (21, work)])).collect();
+    list.row(1, work);
+    (0..3).for_each(|_| {
+        list.bind(6, &[(21, work)]);
+    });
+    let function = list.bind(3, &[(22, 0)]);
+    list.row(1, work);
+    (0..3).for_each(|_| {
+        list.bind(7, &[]);
+    });
+    list.row(1, function);
+    let extra = move |program: &Program, tables: &mut Tables| {
+        let all: Vec<usize> = builds(program).collect();
+        let hold = |set: &mut Set, values: &[usize]| {
+            values.iter().for_each(|&value| {
+                set.insert(value);
+            })
+        };
+        built[..11].iter().for_each(|&name| hold(&mut tables.flow[name], &all));
+        hold(&mut tables.mail[0], &all);
+        hold(&mut tables.mail[1], &all[..174]);
+        let function = program.functions.last().map_or(0, |f| f.row);
+        tables.mail[3].insert(function);
+    };
+    Rows { list, constructors: 1, functions: 1 }.finish(extra, bounds::alike)
 }
 
 /// 364 sends that each may put 512 letters (eight in each of 64 classes), then 146 receives of eight letters each.
 fn counters(bounds: impl Bounds) -> Result<Vec<u8>, String> {
     let mut list = RowList::default();
-    let unused = unused(&mut list, 7, 7, 63);
-    let target = list.bind(7, &[]);
+    let target = unused(&mut list, 7, 7, 63);
+    let message = list.bind(7, &[]);
     (0..364).for_each(|_| {
-        list.bind(5, &[(21, target), (21, unused)]);
+        list.bind(5, &[(21, target), (21, message)]);
     });
     (0..146).for_each(|_| list.rows.extend([(9, 1), (32, 0)]));
-    list.row(1, unused);
-    let extra = move |program: &Program, tables: &mut Tables| {
-        tables.flow[target] = classes_of(program);
-        builds(program).for_each(|b| {
-            tables.flow[unused].insert(b);
-        });
-    };
+    list.row(1, target);
+    let extra = move |program: &Program, tables: &mut Tables| every_letter(program, tables, target, message);
     Rows { list, constructors: 7, functions: 1 }.finish(extra, bounds)
 }

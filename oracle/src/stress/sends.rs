@@ -30,6 +30,7 @@ pub fn hostile() -> Result<Vec<Sample>, String> {
             sends(29, 24, 19, bounds::alike).and_then(without_start),
         )?,
         sample("rules-sends", "224 sends that each may put 240 letters", 0, sends(224, 16, 14, bounds::one))?,
+        sample("rules-classes", "254 sends of an address to 251 classes each", 0, sends(254, 251, 0, bounds::one))?,
         sample(
             "rules-receives",
             "14 receives of 16 branches that each may take 64 letters, in 230 values",
@@ -77,23 +78,28 @@ pub fn hostile() -> Result<Vec<Sample>, String> {
     ])
 }
 
-/// So many sends, one after another, of a build of each constructor and of a function to every
-/// class. Classes and builds stand in a function that is never called, so that they take no states.
+/// So many sends, one after another, of a build of each constructor and of an address to every
+/// class. Classes and builds stand in a function that is never called, so that they take no states;
+/// its name may be each of the classes too, which spares a state that binds another.
 pub fn sends(count: usize, classes: usize, constructors: usize, bounds: impl Bounds) -> Result<Vec<u8>, String> {
     let mut list = RowList::default();
-    let unused = unused(&mut list, constructors, constructors, classes - 1);
-    let target = list.bind(7, &[]);
+    let target = unused(&mut list, constructors, constructors, classes - 1);
+    let message = list.bind(7, &[]);
     (0..count).for_each(|_| {
-        list.bind(5, &[(21, target), (21, unused)]);
+        list.bind(5, &[(21, target), (21, message)]);
     });
-    list.row(1, unused);
-    let extra = move |program: &Program, tables: &mut Tables| {
-        tables.flow[target] = classes_of(program);
-        builds(program).for_each(|b| {
-            tables.flow[unused].insert(b);
-        });
-    };
+    list.row(1, target);
+    let extra = move |program: &Program, tables: &mut Tables| every_letter(program, tables, target, message);
     Rows { list, constructors, functions: 1 }.finish(extra, bounds)
+}
+
+/// The target may be each class, the message each build and, by its own row, the start's address.
+pub fn every_letter(program: &Program, tables: &mut Tables, target: usize, message: usize) {
+    tables.flow[target] = classes_of(program);
+    tables.flow[target].insert(program.rows);
+    builds(program).for_each(|b| {
+        tables.flow[message].insert(b);
+    });
 }
 
 pub fn builds(program: &Program) -> impl Iterator<Item = usize> + '_ {

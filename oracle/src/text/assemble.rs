@@ -31,7 +31,7 @@ pub struct Assembled {
 }
 
 /// A station's message. Where a bad has no ceilings it holds those that the other bads have, so that the verifier
-/// shows that bad.
+/// shows that bad. Where a function may be sent by itself it has none: it is refused before they are looked at.
 pub fn assemble(text: &str) -> Result<Assembled, String> {
     assemble_within(text, BUDGET)
 }
@@ -54,6 +54,9 @@ fn assemble_here(text: &str, budget: usize) -> Result<Assembled, String> {
     let derived = Derived { program: &program, tables: &tables, system: &system };
     let warnings = [lowered.warnings.clone(), warnings(derived, &bads, &symbols)].concat();
     let mut notes: Vec<String> = warnings.iter().map(|warning| format!("warning: {warning}")).collect();
+    if tables.mails_function(&program) {
+        return Ok(finished(&m, &symbols, notes));
+    }
     let finding = Finding { derived, bads: &bads, budget };
     let telling = Telling { derived, symbols: &symbols };
     let (fates, limits) = finding.fates_and_bounds(&mut notes);

@@ -1,7 +1,7 @@
 //! What an author should look at, though nothing is wrong in form.
 
 use crate::analysis::Analysis;
-use crate::bads::Bad;
+use crate::bads::{Bad, Place};
 use crate::bounds::item_counter;
 use crate::program::{Branch, Head, Pattern, Row};
 use crate::replay::Derived;
@@ -11,7 +11,7 @@ use std::collections::BTreeMap;
 /// Warnings of closed tables, in the author's words.
 pub fn warnings(derived: Derived, bads: &[Bad], symbols: &Symbols) -> Vec<String> {
     let warner = Warner { derived, symbols, analysis: Analysis::new(derived.program, derived.tables) };
-    [warner.stops(), warner.branches(), warner.bads(bads)].concat()
+    [warner.functions_sent(), warner.stops(), warner.branches(), warner.bads(bads)].concat()
 }
 
 struct Warner<'a> {
@@ -39,11 +39,32 @@ impl Warner<'_> {
             Head::Call { callee, args, .. } => {
                 Some(format!("{} is no function with {} parameters", name(callee), args.len()))
             }
-            Head::Send { target, .. } => Some(format!("{} is no process", name(target))),
+            Head::Send { target, .. } if self.analysis.targets(*target).is_empty() => {
+                Some(format!("{} is no process", name(target)))
+            }
             Head::Spawn { callee, .. } => Some(format!("{} is no function without parameters", name(callee))),
             Head::Case { value, .. } => Some(format!("no branch matches what {} may be", name(value))),
             _ => None,
         }
+    }
+
+    /// Sends that may put a function into a mailbox by itself: with each of them the message is refused.
+    fn functions_sent(&self) -> Vec<String> {
+        let Derived { program, tables, .. } = self.derived;
+        let mailed = tables.mail_pairs(program).into_iter().filter(|&(_, value)| program.function(value).is_some());
+        let mut sent: BTreeMap<(usize, Row), Vec<usize>> = BTreeMap::new();
+        for (class, function) in mailed {
+            let senders = self.analysis.senders(class, function);
+            senders.for_each(|sender| sent.entry(sender).or_default().push(function));
+        }
+        let told = |((class, head), mut functions): ((usize, Row), Vec<usize>)| {
+            functions.sort_unstable();
+            functions.dedup();
+            let functions: Vec<String> = functions.iter().map(|&function| self.symbols.value(function)).collect();
+            let (state, functions) = (self.symbols.state(class, head), functions.join(" or "));
+            format!("{state} may send {functions}: functions are sent inside a constructor only")
+        };
+        sent.into_iter().map(told).collect()
     }
 
     /// Branches of a case or receive that a process comes to, which no value matches there.
@@ -85,8 +106,12 @@ impl Warner<'_> {
         let Derived { program, tables, system } = self.derived;
         let without = bads.iter().enumerate().filter_map(|(i, bad)| {
             let item = bad.items.iter().find(|item| item_counter(program, tables, system, item).is_none())?;
+            let why = match item.place {
+                Place::Letter(letter) if letter == program.arities.len() => "where a function is sent that is refused",
+                _ => "by the tables it never happens",
+            };
             let (bad, item) = (self.symbols.bad(i), self.symbols.item(item));
-            Some(format!("{bad} is never met: `{item}` has no counter, by the tables it never happens"))
+            Some(format!("{bad} is never met: `{item}` has no counter, {why}"))
         });
         without.collect()
     }

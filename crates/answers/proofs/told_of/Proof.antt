@@ -48,6 +48,9 @@ enum-known-v-13 c = search needs
 enum-known-v-14 : tie.Need-enum-known-v-14
 enum-known-v-14 c = search needs
 
+enum-known-v-15 : tie.Need-enum-known-v-15
+enum-known-v-15 c = search needs
+
 returns : tie.Need-returns
 unfolding number place
 returns c = search needs
@@ -108,6 +111,10 @@ returns-15 : tie.Need-returns-15
 unfolding number place
 returns-15 c = search needs
 
+returns-16 : tie.Need-returns-16
+unfolding number place
+returns-16 c = search needs
+
 pub told-of-spec : {M : Type 1} → statement M
 told-of-spec =
     tie.close
@@ -127,6 +134,7 @@ told-of-spec =
     enum-known-v-12
     enum-known-v-13
     enum-known-v-14
+    enum-known-v-15
     returns
     returns-2
     returns-3
@@ -141,4 +149,5 @@ told-of-spec =
     returns-12
     returns-13
     returns-14
-    returns-15)
+    returns-15
+    returns-16)

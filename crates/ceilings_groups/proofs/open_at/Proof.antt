@@ -1,6 +1,7 @@
 use native.Mathlib.Omega.{arith}
 use mathlib.Core.Path.{sym, _∙_}
-use Rattle.ceilings_groups.proofs.Settling.{allows-at}
+use Rattle.model.specs.Limits.{omega-limit}
+use Rattle.ceilings_groups.proofs.Settling.{reached-allows}
 use borrow.Author.Needs.{needs}
 use Rattle.ceilings_groups.proofs.open_at.Statement.{statement}
 use Rattle.ceilings_groups.proofs.open_at.Tie as tie
@@ -11,11 +12,29 @@ below-requires c κs = search needs
 returns : tie.Need-returns
 returns c = λ k h t b. absurd (omega (arith, c .before .if1 .taken, b))
 
-allowing-requires : tie.Need-allowing-requires
-allowing-requires c κs = search needs
+mul-first : tie.Need-mul-first
+mul-first c = record { fits = omega (arith, c .before .if1 .left, c .before .before .before .before .before .pre .1 .holders-room) }
+
+load-requires : tie.Need-load-requires
+load-requires c κs = record { room = omega (arith, c .before .if1 .left, c .before .before .before .before .before .pre .1 .holders-room) }
 
 returns-2 : tie.Need-returns-2
-returns-2 c = λ k h t b. allows-at _ _ _ _ k (sym (c .allowing .ensures k h) ∙ t)
+returns-2 c = λ k h t b. reached-allows _ _ _ 1 _ k (omega (arith, c .before .if2 .taken)) (sym (c .load .ensures k h ∙ c .before .before .before .before .before .before .pre .1 .holder _ k b h) ∙ t)
+
+load-requires-2 : tie.Need-load-requires-2
+load-requires-2 c κs = record { room = omega (arith, c .before .if1 .left, c .before .before .before .before .before .pre .1 .unbounded-room) }
+
+returns-3 : tie.Need-returns-3
+returns-3 c = λ k h t b. reached-allows _ _ _ omega-limit _ k (c .before .before .before .before .before .before .pre .0) (sym (c .load2 .ensures k h ∙ c .before .before .before .before .before .before .pre .1 .no-bound _ k b h) ∙ t)
 
 pub open-at-spec : {M : Type 1} → statement M
-open-at-spec = tie.close (tie.spec below-requires returns allowing-requires returns-2)
+open-at-spec =
+    tie.close
+    (tie.spec
+    below-requires
+    returns
+    mul-first
+    load-requires
+    returns-2
+    load-requires-2
+    returns-3)

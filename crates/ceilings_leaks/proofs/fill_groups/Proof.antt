@@ -10,78 +10,72 @@ use Rattle.model.specs.Tables.{tables, entries}
 use Rattle.steps.specs.Steps.{effect-kind}
 use Rattle.system_totals.proofs.Lined.{Summed, summed-none, summed-more, summed-all}
 use Rattle.system_totals.proofs.Walk.{Walk, walk-begin, walk-next, walk-room, walk-few}
-use Rattle.ceilings.proofs.Begun.{room-all}
 use Rattle.ceilings_groups.specs.Groups.{Groups-upto}
 use Rattle.ceilings_leaks.proofs.Leaking.{groups-start, groups-next, groups-all}
 use Rattle.ceilings_leaks.proofs.fill_groups.Statement.{statement}
 use Rattle.ceilings_leaks.proofs.fill_groups.Tie as tie
 
 abbrev Inv-loop : tie.InvT-loop
-Inv-loop ws s afters inners flow-at w flows names letter-at letters branches n limits starts holders unbounded at₀ tos₀ others₀ group₀ class₀ rules₀ rows₀ i₀ i-end at tos others group class rules rows i =
+Inv-loop ws s afters inners flow-at w flows names letter-at letters branches n limits starts holders unbounded at₀ tos₀ others₀ group₀ boundless class₀ rules₀ rows₀ i₀ i-end at tos others group class rules rows i =
     Groups-upto (program ws s) (tables ws s) limits (s .ceilings) n i group × Summed (program ws s) (tables ws s) i rules rows × Walk (program ws s) (tables ws s) at₀ tos₀ others₀ class at tos others × (i ≤ s .states) × (length group ≡ length group₀)
 
 abbrev μ-loop : tie.MeasureT-loop
-μ-loop ws s afters inners flow-at w flows names letter-at letters branches n limits starts holders unbounded at₀ tos₀ others₀ group₀ class₀ rules₀ rows₀ i₀ i-end at tos others group class rules rows i = s .states - i
+μ-loop ws s afters inners flow-at w flows names letter-at letters branches n limits starts holders unbounded at₀ tos₀ others₀ group₀ boundless class₀ rules₀ rows₀ i₀ i-end at tos others group class rules rows i = s .states - i
+
+is-boundless-requires : tie.Need-is-boundless-requires Inv-loop μ-loop
+is-boundless-requires c κs = c .before .before .before .before .before .before .before .before .before .before .before .before .before .before .before .before .before .pre .1 .0 .held-by .unbounded-room
 
 loop-holds : tie.Need-loop-holds Inv-loop μ-loop
-loop-holds c = (groups-start _ _ _ _ _, summed-none _ _, walk-begin _ _ _ _ _ _ (c .before .before .before .before .before .before .before .before .before .before .before .before .before .before .before .before .before .pre .1 .1 .0), omega arith, refl)
+loop-holds c = (groups-start _ _ _ _ _, summed-none _ _, walk-begin _ _ _ _ _ _ (c .before .before .before .before .before .before .before .before .before .before .before .before .before .before .before .before .before .before .pre .1 .1 .0), omega arith, refl)
 
 turn-to-requires : tie.Need-turn-to-requires Inv-loop μ-loop
-turn-to-requires c κs = (c .before .before .before .before .before .before .before .before .before .before .before .before .before .before .before .before .before .before .before .before .pre .0 .ready, (c .before .before .loop .inv .2 .entered, c .before .loop-test .taken))
+turn-to-requires c κs = (c .before .before .before .before .before .before .before .before .before .before .before .before .before .before .before .before .before .before .before .before .before .pre .0 .ready, (c .before .before .loop .inv .2 .entered, c .before .loop-test .taken))
 
 state-rules-requires : tie.Need-state-rules-requires Inv-loop μ-loop
-state-rules-requires c κs = (c .before .before .before .before .before .before .before .before .before .before .before .before .before .before .before .before .before .before .before .before .before .before .before .before .before .before .pre .0, (c .before .before .before .before .before .turn-to .ensures .0, ((c .before .before .before .before .before .before .before .loop-test .taken, c .before .before .before .before .before .turn-to .ensures .1), walk-room _ _ _ _ _ _ _ _ _ (c .before .before .before .before .before .before .before .before .loop .inv .2) _ (c .before .before .before .before .before .before .before .before .before .before .before .before .before .before .before .before .before .before .before .before .before .before .before .before .before .before .pre .1 .1 .1 .0 .0))))
+state-rules-requires c κs = (c .before .before .before .before .before .before .before .before .before .before .before .before .before .before .before .before .before .before .before .before .before .before .before .before .before .before .before .pre .0, (c .before .before .before .before .before .turn-to .ensures .0, ((c .before .before .before .before .before .before .before .loop-test .taken, c .before .before .before .before .before .turn-to .ensures .1), walk-room _ _ _ _ _ _ _ _ _ (c .before .before .before .before .before .before .before .before .loop .inv .2) _ (c .before .before .before .before .before .before .before .before .before .before .before .before .before .before .before .before .before .before .before .before .before .before .before .before .before .before .before .pre .1 .1 .1 .0 .0))))
 
 state-head-requires : tie.Need-state-head-requires Inv-loop μ-loop
-state-head-requires c κs = c .before .before .before .before .before .before .before .before .before .before .before .before .before .before .before .before .before .before .before .before .before .before .before .before .before .before .before .before .before .before .before .pre .0 .ready
+state-head-requires c κs = c .before .before .before .before .before .before .before .before .before .before .before .before .before .before .before .before .before .before .before .before .before .before .before .before .before .before .before .before .before .before .before .before .pre .0 .ready
 
 -- the lists for one state hold no more
 few : (c : tie.After-state-rules Inv-loop μ-loop) → c .state-rules .result ≤ 65536
-few c = walk-few _ _ _ _ _ _ _ _ _ (c .before .before .before .before .before .before .before .before .before .loop .inv .2) _ _ _ _ (c .state-rules .ensures) (c .state-rules .kept .1 .1 .1 .1 .1 .1 .1 .1 .1 .1 .1 .1 .1 .1 .0) (c .before .before .before .before .before .before .before .before .before .before .before .before .before .before .before .before .before .before .before .before .before .before .before .before .before .before .before .pre .1 .1 .1 .0 .1)
+few c = walk-few _ _ _ _ _ _ _ _ _ (c .before .before .before .before .before .before .before .before .before .loop .inv .2) _ _ _ _ (c .state-rules .ensures) (c .state-rules .kept .1 .1 .1 .1 .1 .1 .1 .1 .1 .1 .1 .1 .1 .1 .0) (c .before .before .before .before .before .before .before .before .before .before .before .before .before .before .before .before .before .before .before .before .before .before .before .before .before .before .before .before .pre .1 .1 .1 .0 .1)
 
 add-rules : tie.Need-add-rules Inv-loop μ-loop
-add-rules c = record { fits = omega (arith, few (c .before .before .before .before .before), c .before .before .before .before .before .before .before .before .before .before .before .before .before .before .loop .inv .1 .rules-low, c .before .before .before .before .before .before .before .before .before .before .before .before .before .loop-test .taken, c .before .before .before .before .before .before .before .before .before .before .before .before .before .before .before .before .before .before .before .before .before .before .before .before .before .before .before .before .before .before .before .before .pre .0 .ready .limits .states) }
+add-rules c = record { fits = omega (arith, few (c .before .before .before .before .before), c .before .before .before .before .before .before .before .before .before .before .before .before .before .before .loop .inv .1 .rules-low, c .before .before .before .before .before .before .before .before .before .before .before .before .before .loop-test .taken, c .before .before .before .before .before .before .before .before .before .before .before .before .before .before .before .before .before .before .before .before .before .before .before .before .before .before .before .before .before .before .before .before .before .pre .0 .ready .limits .states) }
 
 row-total-requires : tie.Need-row-total-requires Inv-loop μ-loop
 row-total-requires c κs = few (c .before .before .before .before .before)
 
 add-rows : tie.Need-add-rows Inv-loop μ-loop
-add-rows c = record { fits = omega (arith, few (c .before .before .before .before .before .before), c .row-total .ensures .1, c .before .before .before .before .before .before .before .before .before .before .before .before .before .before .before .loop .inv .1 .rows-low, c .before .before .before .before .before .before .before .before .before .before .before .before .before .before .loop-test .taken, c .before .before .before .before .before .before .before .before .before .before .before .before .before .before .before .before .before .before .before .before .before .before .before .before .before .before .before .before .before .before .before .before .before .pre .0 .ready .limits .states) }
+add-rows c = record { fits = omega (arith, few (c .before .before .before .before .before .before), c .row-total .ensures .1, c .before .before .before .before .before .before .before .before .before .before .before .before .before .before .before .loop .inv .1 .rows-low, c .before .before .before .before .before .before .before .before .before .before .before .before .before .before .loop-test .taken, c .before .before .before .before .before .before .before .before .before .before .before .before .before .before .before .before .before .before .before .before .before .before .before .before .before .before .before .before .before .before .before .before .before .before .pre .0 .ready .limits .states) }
 
 effect-kind-requires : tie.Need-effect-kind-requires Inv-loop μ-loop
 effect-kind-requires c κs = search needs
 
 mul-first : tie.Need-mul-first Inv-loop μ-loop
-mul-first c = record { fits = omega (arith, c .before .before .before .before .before .before .before .before .before .before .before .before .before .before .before .loop-test .taken, c .before .before .before .before .before .before .before .before .before .before .before .before .before .before .before .before .before .before .before .before .before .before .before .before .before .before .before .before .before .before .before .before .before .before .pre .0 .ready .limits .states) }
+mul-first c = record { fits = omega (arith, c .before .before .before .before .before .before .before .before .before .before .before .before .before .before .before .loop-test .taken, c .before .before .before .before .before .before .before .before .before .before .before .before .before .before .before .before .before .before .before .before .before .before .before .before .before .before .before .before .before .before .before .before .before .before .before .pre .0 .ready .limits .states) }
 
 open-to-all-requires : tie.Need-open-to-all-requires Inv-loop μ-loop
-open-to-all-requires c κs =
-    (
-      (c .before .before .before .before .before .before .before .before .before .before .before .before .before .before .before .before .before .before .before .before .before .before .before .before .before .before .before .before .before .before .before .before .before .before .before .before .before .pre .0 .ready .limits .ceilings, room-all _ _ _ _ (c .before .before .before .before .before .before .before .before .before .before .before .before .before .before .before .before .before .before .before .before .before .before .before .before .before .before .before .before .before .before .before .before .before .before .before .before .before .pre .1 .0 .in-form) (c .before .before .before .before .before .before .before .before .before .before .before .before .before .before .before .before .before .before .before .before .before .before .before .before .before .before .before .before .before .before .before .before .before .before .before .before .before .pre .1 .0 .limits-table)),
-      (c .before .before .before .before .before .before .before .before .before .before .before .before .before .before .before .before .before .before .before .before .before .before .before .before .before .before .before .before .before .before .before .before .before .before .before .before .before .pre .1 .0 .held-by, (c .before .before .before .before .before .before .before .before .before .before .state-rules .ensures .tos-room, c .before .before .before .before .before .before .before .before .before .before .state-rules .ensures .others-room)),
-    )
+open-to-all-requires c κs = (omega arith, (c .before .before .before .before .before .before .before .before .before .before .before .before .before .before .before .before .before .before .before .before .before .before .before .before .before .before .before .before .before .before .before .before .before .before .before .before .before .before .pre .1 .0 .held-by, (c .before .before .before .before .before .before .before .before .before .before .state-rules .ensures .tos-room, c .before .before .before .before .before .before .before .before .before .before .state-rules .ensures .others-room)))
 
 store-requires : tie.Need-store-requires Inv-loop μ-loop
-store-requires c κs = record { room = omega (arith, c .before .before .before .before .before .before .before .before .before .before .before .before .before .before .before .before .before .before .before .loop-test .taken, c .before .before .before .before .before .before .before .before .before .before .before .before .before .before .before .before .before .before .before .before .loop .inv .4, c .before .before .before .before .before .before .before .before .before .before .before .before .before .before .before .before .before .before .before .before .before .before .before .before .before .before .before .before .before .before .before .before .before .before .before .before .before .before .pre .1 .1 .1 .1) }
+store-requires c κs = record { room = omega (arith, c .before .before .before .before .before .before .before .before .before .before .before .before .before .before .before .before .before .before .before .loop-test .taken, c .before .before .before .before .before .before .before .before .before .before .before .before .before .before .before .before .before .before .before .before .loop .inv .4, c .before .before .before .before .before .before .before .before .before .before .before .before .before .before .before .before .before .before .before .before .before .before .before .before .before .before .before .before .before .before .before .before .before .before .before .before .before .before .before .pre .1 .1 .1 .1) }
 
 mul-second : tie.Need-mul-second Inv-loop μ-loop
-mul-second c = record { fits = omega (arith, c .before .before .before .before .before .before .before .before .before .before .before .before .before .before .before .before .before .before .before .before .before .before .loop-test .taken, c .before .before .before .before .before .before .before .before .before .before .before .before .before .before .before .before .before .before .before .before .before .before .before .before .before .before .before .before .before .before .before .before .before .before .before .before .before .before .before .before .before .pre .0 .ready .limits .states) }
+mul-second c = record { fits = omega (arith, c .before .before .before .before .before .before .before .before .before .before .before .before .before .before .before .before .before .before .before .before .before .before .loop-test .taken, c .before .before .before .before .before .before .before .before .before .before .before .before .before .before .before .before .before .before .before .before .before .before .before .before .before .before .before .before .before .before .before .before .before .before .before .before .before .before .before .before .before .before .pre .0 .ready .limits .states) }
 
 add-second : tie.Need-add-second Inv-loop μ-loop
-add-second c = record { fits = omega (arith, c .before .before .before .before .before .before .before .before .before .before .before .before .before .before .before .before .before .before .before .before .before .before .loop-test .taken, c .before .before .before .before .before .before .before .before .before .before .before .before .before .before .before .before .before .before .before .before .before .before .before .before .before .before .before .before .before .before .before .before .before .before .before .before .before .before .before .before .before .pre .0 .ready .limits .states) }
+add-second c = record { fits = omega (arith, c .before .before .before .before .before .before .before .before .before .before .before .before .before .before .before .before .before .before .before .before .before .before .loop-test .taken, c .before .before .before .before .before .before .before .before .before .before .before .before .before .before .before .before .before .before .before .before .before .before .before .before .before .before .before .before .before .before .before .before .before .before .before .before .before .before .before .before .before .before .pre .0 .ready .limits .states) }
 
-open-to-all-requires-2 : tie.Need-open-to-all-requires-2 Inv-loop μ-loop
-open-to-all-requires-2 c κs =
-    (
-      (c .before .before .before .before .before .before .before .before .before .before .before .before .before .before .before .before .before .before .before .before .before .before .before .before .before .before .before .before .before .before .before .before .before .before .before .before .before .before .before .before .before .before .before .before .pre .0 .ready .limits .ceilings, room-all _ _ _ _ (c .before .before .before .before .before .before .before .before .before .before .before .before .before .before .before .before .before .before .before .before .before .before .before .before .before .before .before .before .before .before .before .before .before .before .before .before .before .before .before .before .before .before .before .before .pre .1 .0 .in-form) (c .before .before .before .before .before .before .before .before .before .before .before .before .before .before .before .before .before .before .before .before .before .before .before .before .before .before .before .before .before .before .before .before .before .before .before .before .before .before .before .before .before .before .before .before .pre .1 .0 .limits-table)),
-      (c .before .before .before .before .before .before .before .before .before .before .before .before .before .before .before .before .before .before .before .before .before .before .before .before .before .before .before .before .before .before .before .before .before .before .before .before .before .before .before .before .before .before .before .before .pre .1 .0 .held-by, (c .before .before .before .before .before .before .before .before .before .before .before .before .before .before .before .before .before .state-rules .ensures .tos-room, c .before .before .before .before .before .before .before .before .before .before .before .before .before .before .before .before .before .state-rules .ensures .others-room)),
-    )
+held-to-all-requires : tie.Need-held-to-all-requires Inv-loop μ-loop
+held-to-all-requires c κs = (c .before .before .before .before .before .before .before .before .before .before .before .before .before .before .before .before .before .before .before .before .before .before .before .before .before .before .before .before .before .before .before .before .before .before .before .before .before .before .before .before .before .before .before .before .before .pre .1 .0 .held-by, (c .before .before .before .before .before .before .before .before .before .before .before .before .before .before .before .before .before .state-rules .ensures .tos-room, c .before .before .before .before .before .before .before .before .before .before .before .before .before .before .before .before .before .state-rules .ensures .others-room))
 
 store-requires-2 : tie.Need-store-requires-2 Inv-loop μ-loop
-store-requires-2 c κs = record { room = omega (arith, c .before .before .before .before .before .before .before .before .before .before .before .before .before .before .before .before .before .before .before .before .before .before .before .before .before .before .loop-test .taken, c .before .before .before .before .before .before .store .ensures .long, c .before .before .before .before .before .before .before .before .before .before .before .before .before .before .before .before .before .before .before .before .before .before .before .before .before .before .before .loop .inv .4, c .before .before .before .before .before .before .before .before .before .before .before .before .before .before .before .before .before .before .before .before .before .before .before .before .before .before .before .before .before .before .before .before .before .before .before .before .before .before .before .before .before .before .before .before .before .pre .1 .1 .1 .1) }
+store-requires-2 c κs = record { room = omega (arith, c .before .before .before .before .before .before .before .before .before .before .before .before .before .before .before .before .before .before .before .before .before .before .before .before .before .before .loop-test .taken, c .before .before .before .before .before .before .store .ensures .long, c .before .before .before .before .before .before .before .before .before .before .before .before .before .before .before .before .before .before .before .before .before .before .before .before .before .before .before .loop .inv .4, c .before .before .before .before .before .before .before .before .before .before .before .before .before .before .before .before .before .before .before .before .before .before .before .before .before .before .before .before .before .before .before .before .before .before .before .before .before .before .before .before .before .before .before .before .before .before .pre .1 .1 .1 .1) }
 
 add-i : tie.Need-add-i Inv-loop μ-loop
-add-i c = record { fits = omega (arith, c .before .before .before .before .before .before .before .before .before .before .before .before .before .before .before .before .before .before .before .before .before .before .before .before .before .before .before .before .before .loop-test .taken, c .before .before .before .before .before .before .before .before .before .before .before .before .before .before .before .before .before .before .before .before .before .before .before .before .before .before .before .before .before .before .before .before .before .before .before .before .before .before .before .before .before .before .before .before .before .before .before .before .pre .0 .ready .limits .states) }
+add-i c = record { fits = omega (arith, c .before .before .before .before .before .before .before .before .before .before .before .before .before .before .before .before .before .before .before .before .before .before .before .before .before .before .before .before .before .loop-test .taken, c .before .before .before .before .before .before .before .before .before .before .before .before .before .before .before .before .before .before .before .before .before .before .before .before .before .before .before .before .before .before .before .before .before .before .before .before .before .before .before .before .before .before .before .before .before .before .before .before .before .pre .0 .ready .limits .states) }
 
 loop-less : tie.Need-loop-less Inv-loop μ-loop
 loop-less c = omega (arith, c .before .before .before .before .before .before .before .before .before .before .before .before .before .before .before .before .before .before .before .before .before .before .before .before .before .before .before .before .before .loop-test .taken)
@@ -89,7 +83,7 @@ loop-less c = omega (arith, c .before .before .before .before .before .before .b
 loop-again : tie.Need-loop-again Inv-loop μ-loop
 loop-again c =
     let h = c .before .before .before .before .before .before .before .before .before .before .before .before .before .before .before .before .before .before .before .before .before .before .before .before .before .before .before .before .before .before .loop .inv in (
-      groups-next _ _ _ _ _ _ _ _ _ (c .before .before .before .before .before .before .before .before .before .before .before .before .before .before .before .before .before .before .before .before .before .state-rules .ensures) _ _ _ _ _ _ _ (c .before .before .before .before .before .before .before .before .before .before .before .before .before .before .effect-kind .ensures .0 ∙ ap effect-kind (c .before .before .before .before .before .before .before .before .before .before .before .before .before .before .before .before .state-head .ensures)) (c .before .before .before .before .before .before .before .before .before .before .before .before .before .before .effect-kind .ensures .1) (c .before .before .before .before .before .before .before .before .before .before .open-to-all .ensures) (c .before .before .before .open-to-all2 .ensures) refl (c .before .before .before .before .before .before .before .before .before .store .ensures) refl (c .before .before .store2 .ensures) (h .0),
+      groups-next _ _ _ _ _ _ _ _ _ (c .before .before .before .before .before .before .before .before .before .before .before .before .before .before .before .before .before .before .before .before .before .state-rules .ensures) _ _ _ _ _ _ _ (c .before .before .before .before .before .before .before .before .before .before .before .before .before .before .effect-kind .ensures .0 ∙ ap effect-kind (c .before .before .before .before .before .before .before .before .before .before .before .before .before .before .before .before .state-head .ensures)) (c .before .before .before .before .before .before .before .before .before .before .before .before .before .before .effect-kind .ensures .1) (c .before .before .before .before .before .before .before .before .before .before .open-to-all .ensures) (c .before .before .before .held-to-all .ensures) refl (c .before .before .before .before .before .before .before .before .before .store .ensures) refl (c .before .before .store2 .ensures) (h .0),
       summed-more _ _ (c .before .before .before .before .before .before .before .before .before .before .before .before .before .before .before .before .before .before .before .before .before .before .before .before .before .before .before .before .before .before .loop .i) (c .before .before .before .before .before .before .before .before .before .before .before .before .before .before .before .before .before .before .before .before .before .before .before .before .before .before .before .before .before .before .loop .rules) (c .before .before .before .before .before .before .before .before .before .before .before .before .before .before .before .before .before .before .before .before .before .before .before .before .before .before .before .before .before .before .loop .rows) _ _ _ _ _ (h .1) (c .before .before .before .before .before .before .before .before .before .before .before .before .before .before .before .before .before .before .before .before .before .state-rules .ensures) (few (c .before .before .before .before .before .before .before .before .before .before .before .before .before .before .before .before .before .before .before .before .before)) (c .before .before .before .before .before .before .before .before .before .before .before .before .before .before .before .before .state-head .ensures) (c .before .before .before .before .before .before .before .before .before .before .before .before .before .before .before .row-total .ensures .0) (c .before .before .before .before .before .before .before .before .before .before .before .before .before .before .before .row-total .ensures .1),
       walk-next _ _ _ _ _ _ _ _ _ (h .2) _ _ _ _ (c .before .before .before .before .before .before .before .before .before .before .before .before .before .before .before .before .before .before .before .before .before .before .before .before .before .before .before .turn-to .ensures .0) (c .before .before .before .before .before .before .before .before .before .before .before .before .before .before .before .before .before .before .before .before .before .before .before .before .before .before .before .turn-to .kept .1 .1 .1 .0) (c .before .before .before .before .before .before .before .before .before .before .before .before .before .before .before .before .before .before .before .before .before .state-rules .kept .1 .1 .1 .1 .1 .1 .1 .1 .1 .1 .1 .1 .1 .1 .0) (c .before .before .before .before .before .before .before .before .before .before .before .before .before .before .before .before .before .before .before .before .before .state-rules .kept .1 .1 .1 .1 .1 .1 .1 .1 .1 .1 .1 .1 .1 .1 .1 .0),
       omega (arith, c .before .before .before .before .before .before .before .before .before .before .before .before .before .before .before .before .before .before .before .before .before .before .before .before .before .before .before .before .before .loop-test .taken),
@@ -112,7 +106,7 @@ returns : tie.Need-returns Inv-loop μ-loop
 unfolding tables entries columns
 returns c =
     let h = c .before .loop .inv in
-    (h .2 .entered, (groups-all _ _ _ _ _ _ (c .loop-test .left) (h .0), summed-all _ _ (c .before .loop .i) (c .before .loop .rules) (c .before .loop .rows) (h .1) (omega (arith, h .3, c .loop-test .left)) (omega (arith, h .3, c .before .before .before .before .before .before .before .before .before .before .before .before .before .before .before .before .before .before .before .pre .0 .ready .limits .states))))
+    (h .2 .entered, (groups-all _ _ _ _ _ _ (c .loop-test .left) (h .0), summed-all _ _ (c .before .loop .i) (c .before .loop .rules) (c .before .loop .rows) (h .1) (omega (arith, h .3, c .loop-test .left)) (omega (arith, h .3, c .before .before .before .before .before .before .before .before .before .before .before .before .before .before .before .before .before .before .before .before .pre .0 .ready .limits .states))))
 
 pub fill-groups-spec : {M : Type 1} → statement M
 fill-groups-spec =
@@ -120,6 +114,7 @@ fill-groups-spec =
     (tie.spec
     Inv-loop
     μ-loop
+    is-boundless-requires
     loop-holds
     turn-to-requires
     state-rules-requires
@@ -133,7 +128,7 @@ fill-groups-spec =
     store-requires
     mul-second
     add-second
-    open-to-all-requires-2
+    held-to-all-requires
     store-requires-2
     add-i
     loop-less

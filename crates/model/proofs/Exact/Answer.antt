@@ -9,7 +9,7 @@ use lib.ListN.{replicate}
 use lib.Dec.{T, leb, ltb}
 use Rattle.model.specs.declared.Sizes.{Sizes}
 use Rattle.model.specs.declared.Verdict.{Verdict}
-use Rattle.model.specs.declared.Verdict.the-variants.{Safe, Length, Size, Row, Name, Scope, Bad, Entry, Open, Counters, Ceiling, Start, Met, Leak, Space}
+use Rattle.model.specs.declared.Verdict.the-variants.{Safe, Length, Size, Row, Name, Scope, Bad, Entry, Open, Counters, Ceiling, Start, Met, Leak, Space, FunctionMailed}
 use Rattle.model.specs.Limits.{Limits}
 use Rattle.model.specs.Words.{Columns}
 use Rattle.model.specs.Verdict.{Check, _>>_, unless, number}
@@ -18,7 +18,7 @@ use Rattle.model.specs.Reader.{first-wrong}
 use Rattle.model.specs.Rows.{Program, step, whole, row-check}
 use Rattle.model.specs.Scopes.{name-check, scope-check}
 use Rattle.model.specs.Bads.{bad, bad-step, bad-rows, bad-check}
-use Rattle.model.specs.Tables.{Tables, list-check, entry-check}
+use Rattle.model.specs.Tables.{Tables, list-check, entry-check, mailed-check}
 use Rattle.model.specs.Closed.{open-check}
 use Rattle.model.specs.Counters.{counter-check}
 use Rattle.model.specs.Listing.{space-check}
@@ -97,6 +97,10 @@ pub open-refuses : (s : Sizes) (p : Program) (t : Tables) → Refuses (open-chec
 unfolding open-check number
 open-refuses s p t = then-refuses _ _ (unless-refuses _ (Open _) tt) (unless-refuses _ (Open _) tt)
 
+pub mailed-refuses : (s : Sizes) (p : Program) (t : Tables) → Refuses (mailed-check s p t)
+unfolding mailed-check number
+mailed-refuses s p t = unless-refuses _ (FunctionMailed _) tt
+
 pub counter-refuses : (most : Limits) (s : Sizes) (p : Program) (t : Tables) → Refuses (counter-check most s p t)
 unfolding counter-check number
 counter-refuses most s p t = unless-refuses _ (Counters _) tt
@@ -105,7 +109,8 @@ evidence-refuses : (most : Limits) (m : Message) → Refuses (evidence-check mos
 unfolding evidence-check
 evidence-refuses most m =
     then-refuses _ _ (bad-refuses _ _ _)
-    (then-refuses _ _ (entry-refuses _ _ _) (then-refuses _ _ (open-refuses _ _ _) (counter-refuses _ _ _ _)))
+    (then-refuses _ _ (entry-refuses _ _ _)
+    (then-refuses _ _ (open-refuses _ _ _) (then-refuses _ _ (mailed-refuses _ _ _) (counter-refuses _ _ _ _))))
 
 pub ceiling-refuses : (ws : List ℕ) (s : Sizes) (counters : ℕ) → Refuses (ceiling-check ws s counters)
 unfolding ceiling-check number

@@ -1,4 +1,4 @@
--- Refusals 6, 7 and 10: nothing is refused exactly where the bads, the tables and the ceilings are in form.
+-- Refusals 6, 7, 22 and 10: nothing is refused exactly where the bads, the tables and the ceilings are in form, and where no function is mailed.
 use Prim.Native.Nat.{ℕ, zero, suc, _+_, _-_, _<_}
 use native.Mathlib.Decide.{ℕ-discrete}
 use native.Mathlib.Omega.{arith}
@@ -6,23 +6,24 @@ use mathlib.Core.Path.{_≡_, sym, subst}
 use mathlib.Core.Bool.{Bool, true, false, not, _&&_}
 use mathlib.Core.Logic.{_↔_, Iff·trans, Iff·rfl, _⊎_, inl, inr, ⊎-elim}
 use mathlib.Core.List.{List}
-use mathlib.Core.Option.{none, map-eq-none-iff}
+use mathlib.Core.Option.{some, none, map-eq-none-iff}
 use lib.ListN.{replicate}
 use lib.Dec.{ltb, eqb}
 use Rattle.model.specs.declared.Sizes.{Sizes}
-use Rattle.model.specs.declared.Verdict.the-variants.{Bad, Ceiling}
+use Rattle.model.specs.declared.Verdict.{Verdict}
+use Rattle.model.specs.declared.Verdict.the-variants.{Bad, Ceiling, FunctionMailed}
 use Rattle.model.specs.Words.{Columns, left, right}
-use Rattle.model.specs.Message.{bads-at, ceilings-at}
+use Rattle.model.specs.Message.{bads-at, tables-at, ceilings-at}
 use Rattle.model.specs.Reader.{first-wrong}
 use Rattle.model.specs.Rows.{Program, tag, is-head, is-name}
-use Rattle.model.specs.Heads.{is-class}
+use Rattle.model.specs.Heads.{is-function, is-class}
 use Rattle.model.specs.Bads.{bad, bad-step, bad-rows, bad-check}
-use Rattle.model.specs.Tables.{Tables, is-value, ascends, first-misplaced, list-check, entry-check}
+use Rattle.model.specs.Tables.{Tables, is-value, ascends, first-misplaced, list-check, entry-check, mailed-check}
 use Rattle.model.specs.Ceilings.{ceiling-entries, ceiling-step, ceilings-ahead, ceiling-check}
-use Rattle.model.specs.Demands.{Pair-below, Listed}
-use Rattle.model.specs.Refusals.{Placed}
-use Rattle.model.proofs.Exact.Tests.{ltb-iff, eqb-iff, not-iff, and-iff, or-iff}
-use Rattle.model.proofs.Exact.Checks.{then-iff, first-none}
+use Rattle.model.specs.Demands.{Pair-below, Listed, Mails-function, Mails-no-function}
+use Rattle.model.specs.Refusals.{First-such, Placed}
+use Rattle.model.proofs.Exact.Tests.{ltb-iff, eqb-iff, not-iff, fails-iff, and-iff, or-iff}
+use Rattle.model.proofs.Exact.Checks.{then-iff, first-none, first-some}
 
 below-trans : (a b a′ b′ a″ b″ : ℕ) → Pair-below a b a′ b′ → Pair-below a′ b′ a″ b″ → Pair-below a b a″ b″
 below-trans a b a′ b′ a″ b″ (inl x) (inl y) = inl (omega arith)
@@ -79,6 +80,19 @@ unfolding entry-check
 entry-none s p t =
     then-iff _ _ (list-none (t .flow) (is-name p) (is-value p) _)
     (then-iff _ _ (list-none (t .mail) (is-class p) (is-value p) _) (list-none (t .states) (is-class p) (λ r. is-head (tag p r)) _))
+
+-- 22: the value of a mail entry is a function
+pub mails-iff : (p : Program) (t : Tables) (i : ℕ) → (is-function p (right (t .mail) i) ≡ true) ↔ Mails-function p t i
+unfolding is-function
+mails-iff p t i = let a : ℕ = tag p (right (t .mail) i) in or-iff (eqb a 3) (eqb a 11) (eqb-iff a 3) (eqb-iff a 11)
+
+pub mailed-none : (s : Sizes) (p : Program) (t : Tables) → (mailed-check s p t ≡ none) ↔ Mails-no-function p t
+unfolding mailed-check
+mailed-none s p t = first-none (t .mail .size) _ _ (λ i b. fails-iff _ (mails-iff p t i))
+
+pub mailed-some : (s : Sizes) (p : Program) (t : Tables) (v : Verdict) → (mailed-check s p t ≡ some v) ↔ ((i : ℕ) × First-such (t .mail .size) (Mails-function p t) i × (FunctionMailed (tables-at s + 3 + s .flows + i) ≡ v))
+unfolding mailed-check
+mailed-some s p t v = first-some (t .mail .size) _ (λ i b. mails-iff p t i) (λ i. FunctionMailed (tables-at s + 3 + s .flows + i)) v
 
 pub bad-none : (ws : List ℕ) (s : Sizes) (p : Program) → (bad-check ws s p ≡ none) ↔ (first-wrong (bad-step p) (bad-rows ws s) (replicate (s .bads) bad) ≡ none)
 unfolding bad-check

@@ -41,11 +41,11 @@ module _ (p : Program) where
   abbrev pub Scoped : Type 0
   Scoped = (r : ℕ) → r < size p → In-scope r
 
-  binds-row : (n b : ℕ) → Binds n b → (binds (tag p b) ≡ true) × (num p b ≡ n)
+  pub binds-row : (n b : ℕ) → Binds n b → (binds (tag p b) ≡ true) × (num p b ≡ n)
   unfolding binds-name
   binds-row n b h = (and-left (binds (tag p b)) (eqb (num p b) n) h, eqb-true (num p b) n (and-right (binds (tag p b)) (eqb (num p b) n) h))
 
-  row-binds : (n b : ℕ) → binds (tag p b) ≡ true → num p b ≡ n → Binds n b
+  pub row-binds : (n b : ℕ) → binds (tag p b) ≡ true → num p b ≡ n → Binds n b
   unfolding binds-name
   row-binds n b h e = and-intro (binds (tag p b)) (eqb (num p b) n) h (eq-eqb (num p b) n e)
 

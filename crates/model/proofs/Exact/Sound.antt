@@ -19,22 +19,23 @@ use Rattle.model.specs.Rules.{rules}
 use Rattle.model.specs.Listing.{system-words, space-check}
 use Rattle.model.specs.Ceilings.{ceilings-of, start-check, met-check, leak-check}
 use Rattle.model.specs.Verify.{Message, message, evidence-check, ceilings-check, message-check, check}
-use Rattle.model.specs.Demands.{Bytes, Within-limits, Well-formed, In-form, Inductive, Safe-exactly}
+use Rattle.model.specs.Demands.{Bytes, Within-limits, Well-formed, In-form, Mails-no-function, Inductive, Safe-exactly}
 use Rattle.model.proofs.Exact.Tests.{leb-iff}
 use Rattle.model.proofs.Exact.Checks.{then-iff, unless-iff}
 use Rattle.model.proofs.Exact.Answer.{verdict-safe}
 use Rattle.model.proofs.Exact.Parts.{parts-none}
 use Rattle.model.proofs.Exact.Names.{program-none}
-use Rattle.model.proofs.Exact.Entries.{entry-none, bad-none, ceiling-none}
+use Rattle.model.proofs.Exact.Entries.{entry-none, mailed-none, bad-none, ceiling-none}
 use Rattle.model.proofs.Exact.Closed.{open-none}
 
--- what refusals 1 to 10 leave
+-- what refusals 1 to 10 and 22 leave
 pub record Formed (most : Limits) (bytes : List ℕ) : Type 0 where
   pub whole : length bytes ≡ 2 * end-at (message bytes .sizes)
   pub limits : Within-limits most (message bytes .sizes)
   pub program : Well-formed (message bytes .program)
   pub form : In-form (message bytes)
   pub closed : Closed (message bytes .program) (message bytes .tables)
+  pub mailed : Mails-no-function (message bytes .program) (message bytes .tables)
   pub counters : counter-count (message bytes .program) (message bytes .tables) ≤ most .counters
 
 -- refusals 11 to 13
@@ -57,16 +58,18 @@ check-none most bytes lent =
     (then-iff _ _
     (then-iff _ _ (bad-none ws s p)
     (then-iff _ _ (entry-none s p t)
-    (then-iff _ _ (open-none ws s t) (unless-iff _ _ (leb-iff (counter-count p t) (most .counters))))))
+    (then-iff _ _ (open-none ws s t)
+    (then-iff _ _ (mailed-none s p t) (unless-iff _ _ (leb-iff (counter-count p t) (most .counters)))))))
     (then-iff _ _ (then-iff _ _ (ceiling-none ws s (counter-count p t)) Iff·rfl)
     (unless-iff _ _ (leb-iff (length (system-words p t)) lent)))))) (
-      λ h. let ((whole, limits), (well, ((bads, ((flow, (mail, states)), (closed, counters))), ((ceiling, tests), space)))) = h in (
+      λ h. let ((whole, limits), (well, ((bads, ((flow, (mail, states)), (closed, (mailed, counters)))), ((ceiling, tests), space)))) = h in (
         record {
           whole = whole;
           limits = limits;
           program = well;
           form = record { bads = bads; flow = flow; mail = mail; states = states; ceilings = ceiling };
           closed = closed;
+          mailed = mailed;
           counters = counters;
         },
         (tests, space),
@@ -74,7 +77,7 @@ check-none most bytes lent =
       λ h. let (k, (tests, space)) = h in
           let f = k .form in (
             (k .whole, k .limits),
-            (k .program, ((f .bads, ((f .flow, (f .mail, f .states)), (k .closed, k .counters))), ((f .ceilings, tests), space))),
+            (k .program, ((f .bads, ((f .flow, (f .mail, f .states)), (k .closed, (k .mailed, k .counters)))), ((f .ceilings, tests), space))),
           ),
     )
   where
@@ -102,10 +105,11 @@ safe-exactly exact most bytes lent b =
             program = k .program;
             form = k .form;
             closed = k .closed;
+            mailed = k .mailed;
             counters = k .counters;
             bounded = exact most bytes b k .0 tests;
             space = space;
           },
-      λ h. let k : Formed most bytes = record { whole = h .whole; limits = h .limits; program = h .program; form = h .form; closed = h .closed; counters = h .counters } in
+      λ h. let k : Formed most bytes = record { whole = h .whole; limits = h .limits; program = h .program; form = h .form; closed = h .closed; mailed = h .mailed; counters = h .counters } in
           (k, (exact most bytes b k .1 (h .bounded), h .space)),
     ))

@@ -8,6 +8,7 @@ use mathlib.Core.Logic.{⊎-elim}
 use native.Mathlib.Decide.{ℕ-discrete}
 use Rattle.model.specs.Limits.{maxDepth}
 use Rattle.model.specs.Rows.{Program, tag, num, is-head, Item, expression, pattern, branch, branch-items, step}
+use Rattle.model.specs.Scopes.{binds}
 use Rattle.model.specs.Heads.{cases, receives, head-at, branch-rows, branch-body, is-function}
 use Rattle.model.proofs.Heads.{head-case, head-receive}
 use Rattle.model.proofs.Parse.Spans.{spans-past, spans-range}
@@ -17,7 +18,7 @@ use Rattle.model.proofs.Parse.Heads.{known-kind, known-tag}
 use Rattle.model.proofs.Parse.Locations.{Location, location-follows}
 use Rattle.model.proofs.Parse.Functions.{Enclosed, stands-enclosed, enclosed-append}
 
--- the branches of the head at row r stand from row `from` up to row e; no function's row is before them, and no head's
+-- the branches of the head at row r stand from row `from` up to row e; no function's row is before them, no head's, and none that binds a name
 pub record Branches (p : Program) (r : ℕ) (qs : List ℕ) (below : List Item) (e : ℕ) : Type 0 where
   pub count : ℕ
   pub from : ℕ
@@ -26,6 +27,7 @@ pub record Branches (p : Program) (r : ℕ) (qs : List ℕ) (below : List Item) 
   pub behind : r < from
   pub no-function : (f : ℕ) → r ≤ f → f < from → is-function p f ≡ false
   pub no-head : (f : ℕ) → r < f → f < from → is-head (tag p f) ≡ false
+  pub no-name : (f : ℕ) → r ≤ f → f < from → binds (tag p f) ≡ false
 
 -- the branch whose pattern stands at row q, among branches that stand from row s up to row e
 pub record Branch (p : Program) (s q e : ℕ) : Type 0 where
@@ -94,7 +96,7 @@ module _ {p : Program} where
 
   -- the branches of a case, and of a receive
   pub case-branches : {r n : ℕ} {qs : List ℕ} (l : Location p r) → head-at p r ≡ cases n qs → Branches p r qs (l .below) (l .end)
-  unfolding is-function is-head step
+  unfolding is-function is-head binds step
   case-branches {r} {n} {qs} l h =
       let k = known-kind p r (cases n qs) h in
       let t : tag p r ≡ 8 = known-tag p r (cases n qs) h (omega arith) in
@@ -112,10 +114,14 @@ module _ {p : Program} where
         behind = omega arith;
         no-function = λ f lo hi. elim (ℕ-discrete f r) [ yes z ↦ ap (is-function p) z ∙ a | no z ↦ ap (is-function p) (only-next lo z hi) ∙ b ];
         no-head = λ f lo hi. let z : f ≡ r + 1 = omega arith in ap (λ x. is-head (tag p x)) z ∙ ap is-head t′;
+        no-name = λ f lo hi. elim (ℕ-discrete f r) [
+          | yes z ↦ ap (λ x. binds (tag p x)) z ∙ ap binds t
+          | no z ↦ ap (λ x. binds (tag p x)) (only-next lo z hi) ∙ ap binds t′
+        ];
       }
 
   pub receive-branches : {r : ℕ} {qs : List ℕ} (l : Location p r) → head-at p r ≡ receives qs → Branches p r qs (l .below) (l .end)
-  unfolding is-function
+  unfolding is-function binds
   receive-branches {r} {qs} l h =
       let k = known-kind p r (receives qs) h in
       let t : tag p r ≡ 9 = known-tag p r (receives qs) h (omega arith) in
@@ -129,4 +135,5 @@ module _ {p : Program} where
         behind = omega arith;
         no-function = λ f lo hi. let z : f ≡ r = omega arith in ap (is-function p) z ∙ a;
         no-head = λ f lo hi. absurd (omega arith);
+        no-name = λ f lo hi. let z : f ≡ r = omega arith in ap (λ x. binds (tag p x)) z ∙ ap binds t;
       }

@@ -87,7 +87,7 @@ module _ (p : Program) where
         same,
       )
 
-  pattern-tag : (d t n : ℕ) (more : List Item) → step p (pattern d) t n ≡ some more → 30 ≤ t
+  pub pattern-tag : (d t n : ℕ) (more : List Item) → step p (pattern d) t n ≡ some more → 30 ≤ t
   pattern-tag d t n more h =
       test (eqb t 31) (λ e. let z = eqb-true t 31 e in omega arith)
       (λ e. ⊎-elim (λ z. omega arith) (⊎-elim (λ z. omega arith) (λ z. omega arith)) (pattern-leaf d t n more e h .1))

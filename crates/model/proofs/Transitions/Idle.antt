@@ -12,7 +12,7 @@ use Rattle.model.specs.Heads.{Head}
 use Rattle.model.specs.Heads.{gives, builds, makes, calls, sends, spawns, selfs, cases, receives, no-head}
 use Rattle.model.specs.Values.{Value, address, bind, value-of, values-of, Process, Processes, process-of}
 use Rattle.model.specs.Run.{_>>=_, moved, function-of, deliver, give-back, act, step-of}
-use Rattle.model.specs.Transitions.{Acting, read-at, No-step, no-process, ended, no-target, not-callable, not-spawnable, no-match, waits, holds-nothing, nowhere}
+use Rattle.model.specs.Transitions.{Acting, read-at, Stays, No-step, with-reason, no-process, ended, no-target, not-callable, not-spawnable, no-match, waits, holds-nothing, nowhere}
 use Rattle.model.proofs.Transitions.Exactly.{has-none}
 use Rattle.model.proofs.Transitions.Names.{value-exactly}
 use Rattle.model.proofs.Transitions.Callees.{address-exactly}
@@ -73,19 +73,23 @@ module _ {p : Program} {qs : Processes} {i : ℕ} where
   unfolding step-of
   stays a e = rw (a .there, step-of, e)
 
-  pub idle : No-step p qs i → step-of p qs i ≡ none
+  pub reason-idle : Stays p qs i → step-of p qs i ≡ none
   unfolding step-of act _>>=_ give-back
-  idle (no-process h) = rw (past-none qs i h, step-of)
-  idle (ended {q = q} {n = n} a z) =
+  reason-idle (no-process h) = rw (past-none qs i h, step-of)
+  reason-idle (ended {q = q} {n = n} a z) =
       stays a (rw (a .head, act) (then-nothing (value-of p (q .held) n) _ (λ v e. rw z)))
-  idle (no-target {q = q} {n = n} {t = t} {m = m} {r = r} {v = v} a k h) =
+  reason-idle (no-target {q = q} {n = n} {t = t} {m = m} {r = r} {v = v} a k h) =
       stays a (rw (a .head, act, value-exactly p t (q .held) .gives v k) (unsent p qs i q n m r v h))
-  idle (not-callable {q = q} {call = call} {v = v} a k h) =
+  reason-idle (not-callable {q = q} {call = call} {v = v} a k h) =
       stays a (rw (a .head, act, value-exactly p (call .callee) (q .held) .gives v k, no-function p (call .count) v h))
-  idle (not-spawnable {q = q} {g = g} {v = v} a k h) =
+  reason-idle (not-spawnable {q = q} {g = g} {v = v} a k h) =
       stays a (rw (a .head, act, value-exactly p g (q .held) .gives v k, no-function p 0 v h))
-  idle (no-match {q = q} {n = n} {branches = bs} {v = v} a k h) =
+  reason-idle (no-match {q = q} {n = n} {branches = bs} {v = v} a k h) =
       stays a (rw (a .head, act, value-exactly p n (q .held) .gives v k, branches-none p (q .held) v bs h))
-  idle (waits {q = q} {branches = bs} a h) = stays a (rw (a .head, act, messages-none p (q .held) bs (q .mailbox) h))
+  reason-idle (waits {q = q} {branches = bs} a h) = stays a (rw (a .head, act, messages-none p (q .held) bs (q .mailbox) h))
+
+  pub idle : No-step p qs i → step-of p qs i ≡ none
+  unfolding act
+  idle (with-reason s) = reason-idle s
   idle (holds-nothing {q = q} {h = h} {n = n} a there k) = stays a (act-nothing p qs i q h n a there k)
   idle (nowhere a) = stays a (rw (a .head, act))

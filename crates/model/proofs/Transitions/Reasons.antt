@@ -11,7 +11,7 @@ use Rattle.model.specs.Heads.{gives, builds, makes, calls, sends, spawns
 use Rattle.model.specs.Values.{Value, address, Bindings, bind, value-of, values-of, Frame, Process, process, Processes, process-of}
 use Rattle.model.specs.Matching.{first-branch, receive-from}
 use Rattle.model.specs.Run.{_>>=_, give-back, moved, function-of, act, step-of}
-use Rattle.model.specs.Transitions.{Acting, No-step, no-process, ended, no-target, not-callable, not-spawnable, no-match, waits, holds-nothing, nowhere}
+use Rattle.model.specs.Transitions.{Acting, No-step, with-reason, no-process, ended, no-target, not-callable, not-spawnable, no-match, waits, holds-nothing, nowhere}
 use Rattle.model.proofs.Reader.{by-option}
 use Rattle.model.proofs.Transitions.Exactly.{gives-none}
 use Rattle.model.proofs.Transitions.Names.{value-exactly}
@@ -28,7 +28,7 @@ past-end qs v k e l j b z =
 module _ {p : Program} {qs : Processes} {i : ℕ} where
   give-reason : (c at n : ℕ) (held : Bindings) (frames : List Frame) (mailbox : List Value) → Acting p qs i (process c at held frames mailbox) (gives n) → act p qs i (process c at held frames mailbox) ≡ none → No-step p qs i
   unfolding act give-back _>>=_
-  give-reason c at n held [] mailbox a h = ended a refl
+  give-reason c at n held [] mailbox a h = with-reason (ended a refl)
   give-reason c at n held (f ∷ frames) mailbox a h =
       then-none (value-of p held n) _ (rw (a .head, act) at h)
       (λ e. holds-nothing a (List·Memᴰ·head refl) (gives-none (value-exactly p n held) e))
@@ -48,7 +48,7 @@ module _ {p : Program} {qs : Processes} {i : ℕ} where
         then-none (value-of p (q .held) (call .callee)) _ (rw (a .head, act) at h)
         (λ e. holds-nothing a (List·Memᴰ·head refl) (gives-none (value-exactly p (call .callee) (q .held)) e))
         (λ v e z. then-none (function-of p (call .count) v) _ z
-        (λ f. not-callable a (value-exactly p (call .callee) (q .held) .has v e) (not-function p (call .count) v f))
+        (λ f. with-reason (not-callable a (value-exactly p (call .callee) (q .held) .has v e) (not-function p (call .count) v f)))
         (λ g f y. then-none (values-of p (q .held) (call .arguments)) _ y
         (λ d. let (m, there, empty-name) = one-nothing p (q .held) (call .arguments) d in holds-nothing a (List·Memᴰ·tail there) empty-name)
         (λ vs d x. absurd (Option·some-ne-none _ x))))
@@ -59,7 +59,7 @@ module _ {p : Program} {qs : Processes} {i : ℕ} where
         then-none (value-of p (q .held) g) _ (rw (a .head, act) at h)
         (λ e. holds-nothing a (List·Memᴰ·head refl) (gives-none (value-exactly p g (q .held)) e))
         (λ v e z. then-none (function-of p 0 v) _ z
-        (λ f. not-spawnable a (value-exactly p g (q .held) .has v e) (not-function p 0 v f))
+        (λ f. with-reason (not-spawnable a (value-exactly p g (q .held) .has v e) (not-function p 0 v f)))
         (λ g f y. absurd (Option·some-ne-none _ y)))
 
     send-reason : (n t m r : ℕ) → Acting p qs i q (sends n t m r) → act p qs i q ≡ none → No-step p qs i
@@ -70,13 +70,13 @@ module _ {p : Program} {qs : Processes} {i : ℕ} where
         (λ v e z.
         let target = value-exactly p t (q .held) .has v e in
         then-none (process-of v) _ z
-        (λ f. no-target a target (λ j b. gives-none (address-exactly v) f j))
+        (λ f. with-reason (no-target a target (λ j b. gives-none (address-exactly v) f j)))
         (λ k f y. then-none (value-of p (q .held) m) _ y
         (λ d. holds-nothing a (List·Memᴰ·tail (List·Memᴰ·head refl)) (gives-none (value-exactly p m (q .held)) d))
         (λ w d x.
         let moved-on = moved q r (bind n w (q .held)) in
         let l = no-delivery (set qs i moved-on) k w x in
-        no-target a target (past-end qs v k f (rw (length-set qs i moved-on) at l)))))
+        with-reason (no-target a target (past-end qs v k f (rw (length-set qs i moved-on) at l))))))
 
     case-reason : (n : ℕ) (bs : List ℕ) → Acting p qs i q (cases n bs) → act p qs i q ≡ none → No-step p qs i
     unfolding act
@@ -84,14 +84,14 @@ module _ {p : Program} {qs : Processes} {i : ℕ} where
         then-none (value-of p (q .held) n) _ (rw (a .head, act) at h)
         (λ e. holds-nothing a (List·Memᴰ·head refl) (gives-none (value-exactly p n (q .held)) e))
         (λ v e z. then-none (first-branch p (q .held) bs v) _ z
-        (λ f. no-match a (value-exactly p n (q .held) .has v e) (branch-refused p (q .held) v bs f))
+        (λ f. with-reason (no-match a (value-exactly p n (q .held) .has v e) (branch-refused p (q .held) v bs f)))
         (λ t f y. absurd (Option·some-ne-none _ y)))
 
     receive-reason : (bs : List ℕ) → Acting p qs i q (receives bs) → act p qs i q ≡ none → No-step p qs i
     unfolding act
     receive-reason bs a h =
         then-none (receive-from p (q .held) bs (q .mailbox)) _ (rw (a .head, act) at h)
-        (λ e. waits a (messages-refused p (q .held) bs (q .mailbox) e))
+        (λ e. with-reason (waits a (messages-refused p (q .held) bs (q .mailbox) e)))
         (λ m e z. absurd (Option·some-ne-none _ z))
 
     -- a function and the own address are always yielded
@@ -118,5 +118,5 @@ module _ {p : Program} {qs : Processes} {i : ℕ} where
 pub reason : (p : Program) (qs : Processes) (i : ℕ) → step-of p qs i ≡ none → No-step p qs i
 unfolding step-of
 reason p qs i h =
-    by-option (getElem? qs i) (λ e. no-process (none-past qs i e))
+    by-option (getElem? qs i) (λ e. with-reason (no-process (none-past qs i e)))
     (λ q e. by-head (head-at p (q .location)) (record { there = e; head = refl }) (rw (e, step-of) at h))

@@ -16,15 +16,16 @@ use Rattle.model.specs.Counters.{counter-count, counter-check}
 use Rattle.model.specs.Ceilings.{ceiling-check}
 use Rattle.model.specs.Limits.{present, maxCounters}
 use Rattle.model.specs.Verify.{message-check, answer}
-use Rattle.model.proofs.Exact.Answer.{row-refuses, name-refuses, bad-refuses, entry-refuses, open-refuses, counter-refuses, ceiling-refuses}
+use Rattle.model.proofs.Exact.Answer.{row-refuses, name-refuses, bad-refuses, entry-refuses, open-refuses, ceiling-refuses}
 use Rattle.model.proofs.Exact.Entries.{bad-none, ceiling-none}
-use Rattle.model.proofs.Exact.Checks.{then-none}
 use Rattle.answers.proofs.Passing.{passed, safe-only}
 use Rattle.rooms.specs.Rooms.{row-room}
 use Rattle.lists.specs.Ready.{Ready}
 use Rattle.positions.specs.Positions.{Ends, Owners}
 use Rattle.rules.specs.Derived.{Rule-tables}
-use Rattle.checks.specs.Order.{taken, under-ceilings, from-3, from-4, from-5, from-6, from-7, from-8, from-9, from-10, from-11, from-14}
+use Rattle.mailed.specs.Mailed.{mailed-then-counters}
+use Rattle.mailed.proofs.Mailing.{then-counters-refuse, counters-fit}
+use Rattle.checks.specs.Order.{taken, under-ceilings, from-3, from-4, from-5, from-6, from-7, from-8, from-22, from-10, from-11, from-14}
 use Rattle.checks.proofs.Answering.{in-order, goes-by, ends-with, scopes-refuse, under-refuses, ceiling-told, ceilings-told}
 use Rattle.checks.proofs.Laying.{program-passes, ready, ceilings-whole, few, few-counters, ends, owners}
 use borrow.Author.Needs.{needs}
@@ -219,23 +220,23 @@ slice-aggregate-fill-letters-2 c = search needs
 closed-pass : (c : tie.Else6) → Passes (c .before .before .before .before .before .before .before .before .before .before .before .before .before .before .before .before .before .before .before .before .before .before .before .before .before .before .before .before .before .before .before .before .before .before .before .before .before .before .before .before .before .before .before .before .before .before) (λ ws s. open-check s (program ws s) (tables ws s))
 closed-pass c = passed _ _ _ (open-refuses _ _ _) (c .before .before .before .before .before .before .open-verdict .ensures .0) (c .before .is-safe6 .ensures) (not-false _ (c .if6 .left))
 
-goes-9 : (c : tie.Else6) → Goes (c .before .before .before .before .before .before .before .before .before .before .before .before .before .before .before .before .before .before .before .before .before .before .before .before .before .before .before .before .before .before .before .before .before .before .before .before .before .before .before .before .before .before .before .before .before .before) from-9
+goes-22 : (c : tie.Else6) → Goes (c .before .before .before .before .before .before .before .before .before .before .before .before .before .before .before .before .before .before .before .before .before .before .before .before .before .before .before .before .before .before .before .before .before .before .before .before .before .before .before .before .before .before .before .before .before .before) from-22
 unfolding from-8
-goes-9 c = goes-by _ _ _ (goes-8 (c .before .before .before .before .before .before .before .before .before .before .before .before .before .before .before .before .before .before .before)) (closed-pass c)
+goes-22 c = goes-by _ _ _ (goes-8 (c .before .before .before .before .before .before .before .before .before .before .before .before .before .before .before .before .before .before .before)) (closed-pass c)
 
 fill-letters-requires : tie.Need-fill-letters-requires
 fill-letters-requires c κs =
     let r = c .before .before .before .before .before .before .before .before .before .before .before .before .before .before .before .before .before .before .before .before .before .before .before .before .before .before .before .before .before .before .before .before .before .before .before .before .before .before .before .before .before .before .before .before .before .before .before .before .before .before .pre .0 .limits in
     (all-ready (c .before .before .before .before .before .before .before .before .before .before .before .before .before .before .before .before .before .before .before .before .before .before .before), (omega (arith, r .rows .1, c .before .before .before .row-words165 .ensures .room), omega (arith, r .mails, c .before .before .words16-5122 .ensures .room)))
 
-slice-aggregate-counter-check : tie.Need-slice-aggregate-counter-check
-slice-aggregate-counter-check c = search needs
+slice-aggregate-counters-verdict : tie.Need-slice-aggregate-counters-verdict
+slice-aggregate-counters-verdict c = search needs
 
-slice-aggregate-counter-check-2 : tie.Need-slice-aggregate-counter-check-2
-slice-aggregate-counter-check-2 c = search needs
+slice-aggregate-counters-verdict-2 : tie.Need-slice-aggregate-counters-verdict-2
+slice-aggregate-counters-verdict-2 c = search needs
 
-counter-check-requires : tie.Need-counter-check-requires
-counter-check-requires c κs = (all-ready (c .before .before .before .before .before .before .before .before .before .before .before .before .before .before .before .before .before .before .before .before .before .before .before .before .before .before .before .before), c .before .before .before .before .fill-letters .ensures)
+counters-verdict-requires : tie.Need-counters-verdict-requires
+counters-verdict-requires c κs = (all-ready (c .before .before .before .before .before .before .before .before .before .before .before .before .before .before .before .before .before .before .before .before .before .before .before .before .before .before .before .before), c .before .before .before .before .fill-letters .ensures)
 
 is-safe-requires-7 : tie.Need-is-safe-requires-7
 is-safe-requires-7 c κs = search needs
@@ -244,8 +245,8 @@ same-length-2 : tie.Need-same-length-2
 same-length-2 c = search needs
 
 returns-7 : tie.Need-returns-7
-unfolding from-9
-returns-7 c = ends-with _ _ _ _ _ _ _ _ (goes-9 (c .before .before .before .before .before .before .before .before .before .before .before .before)) (c .before .before .counter-check .ensures) (c .before .is-safe7 .ensures) (not-true _ (c .if7 .taken))
+unfolding from-22
+returns-7 c = ends-with _ _ _ _ _ _ _ _ (goes-22 (c .before .before .before .before .before .before .before .before .before .before .before .before)) (c .before .before .counters-verdict .ensures) (c .before .is-safe7 .ensures) (not-true _ (c .if7 .taken))
 
 slice-aggregate-counter-count : tie.Need-slice-aggregate-counter-count
 slice-aggregate-counter-count c = search needs
@@ -253,12 +254,15 @@ slice-aggregate-counter-count c = search needs
 slice-aggregate-counter-count-2 : tie.Need-slice-aggregate-counter-count-2
 slice-aggregate-counter-count-2 c = search needs
 
+both-pass : (c : tie.Else7) → Passes (c .before .before .before .before .before .before .before .before .before .before .before .before .before .before .before .before .before .before .before .before .before .before .before .before .before .before .before .before .before .before .before .before .before .before .before .before .before .before .before .before .before .before .before .before .before .before .before .before .before .before .before .before .before .before .before .before .before .before) (λ ws s. mailed-then-counters s (program ws s) (tables ws s))
+both-pass c = passed _ _ _ (then-counters-refuse _ _ _) (c .before .before .counters-verdict .ensures) (c .before .is-safe7 .ensures) (not-false _ (c .if7 .left))
+
 counters-pass : (c : tie.Else7) → Passes (c .before .before .before .before .before .before .before .before .before .before .before .before .before .before .before .before .before .before .before .before .before .before .before .before .before .before .before .before .before .before .before .before .before .before .before .before .before .before .before .before .before .before .before .before .before .before .before .before .before .before .before .before .before .before .before .before .before .before) (λ ws s. counter-check present s (program ws s) (tables ws s))
-counters-pass c = passed _ _ _ (counter-refuses _ _ _ _) (c .before .before .counter-check .ensures) (c .before .is-safe7 .ensures) (not-false _ (c .if7 .left))
+counters-pass c = counters-fit _ _ _ (both-pass c)
 
 goes-10 : (c : tie.Else7) → Goes (c .before .before .before .before .before .before .before .before .before .before .before .before .before .before .before .before .before .before .before .before .before .before .before .before .before .before .before .before .before .before .before .before .before .before .before .before .before .before .before .before .before .before .before .before .before .before .before .before .before .before .before .before .before .before .before .before .before .before) from-10
-unfolding from-9
-goes-10 c = goes-by _ _ _ (goes-9 (c .before .before .before .before .before .before .before .before .before .before .before .before)) (counters-pass c)
+unfolding from-22
+goes-10 c = goes-by _ _ _ (goes-22 (c .before .before .before .before .before .before .before .before .before .before .before .before)) (both-pass c)
 
 counter-count-requires : tie.Need-counter-count-requires
 counter-count-requires c κs = (all-ready (c .before .before .before .before .before .before .before .before .before .before .before .before .before .before .before .before .before .before .before .before .before .before .before .before .before .before .before .before .before .before .before .before .before), c .before .before .before .before .before .before .before .before .before .fill-letters .ensures)
@@ -457,9 +461,9 @@ words-verdict-spec =
     slice-aggregate-fill-letters
     slice-aggregate-fill-letters-2
     fill-letters-requires
-    slice-aggregate-counter-check
-    slice-aggregate-counter-check-2
-    counter-check-requires
+    slice-aggregate-counters-verdict
+    slice-aggregate-counters-verdict-2
+    counters-verdict-requires
     is-safe-requires-7
     same-length-2
     returns-7

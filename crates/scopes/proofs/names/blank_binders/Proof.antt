@@ -39,11 +39,16 @@ loop-again : tie.Need-loop-again Inv-loop μ-loop
 unfolding program columns
 loop-again c =
     let l = c .before .before .loop in
-    let room : l .n < length (l .table) = omega (arith, c .before .loop-test .taken, l .inv .2, c .before .before .before .pre .1) in
-    (record { rows = λ n h. elim (ℕ-discrete n (l .n)) [
-      | yes z ↦ ap (λ i. getD (set (l .table) (l .n) (c .before .before .before .args .s .rows)) i 0) z ∙ getD-set-same (l .table) (l .n) (c .before .before .before .args .s .rows) 0 room
-      | no z ↦ getD-set-other (l .table) (l .n) n (c .before .before .before .args .s .rows) 0 z ∙ l .inv .0 .rows n (omega (arith, h))
-    ] }, omega (arith, c .before .loop-test .taken), length-set (l .table) _ _ ∙ l .inv .2)
+    let room : l .n < length (l .table) = omega (arith, c .before .loop-test .taken, l .inv .2, c .before .before .before .pre .1) in (
+      record {
+        rows = λ n h. elim (ℕ-discrete n (l .n)) [
+          | yes z ↦ ap (λ i. getD (set (l .table) (l .n) (c .before .before .before .args .s .rows)) i 0) z ∙ getD-set-same (l .table) (l .n) (c .before .before .before .args .s .rows) 0 room
+          | no z ↦ getD-set-other (l .table) (l .n) n (c .before .before .before .args .s .rows) 0 z ∙ l .inv .0 .rows n (omega (arith, h))
+        ];
+      },
+      omega (arith, c .before .loop-test .taken),
+      length-set (l .table) _ _ ∙ l .inv .2,
+    )
 
 same-length : tie.Need-same-length Inv-loop μ-loop
 same-length c = c .before .loop .inv .2

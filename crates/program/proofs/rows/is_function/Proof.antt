@@ -1,6 +1,6 @@
 use borrow.Author.Tests.{eq-eqb, ne-eqb}
-use Rattle.layout.proofs.inner.is_function.Statement.{statement}
-use Rattle.layout.proofs.inner.is_function.Tie as tie
+use Rattle.program.proofs.rows.is_function.Statement.{statement}
+use Rattle.program.proofs.rows.is_function.Tie as tie
 
 returns : tie.Need-returns
 returns c = rw (eq-eqb (c .before .args .t) 3 (c .if1 .taken))
