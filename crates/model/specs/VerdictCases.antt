@@ -1123,8 +1123,8 @@ mailed-twice-words =
     ceiling-words 0
     []
 
--- f() = f; x = self; x. A mail entry that no send wants: (R, 0), the function f. Its class is word 29, its value word 34; the flow's second columns are
--- words 32 and 33, the ceiling's counter numbers words 39 to 41.
+-- f() = f; x = self; x. A mail entry that no send wants: (R, 0), the function f. Its class is word 29, its value word
+-- 34; the flow's second columns are words 32 and 33, the ceiling's counter numbers words 39 to 41.
 unfoldable pub mailed-extra-program : List ℕ
 mailed-extra-program =
     program-words 2 0 1
