@@ -13,6 +13,7 @@ use oracle::limits::{COUNTERS, UNBOUNDED};
 use oracle::machine::Machine;
 use oracle::message::{self, Message};
 use oracle::run::{Wanted, show};
+use oracle::set::Set;
 use oracle::text::assemble::assemble;
 use oracle::text::words::Words;
 use oracle::verify::verify;
@@ -62,6 +63,16 @@ fn a_function_inside_a_constructor_is_no_mail_value() {
     for value in ["box(fun() -> Me end)", "box(f)", "box(box(f))"] {
         assert_eq!(verdict(&sent(value)), (0, 0), "{value}");
     }
+}
+
+#[test]
+fn the_function_server_sends_none_inside_a_constructor_either() {
+    let inside = |message: &[u8]| holds_inside(&message::read(message).unwrap());
+    assert!(["box(fun() -> Me end)", "box(f)", "box(box(f))"].iter().all(|value| inside(&sent(value))));
+    assert!(!inside(&sent("box(box(a))")));
+    let message = std::fs::read(path("examples/function-server.msg")).unwrap();
+    assert_eq!(verdict(&message), (0, 0));
+    assert!(!inside(&message));
 }
 
 #[test]
@@ -154,10 +165,16 @@ fn random_messages_mail_functions_in_every_way() {
     assert!(wanted >= 50 && extra >= 50 && over >= 3 && inside >= 50, "{seen:?}");
 }
 
-/// True if the argument of a build in the mail may be a function.
+/// True if a build in the mail may hold a function, however deep.
 fn holds_inside(m: &Message) -> bool {
     let program = reader::read(m).unwrap();
     let tables = oracle::tables::read(m, &program).unwrap();
-    let mut mailed = tables.mail_pairs(&program).into_iter().filter_map(|(_, value)| program.build(value));
-    mailed.any(|(_, args)| args.iter().any(|&arg| program.functions.iter().any(|f| tables.flow[arg].has(f.row))))
+    let mut left: Vec<usize> = tables.mail_pairs(&program).into_iter().map(|(_, value)| value).collect();
+    let mut inside = Set::EMPTY;
+    while let Some(value) = left.pop() {
+        let args = program.build(value).map_or(&[][..], |(_, args)| args);
+        let held = args.iter().flat_map(|&arg| tables.flow[arg].iter());
+        left.extend(held.filter(|&value| inside.insert(value)));
+    }
+    program.functions.iter().any(|f| inside.has(f.row))
 }
