@@ -8,12 +8,11 @@ use state_rules::state_rules;
 ghost use mathlib.Core.Path.{_≡_};
 ghost use mathlib.Core.Bool.{true};
 ghost use Prim.Native.Nat.{_+_, _≤_, _<_};
-ghost use lib.ListN.{length, getD, drop, set};
+ghost use lib.ListN.{length, getD, set};
 ghost use Rattle.model.specs.Rows.{program};
 ghost use Rattle.model.specs.Tables.{tables};
 ghost use Rattle.rules.specs.Derived.{Rule-tables, Entered, Rule-room};
-ghost use Rattle.rules.specs.Listed.{State-rules};
-ghost use Rattle.kept_rules.specs.Kept.{Same-below, Rules-at, Kept-rules};
+ghost use Rattle.kept_rules.specs.Kept.{Same-below, Room-from, Rules-from, Rules-at, Kept-rules};
 
 // Whether the rules of all states so far are kept, and up to where in the lists.
 pub struct Kept {
@@ -103,10 +102,10 @@ pub fn rules_from(
         (now «letter_at») (now letters) (now branches) ⌝ }
     requires { ⌜ Entered (program (now ws) s) (tables (now ws) s) k (now at) ⌝ }
     requires { ⌜ (i < s .states) × (first < 65536) ⌝ }
-    requires { ⌜ Rule-room s (drop first (now tos)) (drop first (now others)) ⌝ }
+    requires { ⌜ Room-from s first (now tos) (now others) ⌝ }
     ensures { λ d. ⌜ Entered (program (now (ws .entry)) s) (tables (now (ws .entry)) s) (d .class) (now (at .exit)) ⌝ }
-    ensures { λ d. ⌜ State-rules (program (now (ws .entry)) s) (tables (now (ws .entry)) s) i
-        (drop first (now (tos .exit))) (drop first (now (others .exit))) (d .count) ⌝ }
+    ensures { λ d. ⌜ Rules-from (program (now (ws .entry)) s) (tables (now (ws .entry)) s) i first (now (tos .exit))
+        (now (others .exit)) (d .count) ⌝ }
     ensures { λ _. ⌜ Same-below first (now (tos .entry)) (now (tos .exit)) ×
         Same-below first (now (others .entry)) (now (others .exit)) ⌝ }
 {
