@@ -36,8 +36,8 @@ Open-step limits ceilings n count k kind to other =
     Allowed-at limits ceilings n count k to ×
     (2 ≤ kind → Allowed-at limits ceilings n count k other × (to ≡ other → ⊥))
 
--- the two sets of state i are put into the table, of ceilings that allow what each of its m rules adds, all of one kind;
--- the sets before them stay
+-- the two sets of state i are put into the table: ceilings that allow what each of its m rules adds, all of one kind.
+-- The sets before them stay.
 pub record Group-put (limits : List ℕ) (ceilings n kind : ℕ) (tos others : List ℕ) (m i : ℕ)
     (group group′ : List ℕ) : Type 0 where
   pub opens :

@@ -66,9 +66,8 @@ pub struct Gathered {
 }
 
 // For each state the ceilings that have no bound where its rules add, and those that hold one there. The rules are
-// counted here too, and kept where they are few, within the first `spare` words of the lists: so they are derived no
-// more than three times where they are kept (here, and where the listing is written), and else once more for each
-// ceiling that does not settle the state.
+// counted here too; and where they are few they are kept, within the first `spare` words of the lists, so that the leak
+// test does not derive them again for each ceiling that does not settle their state.
 pub fn fill_groups(
     ws: &[u16],
     s: Sizes,
