@@ -1,10 +1,10 @@
 -- What one layer's tables say is what the next one asks.
-use Prim.Native.Nat.{ℕ, _*_, _≤_, _<_}
+use Prim.Native.Nat.{ℕ, _+_, _*_, _≤_, _<_}
 use native.Mathlib.Omega.{arith}
 use mathlib.Core.Path.{_≡_, refl, sym, ap, subst, _∙_}
 use mathlib.Core.List.{List}
 use mathlib.Core.Option.{Option, some, none}
-use lib.ListN.{length}
+use lib.ListN.{length, length-drop}
 use lib.Dec.{eqb}
 use Rattle.rooms.specs.Rooms.{row-room, limit-room}
 use Rattle.model.specs.declared.Sizes.{Sizes}
@@ -34,6 +34,7 @@ use Rattle.rooms.specs.Cleared.{Cleared}
 use Rattle.closure_sized.proofs.Opening.{product-most}
 use Rattle.ceilings_met.specs.Items.{Items-counted}
 use Rattle.rules.specs.Derived.{Rule-room}
+use Rattle.kept_rules.specs.Kept.{Room-from}
 use Rattle.model.specs.Demands.{Within-limits}
 use Rattle.checks.specs.Scratch.{Limits-room, Mask-room}
 
@@ -95,17 +96,24 @@ ceilings-of-ready ws s h = record { limits = h .limits; held = h .held }
 pub items-of : (p : Program) (t : Tables) (rows : Columns) (n k : ℕ) (items : List ℕ) → n ≡ k → Items-counted p t rows k items → Items-counted p t rows n items
 items-of p t rows n k items e h = subst (λ x. Items-counted p t rows x items) (sym e) h
 
--- room for the rules of a state
-pub rule-room : (s : Sizes) (tos others : List ℕ) → Within-limits present s → Cleared row-room tos → Cleared row-room others → Rule-room s tos others
-rule-room s tos others l t o =
+-- room for the rules of a state, behind the first `spare` words
+pub spare-room : (s : Sizes) (spare : ℕ) (tos others : List ℕ) → Within-limits present s → spare + s .rows < row-room → spare + 1056 ≤ row-room → Cleared row-room tos → Cleared row-room others → Room-from s spare tos others
+spare-room s spare tos others l h k t o =
     let a = t .room in
     let b = o .room in
+    let x = length-drop spare tos in
+    let y = length-drop spare others in
     record {
-      values = let r = l .rows .1 in omega arith;
-      letters = let c = l .constructors in omega arith;
-      counters = omega arith;
-      alike = b ∙ sym a;
+      room = record {
+        values = omega arith;
+        letters = let c = l .constructors in omega arith;
+        counters = omega arith;
+        alike = omega arith;
+      };
     }
+
+pub rule-room : (s : Sizes) (tos others : List ℕ) → Within-limits present s → Cleared row-room tos → Cleared row-room others → Rule-room s tos others
+rule-room s tos others l t o = let r = l .rows .1 in spare-room s 0 tos others l (omega arith) (omega arith) t o .room
 
 -- limits of n counters, and where the ceilings begin
 pub limits-room : (s : Sizes) (n k m : ℕ) (limits ceiling-at : List ℕ) → n * s .ceilings ≤ k → s .ceilings ≤ m → Cleared k limits → Cleared m ceiling-at → Limits-room s n limits ceiling-at

@@ -22,8 +22,9 @@ use rooms::words64_1024;
 use rules::no_class;
 use system_totals::Totals;
 ghost use mathlib.Core.Path.{_≡_};
-ghost use Prim.Native.Nat.{_*_, _≤_};
+ghost use Prim.Native.Nat.{_+_, _*_, _≤_, _<_};
 ghost use Rattle.model.specs.declared.Verdict.the-variants.{Safe};
+ghost use Rattle.model.specs.Limits.{maxRows};
 ghost use Rattle.model.specs.Rows.{program};
 ghost use Rattle.model.specs.Tables.{tables};
 ghost use Rattle.model.specs.Rules.{rules};
@@ -31,6 +32,7 @@ ghost use Rattle.model.specs.Ceilings.{ceilings-of, leak-check};
 ghost use Rattle.model.specs.Verify.{answer};
 ghost use Rattle.rules.specs.Derived.{Rule-tables};
 ghost use Rattle.system_totals.specs.Lines.{Totalled};
+ghost use Rattle.rooms.specs.Rooms.{row-room};
 ghost use Rattle.checks.specs.Order.{under-ceilings};
 ghost use Rattle.checks.specs.Scratch.{Numbered, Limited, Limits-room, Mask-room};
 
@@ -38,6 +40,15 @@ ghost use Rattle.checks.specs.Scratch.{Numbered, Limited, Limits-room, M
 pub struct Leaks {
     pub verdict: Verdict,
     pub totals: Totals,
+}
+
+// So many words of a room by row are more than the rules of any one state need, of which there are no more than 1,056
+// where there are no more rows: in these the rules of all states are kept.
+fn spare_words(s: Sizes) -> usize
+    ensures { λ r. ⌜ (s .rows ≤ maxRows → r + s .rows < row-room) ⌝ }
+    ensures { λ r. ⌜ r + 1056 ≤ row-room ⌝ }
+{
+    if s.rows < 1056 { 482 } else { 0 }
 }
 
 // Over lent sets of ceilings.
@@ -75,6 +86,7 @@ fn leaks_on(
     let mut at = row_words16();
     let mut tos = row_words16();
     let mut others = row_words16();
+    let mut first_at = words16_258();
     let none = no_class(ws, s, &mut at);
     let gathered = fill_groups(
         ws,
@@ -94,12 +106,15 @@ fn leaks_on(
         holders,
         unbounded,
         none,
+        spare_words(s),
         &mut at,
         &mut tos,
         &mut others,
+        &mut first_at,
         group,
     );
     let last = gathered.class;
+    let kept = gathered.kept;
     let verdict = leak_check(
         ws,
         s,
@@ -118,6 +133,8 @@ fn leaks_on(
         holders,
         unbounded,
         group,
+        kept,
+        &first_at,
         last,
         &mut at,
         &mut tos,

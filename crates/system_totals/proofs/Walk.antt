@@ -1,5 +1,5 @@
 -- A walk over the states: some class is entered, and the tables for one state keep their lengths.
-use Prim.Native.Nat.{ℕ, _≤_}
+use Prim.Native.Nat.{ℕ}
 use native.Mathlib.Omega.{arith}
 use mathlib.Core.Path.{_≡_, refl, _∙_}
 use mathlib.Core.List.{List}
@@ -9,7 +9,6 @@ use Rattle.model.specs.Rows.{Program}
 use Rattle.model.specs.Tables.{Tables}
 use Rattle.rules.specs.declared.Class.{Class}
 use Rattle.rules.specs.Derived.{Entered, Rule-room}
-use Rattle.rules.specs.Listed.{State-rules}
 
 pub record Walk (p : Program) (t : Tables) (at₀ tos₀ others₀ : List ℕ) (k : Class) (at tos others : List ℕ) : Type 0 where
   pub entered : Entered p t k at
@@ -37,7 +36,3 @@ module _ (p : Program) (t : Tables) (at₀ tos₀ others₀ : List ℕ) where
     -- there is room for the rules of the next state
     pub walk-room : (s : Sizes) → Rule-room s tos₀ others₀ → Rule-room s tos others
     walk-room s r = room-kept s tos₀ others₀ tos others r (h .tos-long) (h .others-long)
-
-    -- how many there are at the most
-    pub walk-few : (i n : ℕ) (tos′ others′ : List ℕ) → State-rules p t i tos′ others′ n → length tos′ ≡ length tos → length tos₀ ≤ 65536 → n ≤ 65536
-    walk-few i n tos′ others′ r e l = omega (arith, r .tos-room, h .tos-long)
