@@ -1,32 +1,20 @@
--- The states of the class at hand, class by class, and the bits of all states so far.
-use Prim.Native.Nat.{ℕ, _+_, _-_, _<_}
+-- The bits of all states so far, and the verdict.
+use Prim.Native.Nat.{ℕ, _+_, _<_}
 use mathlib.Core.Path.{_≡_}
 use mathlib.Core.Bool.{true, false, not}
 use mathlib.Core.List.{List}
 use lib.Dec.{eqb}
-use lib.ListN.{length, getD}
+use lib.ListN.{getD}
 use Rattle.model.specs.declared.Sizes.{Sizes}
 use Rattle.model.specs.declared.Verdict.{Verdict}
 use Rattle.model.specs.declared.Verdict.the-variants.{Safe, Open}
 use Rattle.model.specs.Index.{first}
-use Rattle.model.specs.Words.{Columns, left, right}
 use Rattle.model.specs.Message.{tables-at}
 use Rattle.model.specs.Rows.{Program}
 use Rattle.model.specs.Tables.{Tables, state-at}
 use Rattle.model.specs.Closed.{state-closed}
-use Rattle.bits.specs.Bits.{Row}
-use Rattle.values.specs.Values.{Values}
 use Rattle.branches.specs.Taken.{lacks}
-use Rattle.stated.specs.Stated.{Begins, Stated}
-
--- before entry i: `here` has the entries of the class before, `last`, which begin at `from`;
--- no class before the first entry
-pub record Entered (l : Columns) (w : ℕ) (here : List ℕ) (last from i : ℕ) : Type 0 where
-  pub row : Row here w 0
-  pub none-yet : i ≡ 0 → last ≡ 65536
-  pub values : 0 < i → Values l last w 0 here
-  pub begins : 0 < i → Begins l last from
-  pub class-before : 0 < i → left l (i - 1) ≡ last
+use Rattle.stated.specs.Stated.{Stated}
 
 -- the first state that lacks something
 unfoldable pub first-open : Program → Tables → ℕ
@@ -34,7 +22,7 @@ first-open p t = first 0 (t .states .size) (λ k. not (state-closed p t (state-a
 
 -- each state before i has its bits
 pub record Told (p : Program) (t : Tables) (branches : List ℕ) (i : ℕ) : Type 0 where
-  pub at : (k : ℕ) → k < i → Stated p t (left (t .states) k) (right (t .states) k) (getD branches k 0)
+  pub at : (k : ℕ) → k < i → Stated p t (state-at t k) (getD branches k 0)
   pub low : (k : ℕ) → k < i → getD branches k 0 ≡ lacks → ⊥
 
 -- 8, where the opening entries are there: "the first state that lacks something, its first column's word"
