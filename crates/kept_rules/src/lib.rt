@@ -2,8 +2,6 @@
 // once. One state's stand behind another's, in the two lists that hold the rules of one state.
 use lists::word;
 use model::Sizes;
-use rules::Class;
-use rules::turn_to;
 use state_rules::state_rules;
 ghost use mathlib.Core.Path.{_≡_};
 ghost use mathlib.Core.Bool.{true};
@@ -11,7 +9,7 @@ ghost use Prim.Native.Nat.{_+_, _≤_, _<_};
 ghost use lib.ListN.{length, getD, set};
 ghost use Rattle.model.specs.Rows.{program};
 ghost use Rattle.model.specs.Tables.{tables};
-ghost use Rattle.rules.specs.Derived.{Rule-tables, Entered, Rule-room};
+ghost use Rattle.rules.specs.Derived.{Rule-tables, Rule-room};
 ghost use Rattle.kept_rules.specs.Kept.{Same-below, Room-from, Rules-from, Rules-at, Kept-rules};
 
 // Whether the rules of all states so far are kept, and up to where in the lists.
@@ -20,15 +18,8 @@ pub struct Kept {
     pub used: usize,
 }
 
-// The class entered, and how many rules were derived.
-pub struct Derived {
-    pub class: Class,
-    pub count: usize,
-}
-
-// The class entered, and from where up to where the rules of a state stand.
+// From where up to where the rules of a state stand.
 pub struct Found {
-    pub class: Class,
     pub first: usize,
     pub end: usize,
 }
@@ -83,7 +74,6 @@ pub fn rules_from(
     ws: &[u16],
     s: Sizes,
     afters: &[u16],
-    inners: &[u16],
     flow_at: &[u16],
     w: usize,
     flows: &[u64],
@@ -91,30 +81,25 @@ pub fn rules_from(
     letter_at: &[u16],
     letters: &[u16],
     branches: &[u16],
-    k: Class,
-    at: &mut [u16],
+    at: &[u16],
     i: usize,
     first: usize,
     tos: &mut [u16],
     others: &mut [u16],
-) -> Derived
-    requires { ⌜ Rule-tables (now ws) s (now afters) (now inners) (now «flow_at») w (now flows) (now names)
+) -> usize
+    requires { ⌜ Rule-tables (now ws) s (now afters) (now «flow_at») w (now flows) (now names)
         (now «letter_at») (now letters) (now branches) ⌝ }
-    requires { ⌜ Entered (program (now ws) s) (tables (now ws) s) k (now at) ⌝ }
     requires { ⌜ (i < s .states) × (first < 65536) ⌝ }
     requires { ⌜ Room-from s first (now tos) (now others) ⌝ }
-    ensures { λ d. ⌜ Entered (program (now (ws .entry)) s) (tables (now (ws .entry)) s) (d .class) (now (at .exit)) ⌝ }
-    ensures { λ d. ⌜ Rules-from (program (now (ws .entry)) s) (tables (now (ws .entry)) s) i first (now (tos .exit))
-        (now (others .exit)) (d .count) ⌝ }
+    ensures { λ m. ⌜ Rules-from (program (now (ws .entry)) s) (tables (now (ws .entry)) s) i first (now (tos .exit))
+        (now (others .exit)) m ⌝ }
     ensures { λ _. ⌜ Same-below first (now (tos .entry)) (now (tos .exit)) ×
         Same-below first (now (others .entry)) (now (others .exit)) ⌝ }
 {
-    let class = turn_to(ws, s, k, at, i);
-    let count = state_rules(
+    state_rules(
         ws,
         s,
         afters,
-        inners,
         flow_at,
         w,
         flows,
@@ -122,13 +107,11 @@ pub fn rules_from(
         letter_at,
         letters,
         branches,
-        class,
         at,
         i,
         &mut tos[first..],
         &mut others[first..],
-    );
-    Derived { class, count }
+    )
 }
 
 // The rules of state i, where they are kept; else derived into the lists from the front on.
@@ -136,7 +119,6 @@ pub fn rules_again(
     ws: &[u16],
     s: Sizes,
     afters: &[u16],
-    inners: &[u16],
     flow_at: &[u16],
     w: usize,
     flows: &[u64],
@@ -146,20 +128,17 @@ pub fn rules_again(
     branches: &[u16],
     kept: Kept,
     first_at: &[u16],
-    k: Class,
-    at: &mut [u16],
+    at: &[u16],
     i: usize,
     tos: &mut [u16],
     others: &mut [u16],
 ) -> Found
-    requires { ⌜ Rule-tables (now ws) s (now afters) (now inners) (now «flow_at») w (now flows) (now names)
+    requires { ⌜ Rule-tables (now ws) s (now afters) (now «flow_at») w (now flows) (now names)
         (now «letter_at») (now letters) (now branches) ⌝ }
     requires { ⌜ Kept-rules (program (now ws) s) (tables (now ws) s) (s .states) kept (now «first_at») (now tos)
         (now others) ⌝ }
-    requires { ⌜ Entered (program (now ws) s) (tables (now ws) s) k (now at) ⌝ }
     requires { ⌜ i < s .states ⌝ }
     requires { ⌜ Rule-room s (now tos) (now others) ⌝ }
-    ensures { λ f. ⌜ Entered (program (now (ws .entry)) s) (tables (now (ws .entry)) s) (f .class) (now (at .exit)) ⌝ }
     ensures { λ f. ⌜ Rules-at (program (now (ws .entry)) s) (tables (now (ws .entry)) s) i (now (tos .exit))
         (now (others .exit)) (f .first) (f .end) ⌝ }
     ensures { λ _. ⌜ Kept-rules (program (now (ws .entry)) s) (tables (now (ws .entry)) s) (s .states) kept
@@ -168,16 +147,14 @@ pub fn rules_again(
     if kept.all {
         let next = i + 1;
         return Found {
-            class: k,
             first: word(first_at, i),
             end: word(first_at, next),
         };
     }
-    let derived = rules_from(
+    let end = rules_from(
         ws,
         s,
         afters,
-        inners,
         flow_at,
         w,
         flows,
@@ -185,17 +162,11 @@ pub fn rules_again(
         letter_at,
         letters,
         branches,
-        k,
         at,
         i,
         0,
         tos,
         others,
     );
-    let class = derived.class;
-    Found {
-        class,
-        first: 0,
-        end: derived.count,
-    }
+    Found { first: 0, end }
 }
