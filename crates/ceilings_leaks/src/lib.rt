@@ -22,8 +22,8 @@ use masks::first_set;
 use masks::next_in;
 use model::Sizes;
 use model::Verdict;
+use onward::guess_class;
 use program::rows::tag;
-use rules::Class;
 use steps::Step;
 use steps::effect_kind;
 use system_totals::Totals;
@@ -40,7 +40,7 @@ ghost use Rattle.model.specs.Rules.{rules};
 ghost use Rattle.model.specs.Ceilings.{ceilings-of, leak-check};
 ghost use Rattle.model.specs.Verify.{answer};
 ghost use Rattle.lists.specs.Ready.{Ready};
-ghost use Rattle.rules.specs.Derived.{Rule-tables, Entered};
+ghost use Rattle.rules.specs.Derived.{Rule-tables};
 ghost use Rattle.kept_rules.specs.Kept.{Room-from, Kept-rules};
 ghost use Rattle.steps.specs.Steps.{effect-kind};
 ghost use Rattle.system_totals.specs.Lines.{Totalled};
@@ -58,9 +58,8 @@ fn kind_at(ws: &[u16], s: Sizes, i: usize) -> usize
     effect_kind(tag(ws, s, state_location(ws, s, i)))
 }
 
-// After all states: the class entered last, how many rules and rows there are, and whether the rules are kept.
+// After all states: how many rules and rows there are, and whether the rules are kept.
 pub struct Gathered {
-    pub class: Class,
     pub totals: Totals,
     pub kept: Kept,
 }
@@ -72,7 +71,6 @@ pub fn fill_groups(
     ws: &[u16],
     s: Sizes,
     afters: &[u16],
-    inners: &[u16],
     flow_at: &[u16],
     w: usize,
     flows: &[u64],
@@ -85,7 +83,6 @@ pub fn fill_groups(
     starts: &[u16],
     holders: &[u64],
     unbounded: &[u64],
-    k: Class,
     spare: usize,
     at: &mut [u16],
     tos: &mut [u16],
@@ -93,13 +90,11 @@ pub fn fill_groups(
     first_at: &mut [u16],
     group: &mut [u64],
 ) -> Gathered
-    requires { ⌜ Rule-tables (now ws) s (now afters) (now inners) (now «flow_at») w (now flows) (now names)
+    requires { ⌜ Rule-tables (now ws) s (now afters) (now «flow_at») w (now flows) (now names)
         (now «letter_at») (now letters) (now branches) ⌝ }
     requires { ⌜ Ceilings-ready (now ws) s n (now limits) (now starts) (now holders) (now unbounded) ⌝ }
-    requires { ⌜ Entered (program (now ws) s) (tables (now ws) s) k (now at) ⌝ }
     requires { ⌜ Room-from s spare (now tos) (now others) × (length (now tos) ≤ 65536) ⌝ }
     requires { ⌜ s .states * 8 ≤ length (now group) ⌝ }
-    ensures { λ g. ⌜ Entered (program (now (ws .entry)) s) (tables (now (ws .entry)) s) (g .class) (now (at .exit)) ⌝ }
     ensures { λ _. ⌜ Groups-upto (program (now (ws .entry)) s) (tables (now (ws .entry)) s) (now (limits .entry))
         (s .ceilings) n (s .states) (now (group .exit)) ⌝ }
     ensures { λ g. ⌜ Totalled (program (now (ws .entry)) s) (tables (now (ws .entry)) s) (g .totals) ⌝ }
@@ -108,16 +103,15 @@ pub fn fill_groups(
 {
     let boundless = is_boundless(unbounded, n);
     let mut kept = none_kept(s.states, first_at);
-    let mut class = k;
     let mut rules = 0;
     let mut rows = 0;
     for i in 0..s.states {
         let used = kept.used;
-        let derived = rules_from(
+        guess_class(ws, s, at, i);
+        let m = rules_from(
             ws,
             s,
             afters,
-            inners,
             flow_at,
             w,
             flows,
@@ -125,15 +119,12 @@ pub fn fill_groups(
             letter_at,
             letters,
             branches,
-            class,
             at,
             i,
             used,
             tos,
             others,
         );
-        class = derived.class;
-        let m = derived.count;
         let head = state_head(ws, s, i);
         rules += m;
         rows += row_total(head, m);
@@ -154,11 +145,7 @@ pub fn fill_groups(
         kept = keep(kept, spare, i, m, first_at);
     }
     let totals = Totals { rules, rows };
-    Gathered {
-        class,
-        totals,
-        kept,
-    }
+    Gathered { totals, kept }
 }
 
 // Refusal 13: the first ceiling that leaks, at its first entry. Loops over the ceilings, over each one's states, over
@@ -168,7 +155,6 @@ pub fn leak_check(
     ws: &[u16],
     s: Sizes,
     afters: &[u16],
-    inners: &[u16],
     flow_at: &[u16],
     w: usize,
     flows: &[u64],
@@ -184,17 +170,15 @@ pub fn leak_check(
     group: &[u64],
     kept: Kept,
     first_at: &[u16],
-    first_class: Class,
-    at: &mut [u16],
+    at: &[u16],
     tos: &mut [u16],
     others: &mut [u16],
     short: &mut [u64],
     more: &mut [u64],
 ) -> Verdict
-    requires { ⌜ Rule-tables (now ws) s (now afters) (now inners) (now «flow_at») w (now flows) (now names)
+    requires { ⌜ Rule-tables (now ws) s (now afters) (now «flow_at») w (now flows) (now names)
         (now «letter_at») (now letters) (now branches) ⌝ }
     requires { ⌜ Ceilings-ready (now ws) s n (now limits) (now starts) (now holders) (now unbounded) ⌝ }
-    requires { ⌜ Entered (program (now ws) s) (tables (now ws) s) «first_class» (now at) ⌝ }
     requires { ⌜ Groups-upto (program (now ws) s) (tables (now ws) s) (now limits) (s .ceilings) n (s .states)
         (now group) ⌝ }
     requires { ⌜ Kept-rules (program (now ws) s) (tables (now ws) s) (s .states) kept (now «first_at») (now tos)
@@ -205,7 +189,6 @@ pub fn leak_check(
         answer (leak-check (now (ws .entry)) s (ceilings-of (now (ws .entry)) s n)
         (rules (program (now (ws .entry)) s) (tables (now (ws .entry)) s))) ⌝ }
 {
-    let mut class = first_class;
     'ceilings: for k in 0..s.ceilings {
         let first = starts[k] as usize;
         let over = compare(ws, s, n, limits, holders, unbounded, k, first, short, more);
@@ -235,7 +218,6 @@ pub fn leak_check(
                 ws,
                 s,
                 afters,
-                inners,
                 flow_at,
                 w,
                 flows,
@@ -245,13 +227,11 @@ pub fn leak_check(
                 branches,
                 kept,
                 first_at,
-                class,
                 at,
                 i,
                 tos,
                 others,
             );
-            class = found.class;
             let end = found.end;
             let kind = kind_at(ws, s, i);
             'rules: for j in found.first..end {

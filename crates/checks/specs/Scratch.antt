@@ -42,8 +42,8 @@ pub record Limited (ws : List ℕ) (s : Sizes) (n : ℕ) (limits ceiling-at : Li
   pub starts-table : Starts-table n (ceiling-entries ws s) (s .ceilings) ceiling-at
 
 -- all tables that the rules are derived from, but for the letters of names
-pub record Unnamed (ws : List ℕ) (s : Sizes) (afters inners flow-at : List ℕ) (w : ℕ)
+pub record Unnamed (ws : List ℕ) (s : Sizes) (afters flow-at : List ℕ) (w : ℕ)
     (flows letter-at letters branches : List ℕ) : Type 0 where
   pub named :
       (names : List ℕ) → Name-letters (program ws s) (tables ws s) names →
-      Rule-tables ws s afters inners flow-at w flows names letter-at letters branches
+      Rule-tables ws s afters flow-at w flows names letter-at letters branches

@@ -19,7 +19,6 @@ use rooms::words64_130;
 use rooms::words64_256;
 use rooms::words64_512;
 use rooms::words64_1024;
-use rules::no_class;
 use system_totals::Totals;
 ghost use mathlib.Core.Path.{_≡_};
 ghost use Prim.Native.Nat.{_+_, _*_, _≤_, _<_};
@@ -56,7 +55,6 @@ fn leaks_on(
     ws: &[u16],
     s: Sizes,
     afters: &[u16],
-    inners: &[u16],
     flow_at: &[u16],
     w: usize,
     flows: &[u64],
@@ -73,7 +71,7 @@ fn leaks_on(
     short: &mut [u64],
     more: &mut [u64],
 ) -> Leaks
-    requires { ⌜ Rule-tables (now ws) s (now afters) (now inners) (now «flow_at») w (now flows) (now names)
+    requires { ⌜ Rule-tables (now ws) s (now afters) (now «flow_at») w (now flows) (now names)
         (now «letter_at») (now letters) (now branches) ⌝ }
     requires { ⌜ Limited (now ws) s n (now limits) (now «ceiling_at») ⌝ }
     requires { ⌜ Mask-room n (now holders) (now unbounded) (now group) (now short) (now more) ⌝ }
@@ -87,12 +85,10 @@ fn leaks_on(
     let mut tos = row_words16();
     let mut others = row_words16();
     let mut first_at = words16_258();
-    let none = no_class(ws, s, &mut at);
     let gathered = fill_groups(
         ws,
         s,
         afters,
-        inners,
         flow_at,
         w,
         flows,
@@ -105,7 +101,6 @@ fn leaks_on(
         ceiling_at,
         holders,
         unbounded,
-        none,
         spare_words(s),
         &mut at,
         &mut tos,
@@ -113,13 +108,11 @@ fn leaks_on(
         &mut first_at,
         group,
     );
-    let last = gathered.class;
     let kept = gathered.kept;
     let verdict = leak_check(
         ws,
         s,
         afters,
-        inners,
         flow_at,
         w,
         flows,
@@ -135,8 +128,7 @@ fn leaks_on(
         group,
         kept,
         &first_at,
-        last,
-        &mut at,
+        &at,
         &mut tos,
         &mut others,
         short,
@@ -151,7 +143,6 @@ fn ceilings_on(
     ws: &[u16],
     s: Sizes,
     afters: &[u16],
-    inners: &[u16],
     flow_at: &[u16],
     w: usize,
     flows: &[u64],
@@ -168,7 +159,7 @@ fn ceilings_on(
     short: &mut [u64],
     more: &mut [u64],
 ) -> Leaks
-    requires { ⌜ Rule-tables (now ws) s (now afters) (now inners) (now «flow_at») w (now flows) (now names)
+    requires { ⌜ Rule-tables (now ws) s (now afters) (now «flow_at») w (now flows) (now names)
         (now «letter_at») (now letters) (now branches) ⌝ }
     requires { ⌜ Numbered (now ws) s n ⌝ }
     requires { ⌜ Limits-room s n (now limits) (now «ceiling_at») ⌝ }
@@ -197,7 +188,6 @@ fn ceilings_on(
         ws,
         s,
         afters,
-        inners,
         flow_at,
         w,
         flows,
@@ -221,7 +211,6 @@ fn few_limits(
     ws: &[u16],
     s: Sizes,
     afters: &[u16],
-    inners: &[u16],
     flow_at: &[u16],
     w: usize,
     flows: &[u64],
@@ -231,7 +220,7 @@ fn few_limits(
     branches: &[u16],
     n: usize,
 ) -> Leaks
-    requires { ⌜ Rule-tables (now ws) s (now afters) (now inners) (now «flow_at») w (now flows) (now names)
+    requires { ⌜ Rule-tables (now ws) s (now afters) (now «flow_at») w (now flows) (now names)
         (now «letter_at») (now letters) (now branches) ⌝ }
     requires { ⌜ Numbered (now ws) s n ⌝ }
     requires { ⌜ (n ≤ 32) × (n * s .ceilings ≤ 2048) ⌝ }
@@ -250,7 +239,6 @@ fn few_limits(
         ws,
         s,
         afters,
-        inners,
         flow_at,
         w,
         flows,
@@ -274,7 +262,6 @@ fn more_limits(
     ws: &[u16],
     s: Sizes,
     afters: &[u16],
-    inners: &[u16],
     flow_at: &[u16],
     w: usize,
     flows: &[u64],
@@ -284,7 +271,7 @@ fn more_limits(
     branches: &[u16],
     n: usize,
 ) -> Leaks
-    requires { ⌜ Rule-tables (now ws) s (now afters) (now inners) (now «flow_at») w (now flows) (now names)
+    requires { ⌜ Rule-tables (now ws) s (now afters) (now «flow_at») w (now flows) (now names)
         (now «letter_at») (now letters) (now branches) ⌝ }
     requires { ⌜ Numbered (now ws) s n ⌝ }
     requires { ⌜ (n ≤ 128) × (n * s .ceilings ≤ 16384) ⌝ }
@@ -303,7 +290,6 @@ fn more_limits(
         ws,
         s,
         afters,
-        inners,
         flow_at,
         w,
         flows,
@@ -327,7 +313,6 @@ fn all_limits(
     ws: &[u16],
     s: Sizes,
     afters: &[u16],
-    inners: &[u16],
     flow_at: &[u16],
     w: usize,
     flows: &[u64],
@@ -337,7 +322,7 @@ fn all_limits(
     branches: &[u16],
     n: usize,
 ) -> Leaks
-    requires { ⌜ Rule-tables (now ws) s (now afters) (now inners) (now «flow_at») w (now flows) (now names)
+    requires { ⌜ Rule-tables (now ws) s (now afters) (now «flow_at») w (now flows) (now names)
         (now «letter_at») (now letters) (now branches) ⌝ }
     requires { ⌜ Numbered (now ws) s n ⌝ }
     ensures { λ l. ⌜ l .verdict ≡ answer (under-ceilings (now (ws .entry)) s n) ⌝ }
@@ -355,7 +340,6 @@ fn all_limits(
         ws,
         s,
         afters,
-        inners,
         flow_at,
         w,
         flows,
@@ -381,7 +365,6 @@ pub fn ceilings_verdict(
     ws: &[u16],
     s: Sizes,
     afters: &[u16],
-    inners: &[u16],
     flow_at: &[u16],
     w: usize,
     flows: &[u64],
@@ -392,7 +375,7 @@ pub fn ceilings_verdict(
     n: usize,
 ) -> Leaks
     requires { ⌜ 1 ≤ most ⌝ }
-    requires { ⌜ Rule-tables (now ws) s (now afters) (now inners) (now «flow_at») w (now flows) (now names)
+    requires { ⌜ Rule-tables (now ws) s (now afters) (now «flow_at») w (now flows) (now names)
         (now «letter_at») (now letters) (now branches) ⌝ }
     requires { ⌜ Numbered (now ws) s n ⌝ }
     ensures { λ l. ⌜ l .verdict ≡ answer (under-ceilings (now (ws .entry)) s n) ⌝ }
@@ -404,7 +387,6 @@ pub fn ceilings_verdict(
             ws,
             s,
             afters,
-            inners,
             flow_at,
             w,
             flows,
@@ -423,7 +405,6 @@ pub fn ceilings_verdict(
                     ws,
                     s,
                     afters,
-                    inners,
                     flow_at,
                     w,
                     flows,
@@ -441,7 +422,6 @@ pub fn ceilings_verdict(
                     ws,
                     s,
                     afters,
-                    inners,
                     flow_at,
                     w,
                     flows,
@@ -459,7 +439,6 @@ pub fn ceilings_verdict(
         ws,
         s,
         afters,
-        inners,
         flow_at,
         w,
         flows,

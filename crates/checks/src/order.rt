@@ -7,7 +7,6 @@ use closure_sized::open_verdict;
 use evidence::entries::entry_check;
 use grammar::row_check;
 use layout::ends::fill_ends;
-use layout::inner::fill_inners;
 use mailed::counters_verdict;
 use model::Sizes;
 use model::Verdict;
@@ -57,20 +56,9 @@ pub fn words_verdict(ws: &[u16], s: Sizes, flow: &mut [u64], lent: &mut [u32]) -
     if !is_safe(entries) {
         return entries;
     }
-    let mut owners = row_words16();
-    fill_inners(ws, s, &afters, &mut owners);
     let mut starts = row_words16();
     let mut branches = row_words16();
-    let open = open_verdict(
-        64,
-        ws,
-        s,
-        &afters,
-        &owners,
-        &mut starts,
-        flow,
-        &mut branches,
-    );
+    let open = open_verdict(64, ws, s, &afters, &mut starts, flow, &mut branches);
     if !is_safe(open) {
         return open;
     }
@@ -92,7 +80,6 @@ pub fn words_verdict(ws: &[u16], s: Sizes, flow: &mut [u64], lent: &mut [u32]) -
         ws,
         s,
         &afters,
-        &owners,
         &starts,
         w,
         flow,

@@ -21,7 +21,6 @@ fn named_verdict(
     ws: &[u16],
     s: Sizes,
     afters: &[u16],
-    inners: &[u16],
     flow_at: &[u16],
     w: usize,
     flows: &[u64],
@@ -33,7 +32,7 @@ fn named_verdict(
     lent: &mut [u32],
 ) -> Verdict
     requires { ⌜ Ready (now ws) s ⌝ }
-    requires { ⌜ Unnamed (now ws) s (now afters) (now inners) (now «flow_at») w (now flows) (now «letter_at»)
+    requires { ⌜ Unnamed (now ws) s (now afters) (now «flow_at») w (now flows) (now «letter_at»)
         (now letters) (now branches) ⌝ }
     requires { ⌜ Numbered (now ws) s n ⌝ }
     requires { ⌜ s .names * 2 ≤ length (now names) ⌝ }
@@ -46,7 +45,6 @@ fn named_verdict(
         ws,
         s,
         afters,
-        inners,
         flow_at,
         w,
         flows,
@@ -65,7 +63,6 @@ fn named_verdict(
         ws,
         s,
         afters,
-        inners,
         flow_at,
         w,
         flows,
@@ -83,7 +80,6 @@ fn few_names(
     ws: &[u16],
     s: Sizes,
     afters: &[u16],
-    inners: &[u16],
     flow_at: &[u16],
     w: usize,
     flows: &[u64],
@@ -94,7 +90,7 @@ fn few_names(
     lent: &mut [u32],
 ) -> Verdict
     requires { ⌜ Ready (now ws) s ⌝ }
-    requires { ⌜ Unnamed (now ws) s (now afters) (now inners) (now «flow_at») w (now flows) (now «letter_at»)
+    requires { ⌜ Unnamed (now ws) s (now afters) (now «flow_at») w (now flows) (now «letter_at»)
         (now letters) (now branches) ⌝ }
     requires { ⌜ Numbered (now ws) s n ⌝ }
     requires { ⌜ s .names ≤ 64 ⌝ }
@@ -106,7 +102,6 @@ fn few_names(
         ws,
         s,
         afters,
-        inners,
         flow_at,
         w,
         flows,
@@ -124,7 +119,6 @@ fn all_names(
     ws: &[u16],
     s: Sizes,
     afters: &[u16],
-    inners: &[u16],
     flow_at: &[u16],
     w: usize,
     flows: &[u64],
@@ -135,7 +129,7 @@ fn all_names(
     lent: &mut [u32],
 ) -> Verdict
     requires { ⌜ Ready (now ws) s ⌝ }
-    requires { ⌜ Unnamed (now ws) s (now afters) (now inners) (now «flow_at») w (now flows) (now «letter_at»)
+    requires { ⌜ Unnamed (now ws) s (now afters) (now «flow_at») w (now flows) (now «letter_at»)
         (now letters) (now branches) ⌝ }
     requires { ⌜ Numbered (now ws) s n ⌝ }
     ensures { λ v. ⌜ v ≡ answer (from-11 (now (ws .entry)) s (length (now (lent .entry)))) ⌝ }
@@ -146,7 +140,6 @@ fn all_names(
         ws,
         s,
         afters,
-        inners,
         flow_at,
         w,
         flows,
@@ -164,7 +157,6 @@ pub fn system_verdict(
     ws: &[u16],
     s: Sizes,
     afters: &[u16],
-    inners: &[u16],
     flow_at: &[u16],
     w: usize,
     flows: &[u64],
@@ -175,7 +167,7 @@ pub fn system_verdict(
     lent: &mut [u32],
 ) -> Verdict
     requires { ⌜ Ready (now ws) s ⌝ }
-    requires { ⌜ Unnamed (now ws) s (now afters) (now inners) (now «flow_at») w (now flows) (now «letter_at»)
+    requires { ⌜ Unnamed (now ws) s (now afters) (now «flow_at») w (now flows) (now «letter_at»)
         (now letters) (now branches) ⌝ }
     requires { ⌜ Numbered (now ws) s n ⌝ }
     ensures { λ v. ⌜ v ≡ answer (from-11 (now (ws .entry)) s (length (now (lent .entry)))) ⌝ }
@@ -186,7 +178,6 @@ pub fn system_verdict(
             ws,
             s,
             afters,
-            inners,
             flow_at,
             w,
             flows,
@@ -201,7 +192,6 @@ pub fn system_verdict(
         ws,
         s,
         afters,
-        inners,
         flow_at,
         w,
         flows,

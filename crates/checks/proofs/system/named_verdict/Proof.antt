@@ -17,10 +17,10 @@ use Rattle.checks.proofs.system.named_verdict.Statement.{statement}
 use Rattle.checks.proofs.system.named_verdict.Tie as tie
 
 fill-names-requires : tie.Need-fill-names-requires
-fill-names-requires c κs = (c .before .before .before .before .before .before .before .before .before .before .before .pre .0, c .before .before .before .before .before .before .before .before .before .before .before .pre .1 .1 .1)
+fill-names-requires c κs = (c .before .before .before .before .before .before .before .before .before .before .pre .0, c .before .before .before .before .before .before .before .before .before .before .pre .1 .1 .1)
 
 ceilings-verdict-requires : tie.Need-ceilings-verdict-requires
-ceilings-verdict-requires c κs = (omega arith, (c .before .before .before .before .before .before .before .before .before .before .before .before .before .before .before .pre .1 .0 .named _ (c .before .before .before .fill-names .ensures), c .before .before .before .before .before .before .before .before .before .before .before .before .before .before .before .pre .1 .1 .0))
+ceilings-verdict-requires c κs = (omega arith, (c .before .before .before .before .before .before .before .before .before .before .before .before .before .before .pre .1 .0 .named _ (c .before .before .before .fill-names .ensures), c .before .before .before .before .before .before .before .before .before .before .before .before .before .before .pre .1 .1 .0))
 
 is-safe-requires : tie.Need-is-safe-requires
 is-safe-requires c κs = search needs
@@ -30,14 +30,14 @@ same-length c = search needs
 
 returns : tie.Need-returns
 unfolding from-11
-returns c = ends-with _ _ _ _ _ _ _ _ refl (ceilings-told _ _ _ _ (c .before .before .ceilings-verdict .ensures .0) (c .before .before .before .before .before .before .before .before .before .before .before .before .before .before .before .before .before .before .pre .1 .1 .0 .counted)) (c .before .is-safe .ensures) (not-true _ (c .if1 .taken))
+returns c = ends-with _ _ _ _ _ _ _ _ refl (ceilings-told _ _ _ _ (c .before .before .ceilings-verdict .ensures .0) (c .before .before .before .before .before .before .before .before .before .before .before .before .before .before .before .before .before .pre .1 .1 .0 .counted)) (c .before .is-safe .ensures) (not-true _ (c .if1 .taken))
 
 -- refusals 11 to 13 found nothing
-pass : (c : tie.Else1) → under-ceilings (c .before .before .before .before .before .before .before .before .before .before .before .before .before .before .before .before .before .before .args .ws .now) (c .before .before .before .before .before .before .before .before .before .before .before .before .before .before .before .before .before .before .args .s) (counter-count (program (c .before .before .before .before .before .before .before .before .before .before .before .before .before .before .before .before .before .before .args .ws .now) (c .before .before .before .before .before .before .before .before .before .before .before .before .before .before .before .before .before .before .args .s)) (tables (c .before .before .before .before .before .before .before .before .before .before .before .before .before .before .before .before .before .before .args .ws .now) (c .before .before .before .before .before .before .before .before .before .before .before .before .before .before .before .before .before .before .args .s))) ≡ none
-pass c = passed _ _ _ (under-refuses _ _ (form-passed _ _ _ (c .before .before .before .before .before .before .before .before .before .before .before .before .before .before .before .before .before .before .pre .1 .1 .0))) (ceilings-told _ _ _ _ (c .before .before .ceilings-verdict .ensures .0) (c .before .before .before .before .before .before .before .before .before .before .before .before .before .before .before .before .before .before .pre .1 .1 .0 .counted)) (c .before .is-safe .ensures) (not-false _ (c .if1 .left))
+pass : (c : tie.Else1) → under-ceilings (c .before .before .before .before .before .before .before .before .before .before .before .before .before .before .before .before .before .args .ws .now) (c .before .before .before .before .before .before .before .before .before .before .before .before .before .before .before .before .before .args .s) (counter-count (program (c .before .before .before .before .before .before .before .before .before .before .before .before .before .before .before .before .before .args .ws .now) (c .before .before .before .before .before .before .before .before .before .before .before .before .before .before .before .before .before .args .s)) (tables (c .before .before .before .before .before .before .before .before .before .before .before .before .before .before .before .before .before .args .ws .now) (c .before .before .before .before .before .before .before .before .before .before .before .before .before .before .before .before .before .args .s))) ≡ none
+pass c = passed _ _ _ (under-refuses _ _ (form-passed _ _ _ (c .before .before .before .before .before .before .before .before .before .before .before .before .before .before .before .before .before .pre .1 .1 .0))) (ceilings-told _ _ _ _ (c .before .before .ceilings-verdict .ensures .0) (c .before .before .before .before .before .before .before .before .before .before .before .before .before .before .before .before .before .pre .1 .1 .0 .counted)) (c .before .is-safe .ensures) (not-false _ (c .if1 .left))
 
 listing-verdict-requires : tie.Need-listing-verdict-requires
-listing-verdict-requires c κs = (c .before .before .before .before .before .before .before .before .before .before .before .before .before .before .before .before .before .before .before .before .before .pre .1 .0 .named _ (c .before .before .before .before .before .before .before .before .before .fill-names .ensures), c .before .before .before .before .before .ceilings-verdict .ensures .1 (safe-only _ (sym (c .before .before .before .before .is-safe .ensures) ∙ not-false _ (c .before .before .before .if1 .left))))
+listing-verdict-requires c κs = (c .before .before .before .before .before .before .before .before .before .before .before .before .before .before .before .before .before .before .before .before .pre .1 .0 .named _ (c .before .before .before .before .before .before .before .before .before .fill-names .ensures), c .before .before .before .before .before .ceilings-verdict .ensures .1 (safe-only _ (sym (c .before .before .before .before .is-safe .ensures) ∙ not-false _ (c .before .before .before .if1 .left))))
 
 same-length-2 : tie.Need-same-length-2
 same-length-2 c = search needs

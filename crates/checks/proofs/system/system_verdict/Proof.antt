@@ -3,7 +3,7 @@ use Rattle.checks.proofs.system.system_verdict.Statement.{statement}
 use Rattle.checks.proofs.system.system_verdict.Tie as tie
 
 few-names-requires : tie.Need-few-names-requires
-few-names-requires c κs = (c .before .before .before .before .before .before .before .before .before .before .before .before .pre .0, (c .before .before .before .before .before .before .before .before .before .before .before .before .pre .1 .0, (c .before .before .before .before .before .before .before .before .before .before .before .before .pre .1 .1, c .before .if1 .taken)))
+few-names-requires c κs = (c .before .before .before .before .before .before .before .before .before .before .before .pre .0, (c .before .before .before .before .before .before .before .before .before .before .before .pre .1 .0, (c .before .before .before .before .before .before .before .before .before .before .before .pre .1 .1, c .before .if1 .taken)))
 
 same-length : tie.Need-same-length
 same-length c = search needs
