@@ -2,7 +2,7 @@
 
 use crate::limits;
 use crate::matching::Matching;
-use crate::program::{Head, Name, Program, Row};
+use crate::program::{Head, Name, Program, State};
 use crate::set::Set;
 use crate::tables::Tables;
 
@@ -14,8 +14,6 @@ pub struct Analysis<'a> {
     by_params: Vec<Set>,
     /// Values by letter.
     by_letter: Vec<Set>,
-    /// Call rows with a state, by class index, ascending.
-    calls: Vec<Vec<Row>>,
 }
 
 impl<'a> Analysis<'a> {
@@ -26,7 +24,6 @@ impl<'a> Analysis<'a> {
             matching: Matching::new(program, tables),
             by_params: functions_by_params(program),
             by_letter: values_by_letter(program),
-            calls: calls_by_class(program, tables),
         }
     }
 
@@ -52,8 +49,8 @@ impl<'a> Analysis<'a> {
     }
 
     /// States at a send that may put this value into the mail of this class, in order.
-    pub fn senders(&self, class: usize, value: usize) -> impl Iterator<Item = (usize, Row)> + '_ {
-        self.tables.states.iter().copied().filter(move |&(_, head)| match self.program.head(head) {
+    pub fn senders(&self, class: usize, value: usize) -> impl Iterator<Item = State> + '_ {
+        self.tables.states.iter().copied().filter(move |state| match self.program.head(state.head) {
             Some(Head::Send { target, message, .. }) => {
                 self.targets(*target).has(class) && self.flow(*message).has(value)
             }
@@ -61,15 +58,12 @@ impl<'a> Analysis<'a> {
         })
     }
 
-    /// Calls of a class that a give-back inside `function` may return to, ascending.
-    pub fn returns(&self, class: usize, function: Row) -> impl Iterator<Item = (Row, Name, Row)> + '_ {
-        let params = self.program.function(function).map_or(0, |f| f.params.len());
-        let calls = self.program.class_index(class).map_or(&[][..], |i| &self.calls[i]);
-        calls.iter().filter_map(move |&row| match self.program.head(row)? {
-            Head::Call { name, callee, args, rest } if args.len() == params && self.flow(*callee).has(function) => {
-                Some((row, *name, *rest))
-            }
-            _ => None,
+    /// The call's name and where a give back leads: the call's rest, once for each return that the call has.
+    pub fn returns(&self, state: State) -> impl Iterator<Item = (Name, State)> + '_ {
+        let call = self.program.call(state.back);
+        call.into_iter().flat_map(move |(name, rest)| {
+            let calls = &self.tables.states[self.tables.states_at(state.class, state.back)];
+            calls.iter().map(move |call| (name, call.at(rest)))
         })
     }
 }
@@ -88,14 +82,4 @@ fn values_by_letter(program: &Program) -> Vec<Set> {
         sets[program.letter(value)].insert(value);
     }
     sets
-}
-
-fn calls_by_class(program: &Program, tables: &Tables) -> Vec<Vec<Row>> {
-    let mut calls = vec![Vec::new(); program.spawns.len() + 1];
-    for &(class, head) in &tables.states {
-        if let (Some(Head::Call { .. }), Some(i)) = (program.head(head), program.class_index(class)) {
-            calls[i].push(head);
-        }
-    }
-    calls
 }

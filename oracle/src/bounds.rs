@@ -1,11 +1,12 @@
 //! Bounds (01: ceilings): their form (refusal 10), the start (11) and the bads they allow (12).
 
 use crate::bads::{Bad, Item, Place};
+use crate::limits::UNBOUNDED;
 use crate::message::Message;
-use crate::program::Program;
 use crate::refusal::{self, Detail, Refusal};
 use crate::system::System;
 use crate::tables::Tables;
+use std::ops::Range;
 
 #[derive(Clone, Debug, Default, PartialEq, Eq)]
 pub struct Bounds {
@@ -71,31 +72,47 @@ pub fn check_start(message: &Message, bounds: &Bounds, start: usize) -> Result<(
     }
 }
 
-/// The counter of an item, if it has one.
-pub fn item_counter(program: &Program, tables: &Tables, system: &System, item: &Item) -> Option<usize> {
-    debug_assert!(program.is_class(item.class));
-    match item.place {
-        Place::Head(head) => tables.state(item.class, head),
-        Place::Letter(letter) => system.letter(item.class, letter),
+/// An item by its counters, which stand side by side: their sum must reach the minimum.
+#[derive(Clone, Debug, PartialEq, Eq)]
+pub struct Sum {
+    pub counters: Range<usize>,
+    pub minimum: u16,
+}
+
+impl Sum {
+    /// True if a bound allows the minimum. Limits are added exactly; unbounded makes the sum unbounded.
+    pub fn allowed(&self, limits: &[u16]) -> bool {
+        let limits = &limits[self.counters.clone()];
+        limits.contains(&UNBOUNDED) || limits.iter().map(|&limit| limit as u64).sum::<u64>() >= self.minimum as u64
+    }
+
+    pub fn count(&self, counts: &[u64]) -> u64 {
+        counts[self.counters.clone()].iter().sum()
     }
 }
 
-/// A bad as (counter, minimum) pairs; none if an item has no counter and so is never met.
-pub fn bad_counters(program: &Program, tables: &Tables, system: &System, bad: &Bad) -> Option<Vec<(usize, u16)>> {
-    let items = bad.items.iter();
-    items.map(|item| Some((item_counter(program, tables, system, item)?, item.minimum))).collect()
+/// A bad as sums; none if an item has no counter and so is never met.
+pub type Sums = Option<Vec<Sum>>;
+
+/// The counters of an item, if it has any.
+pub fn item_counters(tables: &Tables, system: &System, item: &Item) -> Option<Range<usize>> {
+    let counters = match item.place {
+        Place::Head(head) => tables.states_at(item.class, head),
+        Place::Letter(letter) => system.letter(item.class, letter).map_or(0..0, |counter| counter..counter + 1),
+    };
+    (!counters.is_empty()).then_some(counters)
 }
 
-/// Refusal 12: the first bad that any bound allows. Unbounded is the greatest word, so plain comparison holds.
-pub fn check_bads(
-    message: &Message,
-    bounds: &Bounds,
-    bads: &[Bad],
-    counters: &[Option<Vec<(usize, u16)>>],
-) -> Result<(), Refusal> {
-    for (i, (bad, items)) in bads.iter().zip(counters).enumerate() {
+pub fn bad_sums(tables: &Tables, system: &System, bad: &Bad) -> Sums {
+    let sum = |item: &Item| Some(Sum { counters: item_counters(tables, system, item)?, minimum: item.minimum });
+    bad.items.iter().map(sum).collect()
+}
+
+/// Refusal 12: the first bad that any bound allows.
+pub fn check_bads(message: &Message, bounds: &Bounds, bads: &[Bad], sums: &[Sums]) -> Result<(), Refusal> {
+    for (i, (bad, items)) in bads.iter().zip(sums).enumerate() {
         let Some(items) = items else { continue };
-        let allows = |limits: &Vec<u16>| items.iter().all(|&(counter, minimum)| limits[counter] >= minimum);
+        let allows = |limits: &Vec<u16>| items.iter().all(|item| item.allowed(limits));
         if let Some(bound) = bounds.limits.iter().position(allows) {
             let detail = Detail::Met { bad: i, bound };
             return Err(Refusal::new(refusal::MET, message.bad_rows.at + bad.first, detail));

@@ -2,7 +2,7 @@
 
 use crate::analysis::Analysis;
 use crate::message::Message;
-use crate::program::{Branch, Head, Name, Row};
+use crate::program::{Branch, Head, Name, Row, State};
 use crate::refusal::{self, Detail, Refusal, Want};
 use crate::set::Set;
 
@@ -11,8 +11,8 @@ pub fn check(message: &Message, a: &Analysis) -> Result<(), Refusal> {
     if let Some(want) = opening_lack(a) {
         return Err(Refusal::new(refusal::OPEN, message.tables_at, Detail::Lacks(want)));
     }
-    for (i, &(class, head)) in a.tables.states.iter().enumerate() {
-        if let Some(want) = (Check { a, class }).state(head) {
+    for (i, &state) in a.tables.states.iter().enumerate() {
+        if let Some(want) = (Check { a, at: state }).state() {
             let position = message.tables.at + message.flow + message.mail + i;
             return Err(Refusal::new(refusal::OPEN, position, Detail::Lacks(want)));
         }
@@ -24,35 +24,39 @@ pub fn check(message: &Message, a: &Analysis) -> Result<(), Refusal> {
 fn opening_lack(a: &Analysis) -> Option<Want> {
     let named = a.program.named().find(|f| !a.flow(f.name).has(f.row));
     let flow = named.map(|f| Want::Flow { name: f.name, value: f.row });
-    flow.or_else(|| Check { a, class: a.program.rows }.wants_state(a.program.start))
+    flow.or_else(|| wants_state(a, a.program.opening()))
 }
 
-/// What one state of a class lacks, if anything.
+fn wants_state(a: &Analysis, state: State) -> Option<Want> {
+    a.tables.state(state).is_none().then_some(Want::State(state))
+}
+
+/// What one state lacks, if anything.
 struct Check<'a> {
     a: &'a Analysis<'a>,
-    class: usize,
+    at: State,
 }
 
 impl Check<'_> {
-    fn state(&self, row: Row) -> Option<Want> {
+    fn state(&self) -> Option<Want> {
+        let row = self.at.head;
         match self.a.program.head(row)? {
             Head::Build { name, rest, .. } | Head::Function { name, rest } => self.yields(*name, row, *rest),
-            Head::SelfAddress { name, rest } => self.yields(*name, self.class, *rest),
+            Head::SelfAddress { name, rest } => self.yields(*name, self.at.class, *rest),
             Head::Call { callee, args, .. } => self.call(*callee, args),
-            Head::GiveBack { value } => self.give_back(*value, row),
+            Head::GiveBack { value } => self.give_back(*value),
             Head::Send { name, target, message, rest } => self.send(*name, *target, *message, *rest),
             Head::Spawn { name, callee, rest } => self.spawn(row, *name, *callee, *rest),
             Head::Case { value, branches } => self.branches(self.a.flow(*value), branches),
-            Head::Receive { branches } => self.branches(&self.a.tables.mail_of(self.a.program, self.class), branches),
+            Head::Receive { branches } => {
+                self.branches(&self.a.tables.mail_of(self.a.program, self.at.class), branches)
+            }
         }
     }
 
+    /// The same process at another head, with the same return.
     fn wants_state(&self, head: Row) -> Option<Want> {
-        self.wants_state_of(self.class, head)
-    }
-
-    fn wants_state_of(&self, class: usize, head: Row) -> Option<Want> {
-        (!self.a.tables.has_state(class, head)).then_some(Want::State { class, head })
+        wants_state(self.a, self.at.at(head))
     }
 
     fn wants_flow(&self, name: Name, value: usize) -> Option<Want> {
@@ -73,15 +77,15 @@ impl Check<'_> {
         callees.iter().filter_map(|row| self.a.program.function(row)).find_map(|f| {
             let passed = f.params.iter().zip(args);
             let lack = passed.map(|(&p, &arg)| self.wants_flows(p, self.a.flow(arg))).find_map(|w| w);
-            lack.or_else(|| self.wants_state(f.body))
+            lack.or_else(|| wants_state(self.a, State { back: self.at.head, ..self.at.at(f.body) }))
         })
     }
 
-    fn give_back(&self, value: Name, row: Row) -> Option<Want> {
-        let function = self.a.program.inside[row]?;
+    fn give_back(&self, value: Name) -> Option<Want> {
+        let values = self.a.flow(value);
         self.a
-            .returns(self.class, function)
-            .find_map(|(_, name, rest)| self.wants_flows(name, self.a.flow(value)).or_else(|| self.wants_state(rest)))
+            .returns(self.at)
+            .find_map(|(name, next)| self.wants_flows(name, values).or_else(|| wants_state(self.a, next)))
     }
 
     fn send(&self, name: Name, target: Name, message: Name, rest: Row) -> Option<Want> {
@@ -100,10 +104,9 @@ impl Check<'_> {
 
     fn spawn(&self, row: Row, name: Name, callee: Name, rest: Row) -> Option<Want> {
         let functions = self.a.callees(callee, 0);
-        functions
-            .iter()
-            .filter_map(|f| self.a.program.function(f))
-            .find_map(|f| self.yields(name, row, rest).or_else(|| self.wants_state_of(row, f.body)))
+        functions.iter().filter_map(|f| self.a.program.function(f)).find_map(|f| {
+            self.yields(name, row, rest).or_else(|| wants_state(self.a, self.a.program.fresh(row, f.body)))
+        })
     }
 
     fn branches(&self, values: &Set, branches: &[Branch]) -> Option<Want> {

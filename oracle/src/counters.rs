@@ -1,7 +1,7 @@
 //! The counters' run, and what holds of its counts.
 
 use crate::bads::{Bad, Item, Place};
-use crate::bounds::{self, Bounds};
+use crate::bounds::{self, Bounds, Sum, Sums};
 use crate::limits::UNBOUNDED;
 use crate::machine::{Deed, Machine, Step};
 use crate::program::Program;
@@ -41,8 +41,8 @@ impl Counts {
     }
 
     /// True if every item is met.
-    pub fn meet(&self, items: &[(usize, u16)]) -> bool {
-        items.iter().all(|&(counter, minimum)| self.0[counter] >= minimum as u64)
+    pub fn meet(&self, items: &[Sum]) -> bool {
+        items.iter().all(|item| item.count(&self.0) >= item.minimum as u64)
     }
 }
 
@@ -50,7 +50,7 @@ impl Counts {
 pub fn station_counts(machine: &Machine, tables: &Tables, system: &System) -> Option<Counts> {
     let mut counts = vec![0; system.counters()];
     for process in &machine.processes {
-        counts[tables.state(process.class, process.location)?] += 1;
+        counts[tables.state(machine.state(process))?] += 1;
         for &message in &process.mailbox {
             counts[system.letter(process.class, machine.letter(message))?] += 1;
         }
@@ -60,13 +60,12 @@ pub fn station_counts(machine: &Machine, tables: &Tables, system: &System) -> Op
 
 /// The index of the rule that a step uses.
 pub fn rule_of(step: &Step, tables: &Tables, system: &System) -> Option<usize> {
-    let from = tables.state(step.class, step.from)?;
-    let to = tables.state(step.class, step.to)?;
+    let (from, to) = (tables.state(step.from)?, tables.state(step.to)?);
     let effect = match step.deed {
         Deed::Inner => Effect::Nothing,
-        Deed::Read { letter } => Effect::Read(system.letter(step.class, letter)?),
+        Deed::Read { letter } => Effect::Read(system.letter(step.from.class, letter)?),
         Deed::Put { class, letter, .. } => Effect::Put(system.letter(class, letter)?),
-        Deed::New { class, head, .. } => Effect::New(tables.state(class, head)?),
+        Deed::New { state, .. } => Effect::New(tables.state(state)?),
     };
     let begin = system.rules.partition_point(|rule| rule.from < from);
     let rule = Rule { from, to, effect };
@@ -100,7 +99,7 @@ pub struct Beside<'a> {
     pub tables: &'a Tables,
     pub system: &'a System,
     bounds: Option<&'a Bounds>,
-    bads: Vec<Option<Vec<(usize, u16)>>>,
+    bads: Vec<Sums>,
 }
 
 impl<'a> Beside<'a> {
@@ -111,14 +110,14 @@ impl<'a> Beside<'a> {
         bounds: Option<&'a Bounds>,
         bads: &[Bad],
     ) -> Option<Beside<'a>> {
-        let start = tables.state(program.rows, program.start)?;
+        let start = tables.state(program.opening())?;
         Some(Beside {
             machine: Machine::new(program),
             counts: Counts::start(system, start),
             tables,
             system,
             bounds,
-            bads: bads.iter().map(|bad| bounds::bad_counters(program, tables, system, bad)).collect(),
+            bads: bads.iter().map(|bad| bounds::bad_sums(tables, system, bad)).collect(),
         })
     }
 

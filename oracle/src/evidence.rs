@@ -29,7 +29,7 @@ pub fn lay_out(m: &mut Message) {
     m.bad_rows.at = m.bads_at + 2;
     m.tables_at = m.bad_rows.at + 2 * m.bad_rows.len();
     m.tables.at = m.tables_at + 3;
-    m.bounds_at = m.tables.at + 2 * m.tables.len();
+    m.bounds_at = m.tables.at + 2 * m.tables.len() + m.returns.len();
     m.entries.at = m.bounds_at + 2;
 }
 
@@ -69,7 +69,9 @@ pub fn put_tables(m: &mut Message, program: &Program, tables: &Tables) -> Result
         }
     }
     (m.flow, m.mail, m.states) = (flow.len(), mail.len(), tables.states.len());
-    m.tables = columns(&[flow, mail, tables.states.clone()].concat());
+    let states = tables.states.iter().map(|state| (state.class, state.head)).collect();
+    m.tables = columns(&[flow, mail, states].concat());
+    m.returns = tables.states.iter().map(|state| state.back as u16).collect();
     lay_out(m);
     Ok(())
 }
@@ -88,8 +90,8 @@ pub fn find_bounds(
     bads: &[Bad],
     budget: usize,
 ) -> Result<Vec<Limits>, Failure> {
-    let counters: Vec<_> = bads.iter().map(|bad| bounds::bad_counters(program, tables, system, bad)).collect();
-    let start = tables.state(program.rows, program.start).unwrap_or(0);
+    let counters: Vec<_> = bads.iter().map(|bad| bounds::bad_sums(tables, system, bad)).collect();
+    let start = tables.state(program.opening()).unwrap_or(0);
     explore::bounds(&Net { system, start, bads: &counters }, budget)
 }
 

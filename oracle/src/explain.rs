@@ -2,9 +2,10 @@
 
 use crate::analysis::Analysis;
 use crate::bads::Bad;
-use crate::bounds::{Bounds, item_counter};
+use crate::bounds::{Bounds, item_counters};
 use crate::limits;
 use crate::message::{Columns, Message};
+use crate::program::State;
 use crate::refusal::{self, Detail, Refusal, Want};
 use crate::replay::Derived;
 use crate::symbols::Symbols;
@@ -193,12 +194,20 @@ impl Explainer<'_> {
             } else {
                 "states"
             };
-            format!("{} of the tables, in the list of {list}", self.entry_words("entry", &m.tables))
+            let words = match i.checked_sub(m.flow + m.mail).and_then(|state| m.returns.get(state)) {
+                Some(back) => {
+                    let (class, head) = m.tables.pair(i);
+                    format!("entry {i}, which is ({class}, {head}, {back})")
+                }
+                None => self.entry_words("entry", &m.tables),
+            };
+            format!("{words} of the tables, in the list of {list}")
         });
         (
             what,
             self.wanted(),
-            "sort each list, drop entries that stand twice, keep to names, values, classes and heads".to_string(),
+            "sort each list, drop entries that stand twice, keep to names, values, classes, heads and calls"
+                .to_string(),
         )
     }
 
@@ -215,7 +224,10 @@ impl Explainer<'_> {
                     symbols.value(value)
                 )
             }
-            Want::State { class, head } => format!("state entry ({class}, {head}): {}", symbols.state(class, head)),
+            Want::State(state) => {
+                let State { class, head, back } = state;
+                format!("state entry ({class}, {head}, {back}): {}", symbols.state(state))
+            }
         }
     }
 
@@ -228,7 +240,7 @@ impl Explainer<'_> {
         let state = self.refusal.position.checked_sub(at);
         let state = state.and_then(|i| self.read.tables.as_ref()?.states.get(i).map(|s| (i, *s)));
         let what = match (state, self.symbols) {
-            (Some((i, (class, head))), Some(symbols)) => format!("state {i}: {}", symbols.state(class, head)),
+            (Some((i, state)), Some(symbols)) => format!("state {i}: {}", symbols.state(state)),
             _ => "the size F: an opening entry is missing".to_string(),
         };
         (
@@ -244,9 +256,9 @@ impl Explainer<'_> {
         let what = self.want(&Want::Mail { class, value: function });
         let wanted = "no function in the mail, unless inside a constructor";
         let (sent, to_do) = match (self.sender(class, function), self.symbols) {
-            (Some((sender, head)), Some(symbols)) => {
+            (Some(sender), Some(symbols)) => {
                 let to_do = "send a constructor that holds the function, and take it out where it is received";
-                (format!("sent by {}", symbols.state(sender, head)), to_do)
+                (format!("sent by {}", symbols.state(sender)), to_do)
             }
             _ => ("no send puts this one there".to_string(), "drop the entry"),
         };
@@ -254,7 +266,7 @@ impl Explainer<'_> {
     }
 
     /// The first state whose send may put a value into the mail of a class.
-    fn sender(&self, class: usize, value: usize) -> Option<(usize, usize)> {
+    fn sender(&self, class: usize, value: usize) -> Option<State> {
         let (program, tables) = self.read.program.as_ref().zip(self.read.tables.as_ref())?;
         Analysis::new(program, tables).senders(class, value).next()
     }
@@ -346,9 +358,9 @@ impl Counted<'_> {
 
     /// A bad and a ceiling that allows it, by the counters of its items.
     fn met(&self, bad: usize, bound: usize) -> String {
-        let Derived { program, tables, system } = self.derived;
+        let Derived { tables, system, .. } = self.derived;
         let items: Vec<String> = self.bads[bad].items.iter().map(|item| self.symbols.item(item)).collect();
-        let counters = self.bads[bad].items.iter().filter_map(|item| item_counter(program, tables, system, item));
+        let counters = self.bads[bad].items.iter().filter_map(|item| item_counters(tables, system, item)).flatten();
         let mut counters: Vec<usize> = counters.collect();
         counters.dedup();
         let (name, items, limits) = (self.symbols.bad(bad), items.join(" and "), self.limits(bound, &counters));

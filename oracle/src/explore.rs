@@ -1,21 +1,25 @@
-//! Finding bounds (01: ceilings) by exploring the counters.
+//! Finding bounds (01: ceilings) by exploring the counters, or by weighted sums.
 //!
 //! Karp and Miller's tree with acceleration to unbounded. If the exact tree grows too large,
 //! counters are at first coarse: positive means unbounded. If a coarse tree meets a bad, its
 //! path is tried with true counts; the counter that falls short becomes exact, and the tree is
 //! made anew. When no counter falls short the bad is coverable and the path is a run.
+//! Between the two, where no rule raises a weighted sum, the highest counts that weigh no more than the start
+//! are bounds.
 
+use crate::bounds::{Sum, Sums};
 use crate::limits::{self, UNBOUNDED};
+use crate::lines;
 use crate::system::{Rule, System};
 use std::collections::VecDeque;
 
 pub type Limits = Vec<u16>;
 
-/// What to explore: the rules, the starting counter and the bads as (counter, minimum) pairs.
+/// What to explore: the rules, the starting counter and the bads as sums of counters.
 pub struct Net<'a> {
     pub system: &'a System,
     pub start: usize,
-    pub bads: &'a [Option<Vec<(usize, u16)>>],
+    pub bads: &'a [Sums],
 }
 
 #[derive(Clone, Debug, PartialEq, Eq)]
@@ -64,14 +68,27 @@ const MOST_MAXIMAL: usize = 2048;
 /// Bounds that hold every count and allow no bad, or why there are none. `budget` bounds the work in nodes.
 pub fn bounds(net: &Net, budget: usize) -> Result<Vec<Limits>, Failure> {
     match from(net, budget / 8, true) {
-        Err(Failure::TooLarge(_)) => from(net, budget, false),
+        Err(Failure::TooLarge(_)) => weighed(net, budget).map_or_else(|| from(net, budget, false), Ok),
         found => found,
     }
 }
 
+/// Bounds by weighted sums that no rule raises: the highest counts that weigh no more than the start.
+fn weighed(net: &Net, budget: usize) -> Option<Vec<Limits>> {
+    let mut all: Option<Vec<Limits>> = None;
+    for line in lines::find(net, budget).ok()? {
+        let limits = lines::bounds(net, &line, MOST_MAXIMAL)?;
+        all = Some(all.map_or(Some(limits.clone()), |all| meet(&all, &limits))?);
+    }
+    all.filter(|limits| fitting(limits).is_ok())
+}
+
 /// The same, but few bounds rather than exact ones.
 pub fn fewest(net: &Net, budget: usize) -> Result<Vec<Limits>, Failure> {
-    from(net, budget, false)
+    match from(net, budget, false) {
+        Err(Failure::TooLarge(why)) => weighed(net, budget).ok_or(Failure::TooLarge(why)),
+        found => found,
+    }
 }
 
 /// Bounds that allow only the bads that both allow: counts that stay under some bound of each stay under the least of
@@ -171,7 +188,7 @@ impl Tree<'_> {
 
     fn met(&self, node: usize) -> Option<usize> {
         let limits = &self.nodes[node].limits;
-        let meets = |items: &Vec<(usize, u16)>| items.iter().all(|&(counter, minimum)| limits[counter] >= minimum);
+        let meets = |items: &Vec<Sum>| items.iter().all(|item| item.allowed(limits));
         self.net.bads.iter().position(|bad| bad.as_ref().is_some_and(meets))
     }
 
@@ -324,9 +341,10 @@ fn replay(net: &Net, bad: usize, run: &[usize]) -> Result<usize, Vec<usize>> {
     let mut counts = vec![0i64; net.system.counters()];
     counts[net.start] = 1;
     let mut short = Vec::new();
-    let items: Vec<(usize, u16)> = net.bads[bad].iter().flatten().copied().collect();
+    let items: Vec<&Sum> = net.bads[bad].iter().flatten().collect();
+    let met = |item: &Sum, counts: &[i64]| counts[item.counters.clone()].iter().sum::<i64>() >= item.minimum as i64;
     for (i, &rule) in run.iter().enumerate() {
-        if short.is_empty() && items.iter().all(|&(counter, minimum)| counts[counter] >= minimum as i64) {
+        if short.is_empty() && items.iter().all(|item| met(item, &counts)) {
             return Ok(i);
         }
         let rule = &net.system.rules[rule];
@@ -339,8 +357,8 @@ fn replay(net: &Net, bad: usize, run: &[usize]) -> Result<usize, Vec<usize>> {
         counts[rule.to] += 1;
         rule.adds().into_iter().for_each(|counter| counts[counter] += 1);
     }
-    let missed = items.iter().filter(|&&(counter, minimum)| counts[counter] < minimum as i64);
-    short.extend(missed.map(|&(counter, _)| counter));
+    let missed = items.iter().filter(|item| !met(item, &counts));
+    short.extend(missed.flat_map(|item| item.counters.clone()));
     if short.is_empty() { Ok(run.len()) } else { Err(short) }
 }
 

@@ -1,7 +1,7 @@
 //! The least closed tables above some entries, by fixpoint.
 
 use crate::analysis::Analysis;
-use crate::program::{Branch, Head, Name, Pattern, Program, Row};
+use crate::program::{Branch, Head, Name, Pattern, Program, Row, State};
 use crate::set::Set;
 use crate::tables::Tables;
 use std::collections::BTreeSet;
@@ -16,8 +16,8 @@ pub fn close(program: &Program, mut tables: Tables) -> Tables {
     loop {
         let mut growth = Growth::new(program, &tables);
         growth.opening();
-        for &(class, head) in &tables.states {
-            growth.state(class, head);
+        for &state in &tables.states {
+            growth.state(state);
         }
         let next = growth.tables();
         if next == tables {
@@ -32,7 +32,7 @@ struct Growth<'a> {
     a: Analysis<'a>,
     flow: Vec<Set>,
     mail: Vec<Set>,
-    states: BTreeSet<(usize, usize)>,
+    states: BTreeSet<State>,
 }
 
 impl<'a> Growth<'a> {
@@ -54,63 +54,61 @@ impl<'a> Growth<'a> {
         for function in program.named() {
             self.flow[function.name].insert(function.row);
         }
-        self.states.insert((program.rows, program.start));
+        self.states.insert(program.opening());
     }
 
     fn holds(&mut self, name: Name, values: &Set) {
         self.flow[name] = self.flow[name].or(values);
     }
 
-    fn yields(&mut self, class: usize, name: Name, value: usize, rest: Row) {
+    fn yields(&mut self, at: State, name: Name, value: usize, rest: Row) {
         self.flow[name].insert(value);
-        self.states.insert((class, rest));
+        self.states.insert(at.at(rest));
     }
 
-    fn state(&mut self, class: usize, row: Row) {
+    fn state(&mut self, at: State) {
         let program = self.a.program;
+        let (class, row) = (at.class, at.head);
         match program.head(row) {
-            Some(Head::Build { name, rest, .. } | Head::Function { name, rest }) => {
-                self.yields(class, *name, row, *rest)
-            }
-            Some(Head::SelfAddress { name, rest }) => self.yields(class, *name, class, *rest),
-            Some(Head::Call { callee, args, .. }) => self.call(class, *callee, args),
-            Some(Head::GiveBack { value }) => self.give_back(class, row, *value),
-            Some(Head::Send { name, target, message, rest }) => self.send(class, *name, *target, *message, *rest),
-            Some(Head::Spawn { name, callee, rest }) => self.spawn(class, row, *name, *callee, *rest),
+            Some(Head::Build { name, rest, .. } | Head::Function { name, rest }) => self.yields(at, *name, row, *rest),
+            Some(Head::SelfAddress { name, rest }) => self.yields(at, *name, class, *rest),
+            Some(Head::Call { callee, args, .. }) => self.call(at, *callee, args),
+            Some(Head::GiveBack { value }) => self.give_back(at, *value),
+            Some(Head::Send { name, target, message, rest }) => self.send(at, *name, *target, *message, *rest),
+            Some(Head::Spawn { name, callee, rest }) => self.spawn(at, *name, *callee, *rest),
             Some(Head::Case { value, branches }) => {
                 let values = *self.a.flow(*value);
-                self.branches(class, &values, branches);
+                self.branches(at, &values, branches);
             }
             Some(Head::Receive { branches }) => {
                 let mail = self.a.tables.mail_of(program, class);
-                self.branches(class, &mail, branches);
+                self.branches(at, &mail, branches);
             }
             None => {}
         }
     }
 
-    fn call(&mut self, class: usize, callee: Name, args: &[Name]) {
+    fn call(&mut self, at: State, callee: Name, args: &[Name]) {
         for row in self.a.callees(callee, args.len()).iter() {
             let Some(function) = self.a.program.function(row) else { continue };
             for (&param, &arg) in function.params.iter().zip(args) {
                 let values = *self.a.flow(arg);
                 self.holds(param, &values);
             }
-            self.states.insert((class, function.body));
+            self.states.insert(State { back: at.head, ..at.at(function.body) });
         }
     }
 
-    fn give_back(&mut self, class: usize, row: Row, value: Name) {
-        let Some(function) = self.a.program.inside[row] else { return };
+    fn give_back(&mut self, at: State, value: Name) {
         let values = *self.a.flow(value);
-        let returns: Vec<_> = self.a.returns(class, function).collect();
-        for (_, name, rest) in returns {
+        let returns: Vec<_> = self.a.returns(at).collect();
+        for (name, next) in returns {
             self.holds(name, &values);
-            self.states.insert((class, rest));
+            self.states.insert(next);
         }
     }
 
-    fn send(&mut self, class: usize, name: Name, target: Name, message: Name, rest: Row) {
+    fn send(&mut self, at: State, name: Name, target: Name, message: Name, rest: Row) {
         let (classes, values) = (self.a.targets(target), *self.a.flow(message));
         if classes.is_empty() || values.is_empty() {
             return;
@@ -119,23 +117,23 @@ impl<'a> Growth<'a> {
             self.mail[i] = self.mail[i].or(&values);
         }
         self.holds(name, &values);
-        self.states.insert((class, rest));
+        self.states.insert(at.at(rest));
     }
 
-    fn spawn(&mut self, class: usize, row: Row, name: Name, callee: Name, rest: Row) {
+    fn spawn(&mut self, at: State, name: Name, callee: Name, rest: Row) {
         for f in self.a.callees(callee, 0).iter().filter_map(|f| self.a.program.function(f)) {
-            self.flow[name].insert(row);
-            self.states.insert((class, rest));
-            self.states.insert((row, f.body));
+            self.flow[name].insert(at.head);
+            self.states.insert(at.at(rest));
+            self.states.insert(self.a.program.fresh(at.head, f.body));
         }
     }
 
-    fn branches(&mut self, class: usize, values: &Set, branches: &[Branch]) {
+    fn branches(&mut self, at: State, values: &Set, branches: &[Branch]) {
         for branch in branches {
             let reached = self.a.matching.may(branch.pattern, values);
             if !reached.is_empty() {
                 self.spots(branch.pattern, &reached);
-                self.states.insert((class, branch.body));
+                self.states.insert(at.at(branch.body));
             }
         }
     }

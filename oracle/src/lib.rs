@@ -14,6 +14,7 @@ pub mod held;
 pub mod leak;
 pub mod least;
 pub mod limits;
+pub mod lines;
 pub mod listing;
 pub mod machine;
 pub mod matching;

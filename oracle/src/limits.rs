@@ -48,6 +48,7 @@ pub const LONGEST: usize = 2
         + 2 * most(BAD_ROWS)
         + 3
         + 2 * (most(FLOW) + most(MAIL) + most(STATES))
+        + most(STATES)
         + 2
         + 2 * most(BOUND_ENTRIES));
 

@@ -2,7 +2,7 @@
 
 mod shown;
 
-use crate::program::{Branch, Head, Name, Program, Row};
+use crate::program::{Branch, Head, Name, Program, Row, State};
 use crate::store::{Bindings, Frame, Frames, Store, Value, ValueId};
 
 #[derive(Clone, Debug, PartialEq, Eq, Hash)]
@@ -29,15 +29,14 @@ pub enum Deed {
     Inner,
     Read { letter: usize },
     Put { class: usize, letter: usize, process: usize },
-    New { class: usize, head: Row, process: usize },
+    New { state: State, process: usize },
 }
 
 /// A step that was taken.
 #[derive(Clone, Copy, Debug, PartialEq, Eq)]
 pub struct Step {
-    pub class: usize,
-    pub from: Row,
-    pub to: Row,
+    pub from: State,
+    pub to: State,
     pub deed: Deed,
 }
 
@@ -113,22 +112,38 @@ impl<'a> Machine<'a> {
 
     fn foreseen(&self, number: usize, act: &Act) -> Step {
         let process = &self.processes[number];
+        let from = self.state(process);
         let (to, deed) = match *act {
-            Act::Yield { then, .. } | Act::GiveBack { then, .. } => (then.1, Deed::Inner),
-            Act::Call { body, .. } => (body, Deed::Inner),
+            Act::Yield { then, .. } => (then.1, Deed::Inner),
+            Act::GiveBack { frame, then, .. } => {
+                return Step { from, to: State { back: self.back(frame.below), ..from.at(then.1) }, deed: Deed::Inner };
+            }
+            Act::Call { body, .. } => {
+                return Step { from, to: State { back: from.head, ..from.at(body) }, deed: Deed::Inner };
+            }
             Act::Send { process, message, then } => {
                 let class = self.processes[process].class;
                 (then.1, Deed::Put { class, letter: self.letter(message), process })
             }
             Act::Spawn { head, then, .. } => {
-                (then.1, Deed::New { class: process.location, head, process: self.processes.len() })
+                (then.1, Deed::New { state: self.program.fresh(from.head, head), process: self.processes.len() })
             }
             Act::Enter { branch, taken: None, .. } => (branch.body, Deed::Inner),
             Act::Enter { branch, taken: Some(i), .. } => {
                 (branch.body, Deed::Read { letter: self.letter(process.mailbox[i]) })
             }
         };
-        Step { class: process.class, from: process.location, to, deed }
+        Step { from, to: from.at(to), deed }
+    }
+
+    /// The call on top of what is pushed, or R.
+    fn back(&self, frames: Frames) -> usize {
+        self.store.frame(frames).map_or(self.program.rows, |frame| frame.call)
+    }
+
+    /// Class, place and return of a process.
+    pub fn state(&self, process: &Process) -> State {
+        State { class: process.class, head: process.location, back: self.back(process.frames) }
     }
 
     fn next(&self, number: usize) -> Result<Act<'a>, Idle> {

@@ -42,6 +42,8 @@ pub struct Message {
     pub mail: usize,
     pub states: usize,
     pub tables: Columns,
+    /// For each state the call that it returns to, or R: the third array of the tables part.
+    pub returns: Vec<u16>,
     pub bounds_at: usize,
     pub bounds: usize,
     pub entries: Columns,
@@ -66,7 +68,13 @@ struct PartReader<'a> {
 }
 
 impl PartReader<'_> {
-    fn part(&mut self, limits: &[Limit], length: fn(&[usize]) -> usize) -> Result<(Vec<usize>, Columns), Refusal> {
+    /// A part whose two columns have this length, with so many words behind them.
+    fn part(
+        &mut self,
+        limits: &[Limit],
+        length: fn(&[usize]) -> usize,
+        behind: fn(&[usize]) -> usize,
+    ) -> Result<(Vec<usize>, Columns), Refusal> {
         let begin = self.at;
         if self.words < begin + limits.len() {
             return Err(Refusal::wanted(refusal::LENGTH, begin, "the part's sizes"));
@@ -74,10 +82,11 @@ impl PartReader<'_> {
         let sizes = self.sizes(limits)?;
         let entries = length(&sizes);
         let at = begin + limits.len();
-        if self.words < at + 2 * entries {
-            return Err(Refusal::wanted(refusal::LENGTH, begin, "the part's two columns"));
+        let end = at + 2 * entries + behind(&sizes);
+        if self.words < end {
+            return Err(Refusal::wanted(refusal::LENGTH, begin, "the part's columns"));
         }
-        self.at = at + 2 * entries;
+        self.at = end;
         Ok((sizes, self.columns(at, entries)))
     }
 
@@ -109,19 +118,20 @@ pub fn read_within(bytes: &[u8], within: &Limits) -> Result<Message, Refusal> {
     use limits::*;
     let mut reader = PartReader { bytes, words: bytes.len() / 2, at: 0 };
     let mut m = Message::default();
-    let (sizes, columns) = reader.part(&[within.rows, NAMES, CONSTRUCTORS, FUNCTIONS], |s| s[0])?;
+    let (sizes, columns) = reader.part(&[within.rows, NAMES, CONSTRUCTORS, FUNCTIONS], |s| s[0], |_| 0)?;
     (m.rows, m.names, m.constructors, m.functions) = (sizes[0], sizes[1], sizes[2], sizes[3]);
     m.program = columns;
     m.bads_at = reader.at;
-    let (sizes, columns) = reader.part(&[BADS, BAD_ROWS], |s| s[1])?;
+    let (sizes, columns) = reader.part(&[BADS, BAD_ROWS], |s| s[1], |_| 0)?;
     m.bads = sizes[0];
     m.bad_rows = columns;
     m.tables_at = reader.at;
-    let (sizes, columns) = reader.part(&[FLOW, MAIL, within.states], |s| s[0] + s[1] + s[2])?;
+    let (sizes, columns) = reader.part(&[FLOW, MAIL, within.states], |s| s[0] + s[1] + s[2], |s| s[2])?;
     (m.flow, m.mail, m.states) = (sizes[0], sizes[1], sizes[2]);
     m.tables = columns;
     m.bounds_at = reader.at;
-    let (sizes, columns) = reader.part(&[BOUNDS, BOUND_ENTRIES], |s| s[1])?;
+    m.returns = (m.bounds_at - m.states..m.bounds_at).map(|i| word(bytes, i)).collect();
+    let (sizes, columns) = reader.part(&[BOUNDS, BOUND_ENTRIES], |s| s[1], |_| 0)?;
     m.bounds = sizes[0];
     m.entries = columns;
     if bytes.len() != 2 * reader.at {
@@ -152,6 +162,7 @@ pub fn write(m: &Message) -> Vec<u16> {
     push_part(&mut words, &[m.program.len(), m.names, m.constructors, m.functions], &m.program);
     push_part(&mut words, &[m.bads, m.bad_rows.len()], &m.bad_rows);
     push_part(&mut words, &[m.flow, m.mail, m.states], &m.tables);
+    words.extend(&m.returns);
     push_part(&mut words, &[m.bounds, m.entries.len()], &m.entries);
     words
 }

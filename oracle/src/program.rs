@@ -83,8 +83,6 @@ pub struct Program {
     pub nodes: Vec<Node>,
     /// Functions by row, tags 3 and 11, rows ascending.
     pub functions: Vec<Function>,
-    /// For a head, the innermost function around it.
-    pub inside: Vec<Option<Row>>,
     pub start: Row,
     pub binders: Vec<Binder>,
     pub uses: Vec<Use>,
@@ -92,7 +90,45 @@ pub struct Program {
     pub spawns: Vec<Row>,
 }
 
+/// A class at a head, and where a process there will return to: a call row, or R where none is pushed ((iv) of 02).
+#[derive(Clone, Copy, Debug, PartialEq, Eq, PartialOrd, Ord, Hash)]
+pub struct State {
+    pub class: usize,
+    pub head: Row,
+    pub back: usize,
+}
+
+impl State {
+    /// The same process at another head, with the same return.
+    pub fn at(self, head: Row) -> State {
+        State { head, ..self }
+    }
+}
+
 impl Program {
+    /// The state of the starting process.
+    pub fn opening(&self) -> State {
+        self.fresh(self.rows, self.start)
+    }
+
+    /// A state with nothing pushed.
+    pub fn fresh(&self, class: usize, head: Row) -> State {
+        State { class, head, back: self.rows }
+    }
+
+    /// Name and rest of a call.
+    pub fn call(&self, row: Row) -> Option<(Name, Row)> {
+        match self.head(row) {
+            Some(Head::Call { name, rest, .. }) => Some((*name, *rest)),
+            _ => None,
+        }
+    }
+
+    /// Where a state may return to: a call row, or R.
+    pub fn is_return(&self, value: usize) -> bool {
+        value == self.rows || self.call(value).is_some()
+    }
+
     pub fn head(&self, row: Row) -> Option<&Head> {
         match self.nodes.get(row) {
             Some(Node::Head(head)) => Some(head),

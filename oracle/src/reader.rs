@@ -9,7 +9,6 @@ struct Reader<'a> {
     tags: &'a [u16],
     numbers: &'a [u16],
     at: Row,
-    function: Option<Row>,
     program: Program,
 }
 
@@ -19,11 +18,9 @@ pub fn read(message: &Message) -> Result<Program, Refusal> {
         tags: &message.program.first,
         numbers: &message.program.second,
         at: 0,
-        function: None,
         program: Program { rows: message.rows, names: message.names, ..Program::default() },
     };
     reader.program.nodes = vec![Node::Part; message.rows];
-    reader.program.inside = vec![None; message.rows];
     reader.constructors(message.constructors)?;
     reader.named_functions(message.functions)?;
     reader.program.start = reader.at;
@@ -124,9 +121,7 @@ impl Reader<'_> {
             params.push(param);
             binders.push(self.bind(at, param));
         }
-        let around = self.function.replace(row);
         let body = self.expression()?;
-        self.function = around;
         for binder in binders {
             self.scope(binder, body, self.at);
         }
@@ -142,7 +137,6 @@ impl Reader<'_> {
             let row = self.at;
             let (head, binder) = self.head()?;
             self.program.nodes[row] = Node::Head(head);
-            self.program.inside[row] = self.function;
             match binder {
                 Some(binder) => waiting.push((binder, self.at)),
                 None => break,

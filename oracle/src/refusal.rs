@@ -1,11 +1,13 @@
 //! What a refused message is answered: a number, a position and, for people, what was found.
 
+use crate::program::State;
+
 /// One wish of the closed tables that an entry should fulfil.
 #[derive(Clone, Copy, Debug, PartialEq, Eq)]
 pub enum Want {
     Flow { name: usize, value: usize },
     Mail { class: usize, value: usize },
-    State { class: usize, head: usize },
+    State(State),
 }
 
 /// What `explain` tells beyond number and position.

@@ -1,6 +1,7 @@
 //! A run of the counters tried on the station: which process takes each step, and where they part. Beside it a search
 //! over the station's own runs, for a bad that no such list of steps meets.
 
+use crate::bounds::Sum;
 use crate::counters::{rule_of, station_counts};
 use crate::machine::{Idle, Machine, Process, Step};
 use crate::program::Program;
@@ -8,6 +9,7 @@ use crate::system::System;
 use crate::tables::Tables;
 use std::cmp::Reverse;
 use std::collections::{BinaryHeap, HashSet, VecDeque};
+use std::ops::Range;
 use std::rc::Rc;
 
 /// A program with its closed tables and the system that they give.
@@ -118,9 +120,9 @@ impl Derived<'_> {
     /// Of the processes that stand where a rule begins: the numbers of those that would use it, and what the others
     /// would do.
     fn taking(&self, machine: &Machine, rule: usize) -> (Vec<usize>, Vec<Doing>) {
-        let (class, head) = self.tables.states[self.system.rules[rule].from];
+        let from = self.tables.states[self.system.rules[rule].from];
         let processes = machine.processes.iter().enumerate();
-        let there = processes.filter(|(_, p)| (p.class, p.location) == (class, head));
+        let there = processes.filter(|(_, p)| machine.state(p) == from);
         let (mut usable, mut instead) = (Vec::new(), Vec::new());
         for (number, _) in there {
             let step = machine.peek(number);
@@ -145,7 +147,7 @@ pub enum Judged {
 
 /// Tries a run of the counters on the station, then the station's own runs. `whole` if the rules meet the bad as they
 /// stand.
-pub fn judge(derived: Derived, items: &[(usize, u16)], rules: &[usize], whole: bool, budget: usize) -> Judged {
+pub fn judge(derived: Derived, items: &[Sum], rules: &[usize], whole: bool, budget: usize) -> Judged {
     let parting = match follow(derived, rules, budget) {
         Ok(numbers) if whole => return Judged::Run(numbers),
         Ok(_) => None,
@@ -179,7 +181,7 @@ struct Node {
 /// Settled states of the station, those nearest to the bad first.
 struct Searching<'a> {
     derived: Derived<'a>,
-    items: &'a [(usize, u16)],
+    items: &'a [Sum],
     distances: Vec<Vec<usize>>,
     nodes: Vec<Node>,
     seen: HashSet<Rc<[Process]>>,
@@ -187,9 +189,9 @@ struct Searching<'a> {
     kept: usize,
 }
 
-/// Looks for a run of the station that meets a bad, given as (counter, minimum) pairs; tries at most `budget` states.
-pub fn search(derived: Derived, items: &[(usize, u16)], budget: usize) -> Search {
-    let distances = items.iter().map(|&(counter, _)| distances(derived.system, counter)).collect();
+/// Looks for a run of the station that meets a bad, given as sums of counters; tries at most `budget` states.
+pub fn search(derived: Derived, items: &[Sum], budget: usize) -> Search {
+    let distances = items.iter().map(|item| distances(derived.system, item.counters.clone())).collect();
     let (nodes, seen, waiting) = (Vec::new(), HashSet::new(), BinaryHeap::new());
     let mut searching = Searching { derived, items, distances, nodes, seen, waiting, kept: 0 };
     let mut machine = Machine::new(derived.program);
@@ -267,8 +269,8 @@ impl Searching<'_> {
     fn away(&self, machine: &Machine) -> usize {
         let Some(counts) = station_counts(machine, self.derived.tables, self.derived.system) else { return FAR };
         let items = self.items.iter().zip(&self.distances);
-        let missing = items.map(|(&(counter, minimum), distances)| {
-            let missing = (minimum as u64).saturating_sub(counts.0[counter]) as usize;
+        let missing = items.map(|(item, distances)| {
+            let missing = (item.minimum as u64).saturating_sub(item.count(&counts.0)) as usize;
             let others = counts.0.iter().zip(distances).filter(|&(&count, &distance)| count > 0 && distance > 0);
             missing * others.map(|(_, &distance)| distance).min().unwrap_or(FAR)
         });
@@ -286,11 +288,11 @@ impl Searching<'_> {
     }
 }
 
-/// For each counter the fewest rules from it to a counter, letters left aside.
-fn distances(system: &System, to: usize) -> Vec<usize> {
+/// For each counter the fewest rules from it to one of some counters, letters left aside.
+fn distances(system: &System, to: Range<usize>) -> Vec<usize> {
     let mut distances = vec![FAR; system.counters()];
-    distances[to] = 0;
-    let mut waiting = VecDeque::from([to]);
+    distances[to.clone()].fill(0);
+    let mut waiting: VecDeque<usize> = to.collect();
     while let Some(counter) = waiting.pop_front() {
         for rule in system.rules.iter().filter(|rule| rule.to == counter || rule.adds() == Some(counter)) {
             if distances[rule.from] == FAR {

@@ -197,7 +197,7 @@ pub fn step_words(symbols: &Symbols, number: usize, step: &Result<Step, Idle>) -
                 }
                 Deed::New { process, .. } => format!(", spawns process {process}"),
             };
-            format!("process {number}: {} -> {}{deed}", symbols.state(step.class, step.from), symbols.label(step.to))
+            format!("process {number}: {} -> {}{deed}", symbols.state(step.from), symbols.label(step.to.head))
         }
         Err(Idle::NoProcess) => format!("process {number}: not there yet, nothing changes"),
         Err(Idle::Ended) => format!("process {number}: has ended, nothing changes"),

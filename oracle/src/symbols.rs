@@ -1,7 +1,7 @@
 //! Words for the numbers of a message: the same ones in `run`, `explain` and `disassemble`.
 
 use crate::bads::{Item, Place};
-use crate::program::{Head, Name, Node, Pattern, Program, Row};
+use crate::program::{Head, Name, Node, Pattern, Program, Row, State};
 use crate::system::{Effect, Rule, System};
 use crate::tables::Tables;
 use std::collections::BTreeMap;
@@ -132,14 +132,23 @@ impl<'a> Symbols<'a> {
         }
     }
 
-    pub fn state(&self, class: usize, head: Row) -> String {
-        format!("{} at {} [{}]", self.class(class), self.label(head), self.line(head))
+    /// A state; one with a call pushed tells where it returns to.
+    pub fn state(&self, state: State) -> String {
+        let State { class, head, back } = state;
+        let returns = self.returns(back).map_or(String::new(), |call| format!(", returns to {call}"));
+        format!("{} at {} [{}]{returns}", self.class(class), self.label(head), self.line(head))
     }
 
-    /// A counter, short: `start@r7` for a state, `start!c0` for a letter.
+    /// The label of the call that a state returns to, if it has one.
+    fn returns(&self, back: usize) -> Option<String> {
+        (back != self.program.rows).then(|| self.label(back))
+    }
+
+    /// A counter, short: `start@r7` for a state, `start@r7>r3` for one that returns to r3, `start!c0` for a letter.
     pub fn counter(&self, tables: &Tables, system: &System, counter: usize) -> String {
-        if let Some(&(class, head)) = tables.states.get(counter) {
-            return format!("{}@{}", self.class(class), self.label(head));
+        if let Some(&State { class, head, back }) = tables.states.get(counter) {
+            let returns = self.returns(back).map_or(String::new(), |call| format!(">{call}"));
+            return format!("{}@{}{returns}", self.class(class), self.label(head));
         }
         match system.letters.get(counter - tables.states.len()) {
             Some(&(class, letter)) => format!("{}!{}", self.class(class), self.letter(letter)),

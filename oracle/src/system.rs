@@ -2,7 +2,7 @@
 
 use crate::analysis::Analysis;
 use crate::message::Message;
-use crate::program::{Branch, Head, Name, Row};
+use crate::program::{Branch, Head, Name, Row, State};
 use crate::refusal::{self, Detail, Refusal};
 use crate::set::Set;
 
@@ -130,8 +130,8 @@ pub fn derive(message: &Message, a: &Analysis, most: usize) -> Result<System, Re
         let detail = Detail::Counted(system.counters());
         return Err(Refusal::new(refusal::COUNTERS, message.tables_at + 2, detail));
     }
-    for (from, &(class, head)) in a.tables.states.iter().enumerate() {
-        Derive { a, system: &mut system, from, class }.state(head);
+    for (from, &at) in a.tables.states.iter().enumerate() {
+        Derive { a, system: &mut system, from, at }.state();
     }
     Ok(system)
 }
@@ -142,18 +142,18 @@ struct Derive<'a> {
     a: &'a Analysis<'a>,
     system: &'a mut System,
     from: usize,
-    class: usize,
+    at: State,
 }
 
 impl Derive<'_> {
-    fn state(&mut self, row: Row) {
-        let a = self.a;
+    fn state(&mut self) {
+        let (a, row) = (self.a, self.at.head);
         match a.program.head(row) {
             Some(Head::Build { rest, .. } | Head::Function { rest, .. } | Head::SelfAddress { rest, .. }) => {
                 self.rule(*rest, Some(Effect::Nothing))
             }
             Some(Head::Call { callee, args, .. }) => self.call(*callee, args.len()),
-            Some(Head::GiveBack { .. }) => self.give_back(row),
+            Some(Head::GiveBack { .. }) => self.give_back(),
             Some(Head::Send { target, message, rest, .. }) => self.send(*target, *message, *rest),
             Some(Head::Spawn { callee, rest, .. }) => self.spawn(row, *callee, *rest),
             Some(Head::Case { value, branches }) => self.case(a.flow(*value), branches),
@@ -162,22 +162,27 @@ impl Derive<'_> {
         }
     }
 
+    /// A rule to another head, with the same return.
     fn rule(&mut self, to: Row, effect: Option<Effect>) {
-        if let (Some(to), Some(effect)) = (self.a.tables.state(self.class, to), effect) {
+        self.rule_to(self.at.at(to), effect);
+    }
+
+    fn rule_to(&mut self, to: State, effect: Option<Effect>) {
+        if let (Some(to), Some(effect)) = (self.a.tables.state(to), effect) {
             self.system.rules.push(Rule { from: self.from, to, effect });
         }
     }
 
     fn call(&mut self, callee: Name, count: usize) {
         for f in self.a.callees(callee, count).iter().filter_map(|f| self.a.program.function(f)) {
-            self.rule(f.body, Some(Effect::Nothing));
+            self.rule_to(State { back: self.at.head, ..self.at.at(f.body) }, Some(Effect::Nothing));
         }
     }
 
-    fn give_back(&mut self, row: Row) {
-        let Some(function) = self.a.program.inside[row] else { return };
-        for (_, _, rest) in self.a.returns(self.class, function) {
-            self.rule(rest, Some(Effect::Nothing));
+    fn give_back(&mut self) {
+        let a = self.a;
+        for (_, next) in a.returns(self.at) {
+            self.rule_to(next, Some(Effect::Nothing));
         }
     }
 
@@ -193,7 +198,7 @@ impl Derive<'_> {
 
     fn spawn(&mut self, row: Row, callee: Name, rest: Row) {
         for f in self.a.callees(callee, 0).iter().filter_map(|f| self.a.program.function(f)) {
-            let new = self.a.tables.state(row, f.body).map(Effect::New);
+            let new = self.a.tables.state(self.a.program.fresh(row, f.body)).map(Effect::New);
             self.rule(rest, new);
         }
     }
@@ -207,11 +212,11 @@ impl Derive<'_> {
     }
 
     fn receive(&mut self, branches: &[Branch]) {
-        let mail = self.a.tables.mail_of(self.a.program, self.class);
+        let mail = self.a.tables.mail_of(self.a.program, self.at.class);
         for branch in branches {
             let reached = self.a.matching.may(branch.pattern, &mail);
             for letter in self.a.letters(&reached) {
-                let read = self.system.letter(self.class, letter).map(Effect::Read);
+                let read = self.system.letter(self.at.class, letter).map(Effect::Read);
                 self.rule(branch.body, read);
             }
         }

@@ -1,9 +1,10 @@
 //! Flow, mail and states: their entries in range and in order (refusal 7), no function in the mail (refusal 22).
 
 use crate::message::Message;
-use crate::program::Program;
+use crate::program::{Program, State};
 use crate::refusal::{self, Detail, Refusal};
 use crate::set::Set;
+use std::ops::Range;
 
 #[derive(Clone, Debug, Default, PartialEq, Eq)]
 pub struct Tables {
@@ -11,8 +12,8 @@ pub struct Tables {
     pub flow: Vec<Set>,
     /// Values in the mail of each class, by the class's index.
     pub mail: Vec<Set>,
-    /// (class, head) in ascending order.
-    pub states: Vec<(usize, usize)>,
+    /// In ascending order.
+    pub states: Vec<State>,
 }
 
 impl Tables {
@@ -24,12 +25,15 @@ impl Tables {
         }
     }
 
-    pub fn state(&self, class: usize, head: usize) -> Option<usize> {
-        self.states.binary_search(&(class, head)).ok()
+    pub fn state(&self, state: State) -> Option<usize> {
+        self.states.binary_search(&state).ok()
     }
 
-    pub fn has_state(&self, class: usize, head: usize) -> bool {
-        self.state(class, head).is_some()
+    /// The states of a class at a head, one for each return; they stand side by side.
+    pub fn states_at(&self, class: usize, head: usize) -> Range<usize> {
+        let before = |state: &State| (state.class, state.head) < (class, head);
+        let not_behind = |state: &State| (state.class, state.head) <= (class, head);
+        self.states.partition_point(before)..self.states.partition_point(not_behind)
     }
 
     pub fn mail_of(&self, program: &Program, class: usize) -> Set {
@@ -54,7 +58,7 @@ impl Tables {
     }
 }
 
-/// Checks one list and hands each good entry on.
+/// Checks one list and hands each good entry on. An entry of two columns has 0 in the third.
 struct List<'a> {
     message: &'a Message,
     from: usize,
@@ -63,19 +67,25 @@ struct List<'a> {
 }
 
 impl List<'_> {
-    fn each(&self, in_range: impl Fn(usize, usize) -> bool, mut keep: impl FnMut(usize, usize)) -> Result<(), Refusal> {
+    fn each(
+        &self,
+        third: &[u16],
+        in_range: impl Fn(usize, usize, usize) -> bool,
+        mut keep: impl FnMut(usize, usize, usize),
+    ) -> Result<(), Refusal> {
         let mut before = None;
         for i in self.from..self.from + self.count {
-            let pair = self.message.tables.pair(i);
+            let (first, second) = self.message.tables.pair(i);
+            let pair = (first, second, third.get(i - self.from).map_or(0, |&number| number as usize));
             let position = self.message.tables.at + i;
-            if !in_range(pair.0, pair.1) {
+            if !in_range(pair.0, pair.1, pair.2) {
                 return Err(Refusal::wanted(refusal::ENTRY, position, self.wanted));
             }
             if before.is_some_and(|b| b >= pair) {
                 return Err(Refusal::wanted(refusal::ENTRY, position, "an entry above the one before it in its list"));
             }
             before = Some(pair);
-            keep(pair.0, pair.1);
+            keep(pair.0, pair.1, pair.2);
         }
         Ok(())
     }
@@ -86,22 +96,25 @@ pub fn read(message: &Message, program: &Program) -> Result<Tables, Refusal> {
     let mut tables = Tables::empty(program);
     let (flow, mail, states) = (message.flow, message.mail, message.states);
     List { message, from: 0, count: flow, wanted: "a flow entry (name, value)" }.each(
-        |name, value| name < program.names && program.is_value(value),
-        |name, value| {
+        &[],
+        |name, value, _| name < program.names && program.is_value(value),
+        |name, value, _| {
             tables.flow[name].insert(value);
         },
     )?;
     List { message, from: flow, count: mail, wanted: "a mail entry (class, value)" }.each(
-        |class, value| program.is_class(class) && program.is_value(value),
-        |class, value| {
+        &[],
+        |class, value, _| program.is_class(class) && program.is_value(value),
+        |class, value, _| {
             if let Some(i) = program.class_index(class) {
                 tables.mail[i].insert(value);
             }
         },
     )?;
-    List { message, from: flow + mail, count: states, wanted: "a state entry (class, head)" }.each(
-        |class, head| program.is_class(class) && program.is_head(head),
-        |class, head| tables.states.push((class, head)),
+    List { message, from: flow + mail, count: states, wanted: "a state entry (class, head, call row or R)" }.each(
+        &message.returns,
+        |class, head, back| program.is_class(class) && program.is_head(head) && program.is_return(back),
+        |class, head, back| tables.states.push(State { class, head, back }),
     )?;
     Ok(tables)
 }

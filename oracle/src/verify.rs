@@ -49,9 +49,9 @@ fn inspect_within(bytes: &[u8], read: &mut Read, within: &Limits) -> Result<(), 
     tables::check_mail(message, program)?;
     let system = &*read.system.insert(system::derive(message, &analysis, within.counters)?);
     let bounds = &*read.bounds.insert(bounds::read(message, system.counters())?);
-    let start = tables.state(program.rows, program.start).unwrap_or(0);
+    let start = tables.state(program.opening()).unwrap_or(0);
     bounds::check_start(message, bounds, start)?;
-    let counters: Vec<_> = bads.iter().map(|bad| bounds::bad_counters(program, tables, system, bad)).collect();
+    let counters: Vec<_> = bads.iter().map(|bad| bounds::bad_sums(tables, system, bad)).collect();
     bounds::check_bads(message, bounds, bads, &counters)?;
     leak::check(message, system, bounds)
 }

@@ -46,7 +46,10 @@ fn crowd(spawns: u16, states: &[(u16, u16)]) -> Vec<u8> {
     let columns = |pairs: &[(u16, u16)]| {
         [pairs.iter().map(|p| p.0).collect(), pairs.iter().map(|p| p.1).collect::<Vec<_>>()].concat()
     };
-    let words: Vec<u16> = parts.iter().flat_map(|(sizes, pairs)| [sizes.to_vec(), columns(pairs)].concat()).collect();
+    let mut words: Vec<u16> =
+        parts.iter().flat_map(|(sizes, pairs)| [sizes.to_vec(), columns(pairs)].concat()).collect();
+    let ceilings = words.len() - 2;
+    words.splice(ceilings..ceilings, vec![size; states.len()]);
     bytes(&words)
 }
 
@@ -68,7 +71,7 @@ fn over_512_counters_by_the_former_limits() {
         (outcome.number, outcome.place)
     };
     assert_eq!(told(&states), (9, 146));
-    assert_eq!(told(&states[1..]), (11, 1173));
+    assert_eq!(told(&states[1..]), (11, 1684));
 }
 
 /// Beside the 1,024 states there is a letter.
@@ -78,5 +81,5 @@ fn over_1024_counters() {
     let states = crowded(31, &heads);
     assert_eq!(states.len(), 1024);
     assert_eq!(verdict(&crowd(31, &states)), (9, 210));
-    assert_eq!(verdict(&crowd(31, &states[1..])), (11, 2261));
+    assert_eq!(verdict(&crowd(31, &states[1..])), (11, 3284));
 }

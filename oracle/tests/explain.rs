@@ -30,11 +30,11 @@ fn each_refusal_names_its_place_and_what_was_wanted() {
     assert!(words(&[(32, 0)]).contains("bad row 2, which is (43, 0)"));
     assert!(words(&[(37, 3)]).contains("in the list of flow"));
     assert!(words(&[(46, 2)]).contains("flow entry (0, 10): N0 may hold address of start"));
-    assert!(words(&[(57, 6)]).contains("ceiling entry 0, which is (6, 1)"));
-    assert!(words(&[(57, 5)]).contains("no ceiling holds the starting counts"));
+    assert!(words(&[(62, 6)]).contains("ceiling entry 0, which is (6, 1)"));
+    assert!(words(&[(62, 5)]).contains("no ceiling holds the starting counts"));
     assert!(words(&[(32, 1)]).contains("bad 0, start holds c0 >= 1; ceiling 3 allows it: start!c0<=1\n"));
-    assert!(words(&[(63, 2)]).contains("start@r4 -> start@r7, puts start!c0"));
-    assert!(words(&[(63, 2)]).contains("nearest is ceiling 3, too low at "));
+    assert!(words(&[(68, 2)]).contains("start@r4 -> start@r7, puts start!c0"));
+    assert!(words(&[(68, 2)]).contains("nearest is ceiling 3, too low at "));
     assert!(explain(&bytes(&station_a()), 23, None).1.contains("lend 24 words"));
 }
 

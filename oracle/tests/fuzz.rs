@@ -13,6 +13,8 @@ fn the_two_verifiers_agree_and_every_verdict_is_seen() {
     assert!(tally.verdicts.iter().all(|&seen| seen > 0), "{}", tally.words());
     assert!(3 * tally.verdicts[0] >= tally.total(), "{}", tally.words());
     assert!(tally.steps > 500, "{}", tally.words());
+    assert!(5 * tally.shared >= tally.total(), "places with several returns: {}", tally.words());
+    assert!(10 * tally.summed >= tally.total(), "bads that ask there: {}", tally.words());
 }
 
 /// `verify` with a change to what it says or writes.
@@ -106,4 +108,10 @@ fn the_deepest_programs_come_back_from_their_text() {
         let again = oracle::text::assemble::assemble(&text).unwrap().message;
         assert_eq!(again[..outcome.part.end], hostile.message[outcome.part], "{}", hostile.name);
     }
+}
+
+#[test]
+fn stations_near_the_limits_are_made() {
+    assert!(oracle::fuzz::build::large().is_ok_and(|large| large.len() > 10));
+    assert!(stress::growth::families().is_ok_and(|families| families.iter().all(|f| f.messages.len() == 5)));
 }

@@ -8,6 +8,7 @@ use oracle::least;
 use oracle::limits::UNBOUNDED;
 use oracle::listing::verified;
 use oracle::message::{self, Message};
+use oracle::program::State;
 use oracle::tables::Tables;
 use oracle::text::assemble::assemble;
 
@@ -29,6 +30,11 @@ fn with_tables(text: &str, more: impl Fn(&mut Tables)) -> Message {
     m
 }
 
+/// A state that returns nowhere, in a program of this many rows.
+fn bare_state(rows: usize, head: usize) -> State {
+    State { class: rows, head, back: rows }
+}
+
 fn of(m: &Message) -> (u32, usize) {
     verdict(&bytes(&message::write(m)))
 }
@@ -40,7 +46,7 @@ fn text_of(text: &str) -> String {
 #[test]
 fn from_may_be_to() {
     let text = text_of("function f() -> f(). start -> f(). bad b: start holds address.");
-    assert_eq!(text, "0 0\n2 0 2 4\n50 0\n51 0\n50 1\n51 0\n");
+    assert_eq!(text, "0 0\n3 0 3 6\n50 0\n51 0\n50 1\n51 0\n50 2\n51 1\n");
 }
 
 #[test]
@@ -58,12 +64,12 @@ const UNFED: &str = "constructors p/1.
 #[test]
 fn an_argument_without_a_value_matches_nothing() {
     let m = with_tables(UNFED, |t| {
-        t.states.extend([(12, 4), (12, 7)]);
+        t.states.extend([4, 7].map(|head| bare_state(12, head)));
         t.flow[2].insert(4);
     });
     assert_eq!(of(&m), (0, 0));
     let m = with_tables(UNFED, |t| {
-        t.states.extend([(12, 4), (12, 7)]);
+        t.states.extend([4, 7].map(|head| bare_state(12, head)));
         t.flow[2].insert(4);
         t.flow[1].insert(12);
     });
@@ -73,7 +79,7 @@ fn an_argument_without_a_value_matches_nothing() {
 
 #[test]
 fn an_extra_state_wants_as_any_other() {
-    let m = with_tables(UNFED, |t| t.states.push((12, 4)));
+    let m = with_tables(UNFED, |t| t.states.push(bare_state(12, 4)));
     assert_eq!(of(&m), (8, m.tables.at + m.flow + m.mail + 2));
 }
 
@@ -172,9 +178,9 @@ fn an_item_is_three_rows() {
 fn taking_comes_before_adding_at_65534() {
     let text = "function f() -> f(). start -> f(). bad b: start holds address.";
     let mut m = message::read(&assemble(text).unwrap().message).unwrap();
-    evidence::put_bounds(&mut m, &[vec![65_534, 0], vec![65_534, 1]]);
+    evidence::put_bounds(&mut m, &[vec![65_534, 0, 0], vec![65_534, 1, 0], vec![0, 0, 1]]);
     assert_eq!(of(&m), (13, m.entries.at + 2));
-    evidence::put_bounds(&mut m, &[vec![65_534, 0], vec![0, 1]]);
+    evidence::put_bounds(&mut m, &[vec![65_534, 0, 0], vec![0, 1, 0], vec![0, 0, 1]]);
     assert_eq!(of(&m), (0, 0));
 }
 
@@ -205,13 +211,20 @@ fn every_spot_of_a_pattern_wants_its_values() {
 fn call_and_give_back_want_states_even_without_a_value() {
     let text = "function f(A) -> A. start -> Me = self(), receive X -> f(X) end. bad b: start holds address.";
     let first_lack = |states: &[(usize, usize)]| {
-        let m = with_tables(text, |t| t.states.extend(states));
+        let m = with_tables(text, |t| {
+            t.states.extend(states.iter().map(|&(head, back)| State { class: 12, head, back }));
+        });
         let (number, place) = of(&m);
         (number, place.checked_sub(m.tables.at + m.flow + m.mail))
     };
-    assert_eq!(first_lack(&[(12, 7)]), (8, Some(2)));
-    assert_eq!(first_lack(&[(12, 3), (12, 7)]), (8, Some(0)));
-    assert_eq!(first_lack(&[(12, 3), (12, 7), (12, 11)]).0, 0);
+    assert_eq!(first_lack(&[(7, 12)]), (8, Some(2)));
+    assert_eq!(first_lack(&[(3, 7), (7, 12)]), (8, Some(0)));
+    assert_eq!(first_lack(&[(3, 7), (7, 12), (11, 12)]).0, 0);
+    // The give back looks at its third number alone: with R it wants nothing, and a state of the call with another
+    // return wants the call's rest with that return.
+    assert_eq!(first_lack(&[(3, 12)]).0, 0);
+    assert_eq!(first_lack(&[(3, 7), (7, 7), (7, 12), (11, 12)]), (8, Some(0)));
+    assert_eq!(first_lack(&[(3, 7), (7, 7), (7, 12), (11, 7), (11, 12)]).0, 0);
 }
 
 /// A message of rows with one harmless bad and no evidence: refusals up to 5 show.

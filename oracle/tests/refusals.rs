@@ -32,9 +32,9 @@ fn sizes_come_part_by_part() {
     assert_eq!(changed(&[(25, 3)]), (2, 25));
     assert_eq!(changed(&[(34, 4097)]), (2, 34));
     assert_eq!(changed(&[(36, 1025)]), (2, 36));
-    assert_eq!(changed(&[(55, 257)]), (2, 55));
-    assert_eq!(changed(&[(56, 8193)]), (2, 56));
-    assert_eq!(changed(&[(56, 12)]), (1, 55));
+    assert_eq!(changed(&[(60, 257)]), (2, 60));
+    assert_eq!(changed(&[(61, 8193)]), (2, 61));
+    assert_eq!(changed(&[(61, 12)]), (1, 60));
     assert_eq!(changed(&[(0, 1536)]), (1, 0));
     assert_eq!(verdict(&[0]), (1, 0));
     assert_eq!(verdict(&bytes(&[2000])), (1, 0));
@@ -42,7 +42,7 @@ fn sizes_come_part_by_part() {
 
 #[test]
 fn a_wrong_size_comes_before_a_wrong_row() {
-    assert_eq!(changed(&[(tag(0), 99), (56, 8193)]), (2, 56));
+    assert_eq!(changed(&[(tag(0), 99), (61, 8193)]), (2, 61));
 }
 
 #[test]
@@ -96,6 +96,9 @@ fn entries() {
     assert_eq!(changed(&[(51, 1)]), (7, 42));
     assert_eq!(changed(&[(50, 0)]), (7, 41));
     assert_eq!(changed(&[(54, 8)]), (7, 45));
+    // The third array: R or a call's row, of which A has none.
+    assert_eq!(changed(&[(55, 4)]), (7, 41));
+    assert_eq!(changed(&[(59, 11)]), (7, 45));
 }
 
 #[test]
@@ -107,42 +110,42 @@ fn open_tables() {
 
 #[test]
 fn bounds() {
-    assert_eq!(changed(&[(57, 6)]), (10, 57));
-    assert_eq!(changed(&[(57, 7)]), (10, 57));
-    assert_eq!(changed(&[(68, 0)]), (10, 57));
-    assert_eq!(changed(&[(58, 0)]), (10, 58));
-    assert_eq!(changed(&[(63, 5)]), (10, 64));
-    assert_eq!(changed(&[(55, 4)]), (10, 66));
-    assert_eq!(changed(&[(55, 6)]), (10, 68));
-    assert_eq!(changed(&[(55, 0)]), (10, 57));
-    assert_eq!(changed(&[(78, 1)]), (10, 67));
-    assert_eq!(changed(&[(57, 5)]), (11, 55));
+    assert_eq!(changed(&[(62, 6)]), (10, 62));
+    assert_eq!(changed(&[(62, 7)]), (10, 62));
+    assert_eq!(changed(&[(73, 0)]), (10, 62));
+    assert_eq!(changed(&[(63, 0)]), (10, 63));
+    assert_eq!(changed(&[(68, 5)]), (10, 69));
+    assert_eq!(changed(&[(60, 4)]), (10, 71));
+    assert_eq!(changed(&[(60, 6)]), (10, 73));
+    assert_eq!(changed(&[(60, 0)]), (10, 62));
+    assert_eq!(changed(&[(83, 1)]), (10, 72));
+    assert_eq!(changed(&[(62, 5)]), (11, 60));
 }
 
 #[test]
 fn no_bounds_at_all() {
     let mut a = station_a();
-    a.truncate(55);
+    a.truncate(60);
     a.extend([0, 0]);
-    assert_eq!(verdict(&bytes(&a)), (11, 55));
+    assert_eq!(verdict(&bytes(&a)), (11, 60));
 }
 
 #[test]
 fn leaks() {
-    assert_eq!(changed(&[(63, 2)]), (13, 61));
-    assert_eq!(changed(&[(74, 65_535)]), (13, 63));
-    assert_eq!(changed(&[(75, 65_535)]), (12, 26));
-    assert_eq!(changed(&[(75, 65_534)]), (12, 26));
+    assert_eq!(changed(&[(68, 2)]), (13, 66));
+    assert_eq!(changed(&[(79, 65_535)]), (13, 68));
+    assert_eq!(changed(&[(80, 65_535)]), (12, 26));
+    assert_eq!(changed(&[(80, 65_534)]), (12, 26));
 }
 
 #[test]
 fn an_earlier_part_comes_first() {
-    assert_eq!(changed(&[(0, 1536), (55, 257)]), (1, 0));
+    assert_eq!(changed(&[(0, 1536), (60, 257)]), (1, 0));
     let mut a = station_a();
     a[tag(0)] = 99;
     let mut longer = bytes(&a);
     longer.push(0);
-    assert_eq!(verdict(&longer), (1, 79));
+    assert_eq!(verdict(&longer), (1, 84));
 }
 
 #[test]
@@ -151,8 +154,8 @@ fn the_same_counter_twice_in_a_bad_and_equal_bounds_are_allowed() {
     a.splice(24..34, [1, 7, 40, 42, 43, 40, 42, 43, 44, 10, 0, 1, 10, 0, 2, 0]);
     assert_eq!(verdict(&bytes(&a)), (0, 0));
     let mut a = station_a();
-    a.splice(57..57, [6, 0, 6]);
-    a.splice(71..71, [0, 1, 0]);
-    (a[55], a[56]) = (7, 14);
+    a.splice(62..62, [6, 0, 6]);
+    a.splice(76..76, [0, 1, 0]);
+    (a[60], a[61]) = (7, 14);
     assert_eq!(verdict(&bytes(&a)), (0, 0));
 }

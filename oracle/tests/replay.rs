@@ -24,11 +24,11 @@ fn read(text: &str) -> Read {
 }
 
 /// What is known of the station, and the counters of its first bad.
-fn derived(read: &Read) -> (Derived<'_>, Vec<(usize, u16)>) {
+fn derived(read: &Read) -> (Derived<'_>, Vec<oracle::bounds::Sum>) {
     let (program, tables, system) = (read.program.as_ref(), read.tables.as_ref(), read.system.as_ref());
     let derived = Derived { program: program.unwrap(), tables: tables.unwrap(), system: system.unwrap() };
     let bad = &read.bads.as_ref().unwrap()[0];
-    let items = oracle::bounds::bad_counters(derived.program, derived.tables, derived.system, bad);
+    let items = oracle::bounds::bad_sums(derived.tables, derived.system, bad);
     (derived, items.expect("counters"))
 }
 
@@ -119,7 +119,7 @@ fn where_a_run_of_the_counters_cannot_be_followed_another_is_looked_for() {
         oracle::counters::rule_of(&step, derived.tables, derived.system).expect("a rule")
     };
     let mut rules: Vec<usize> = [0, 0, 0, 0, 0, 1, 1, 2, 2].iter().map(|&n| step(&mut machine, n)).collect();
-    let early = derived.tables.states.binary_search(&(derived.program.rows, items_head(&read))).expect("a state");
+    let early = derived.tables.states_at(derived.program.rows, items_head(&read)).start;
     rules.push(derived.system.rules.iter().position(|rule| rule.to == early).expect("a rule"));
     let parting = follow(derived, &rules, 1000).expect_err("they part").expect("a place");
     assert_eq!((parting.followed, parting.instead.len()), (9, 1));
@@ -171,8 +171,8 @@ fn a_long_run_is_followed_to_its_end() {
 fn ceilings_are_told_for_each_bad_and_for_all() {
     let text = std::fs::read_to_string(path("examples/pool.station")).unwrap();
     let notes = notes(&text);
-    assert!(notes.contains("bad `two_working`: 8 ceilings found for it alone"), "{notes}");
-    assert!(notes.contains("safe: 16 ceilings with 58 entries found"), "{notes}");
+    assert!(notes.contains("bad `two_working`: 9 ceilings found for it alone"), "{notes}");
+    assert!(notes.contains("safe: 25 ceilings with 86 entries found"), "{notes}");
     assert!(!notes.contains("needed"), "{notes}");
 }
 
@@ -234,9 +234,9 @@ fn a_give_back_or_a_receive_where_nothing_comes_is_no_warning() {
 fn verdicts_alone_and_together(name: &str) -> (Vec<u32>, u32) {
     let read = read(&std::fs::read_to_string(path(&format!("examples/{name}.station"))).unwrap());
     let (Derived { program, tables, system }, _) = derived(&read);
-    let start = tables.state(program.rows, program.start).unwrap();
+    let start = tables.state(program.opening()).unwrap();
     let bads = read.bads.as_ref().unwrap().iter();
-    let items = bads.filter_map(|bad| oracle::bounds::bad_counters(program, tables, system, bad));
+    let items = bads.filter_map(|bad| oracle::bounds::bad_sums(tables, system, bad));
     let alone = items.map(|items| fewest(&Net { system, start, bads: &[Some(items)] }, 5000).expect("ceilings"));
     let alone: Vec<Vec<Limits>> = alone.collect();
     let verdict = |limits: &[Limits]| {

@@ -14,7 +14,7 @@ fn no_bytes() {
 #[test]
 fn a_is_safe_with_its_listing() {
     let a = bytes(&station_a());
-    assert_eq!(a.len(), 2 * 79);
+    assert_eq!(a.len(), 2 * 84);
     let text = "0 0\n5 1 4 10\n50 0\n51 1\n50 1\n51 2\n50 2\n51 3\n53 5\n50 3\n51 4\n52 5\n";
     assert_eq!(verified(&a, 16_384), text);
 }
@@ -37,7 +37,7 @@ fn too_many_rows() {
 fn a_byte_more() {
     let mut a = bytes(&station_a());
     a.push(0);
-    assert_eq!(verdict(&a), (1, 79));
+    assert_eq!(verdict(&a), (1, 84));
 }
 
 #[test]
@@ -73,29 +73,29 @@ fn no_mail_entry() {
 #[test]
 fn first_bound_gone() {
     let mut a = station_a();
-    a.drain(68..70);
-    a.drain(57..59);
-    (a[55], a[56]) = (4, 9);
-    assert_eq!(verdict(&bytes(&a)), (11, 55));
+    a.drain(73..75);
+    a.drain(62..64);
+    (a[60], a[61]) = (4, 9);
+    assert_eq!(verdict(&bytes(&a)), (11, 60));
 }
 
 #[test]
 fn last_bound_gone() {
     let mut a = station_a();
-    a.drain(77..79);
-    a.drain(66..68);
-    (a[55], a[56]) = (4, 9);
-    assert_eq!(verdict(&bytes(&a)), (13, 63));
+    a.drain(82..84);
+    a.drain(71..73);
+    (a[60], a[61]) = (4, 9);
+    assert_eq!(verdict(&bytes(&a)), (13, 68));
 }
 
 #[test]
 fn one_more_than_65534() {
     let mut a = station_a();
     a[26 + 4 + 2] = 65_535;
-    a.truncate(55);
+    a.truncate(60);
     a.extend([1, 7, 0, 1, 2, 3, 4, 5, 6]);
     a.extend([65_535, 65_535, 65_535, 65_535, 65_535, 65_534, 0]);
-    assert_eq!(verdict(&bytes(&a)), (13, 57));
+    assert_eq!(verdict(&bytes(&a)), (13, 62));
 }
 
 #[test]
@@ -121,7 +121,7 @@ fn refusal_leaves_the_lent_words() {
 fn every_shorter_message_is_refused_for_its_length() {
     let a = bytes(&station_a());
     for length in 0..a.len() {
-        let part = [0, 24, 34, 55].into_iter().rev().find(|&p| 2 * p <= length).unwrap_or(0);
+        let part = [0, 24, 34, 60].into_iter().rev().find(|&p| 2 * p <= length).unwrap_or(0);
         assert_eq!(verdict(&a[..length]), (1, part), "{length}");
     }
 }

@@ -122,9 +122,9 @@ module _ (p : Program) (t : Tables) (r f : ℕ) where
     unfolding spawn-asks there-code
     spawn-lacks z = let w = sym called ∙ not-false x so in let k = sym (rw name at holds) ∙ not-true y z in rw (w, spawn-asks) (rw k)
 
-    pub spawn-told : not y ≡ false → (b i : ℕ) → b ≡ body p f → i ≡ state-index t (state r b) → (k : ℕ) (v : Bool) → v ≡ ltb i (t .states .size) → k ≡ there-code v → k ≡ spawn-asks p t r f
+    pub spawn-told : not y ≡ false → (b m i : ℕ) → b ≡ body p f → m ≡ size p → i ≡ state-index t (state r b m) → (k : ℕ) (v : Bool) → v ≡ ltb i (t .states .size) → k ≡ there-code v → k ≡ spawn-asks p t r f
     unfolding spawn-asks has-state
-    spawn-told z b i at e k v g h = let w = sym called ∙ not-false x so in let j = sym (rw name at holds) ∙ not-false y z in h ∙ rw (w, spawn-asks) (rw j (ap there-code (rw (e, at) at g)))
+    spawn-told z b m i at none e k v g h = let w = sym called ∙ not-false x so in let j = sym (rw name at holds) ∙ not-false y z in h ∙ rw (w, spawn-asks) (rw j (ap there-code (rw (e, at, none) at g)))
 
 pub there-yes : (b : Bool) → b ≡ true → 1 ≡ there-code b
 unfolding there-code

@@ -4,7 +4,7 @@ use native.Mathlib.Decide.{decLt}
 use native.Mathlib.Omega.{arith}
 use mathlib.Core.Path.{_≡_, refl, sym, _∙_, ap}
 use mathlib.Core.Bool.{Bool, true, false, _&&_}
-use mathlib.Core.List.{List}
+use mathlib.Core.List.{List, [], _∷_}
 use lib.Dec.{eqb}
 use lib.ListN.{length, getD}
 use borrow.Author.Tests.{eqb-true, eq-eqb}
@@ -18,24 +18,24 @@ use Rattle.model.proofs.Index.{all-elim, all-intro, all-hit, all-miss, all-end}
 use Rattle.bits.proofs.Loops.{both}
 use Rattle.lists.specs.Lists.{Ascending, place, range-from, range-to, Starts}
 use Rattle.lists.specs.Ready.{Ready}
-use Rattle.lists.proofs.Facts.{flow-form}
+use Rattle.lists.proofs.Facts.{flow-rises}
 use Rattle.lists.proofs.Rising.{begins-before, begins-within, begins-behind, place-upto}
 use Rattle.branches.specs.Taken.{code-closed}
 
-pub each-range : (c : Columns) (a : ℕ) (f : ℕ → Bool) → Ascending c → each c a f ≡ all (range-from c a) (range-to c a) (λ j. f (right c j))
+pub each-range : (c : Columns) (a : ℕ) (f : ℕ → Bool) → Ascending c [] → each c a f ≡ all (range-from c a) (range-to c a) (λ j. f (right c j))
 unfolding each range-from range-to
-each-range c a f rising = both (each c a f) (all (place c a 0) (place c (a + 1) 0) (λ j. f (right c j)))
-    (λ h. all-intro (place c a 0) (place c (a + 1) 0) (λ j. f (right c j)) (λ j lo hi.
+each-range c a f rising = both (each c a f) (all (place c [] (a ∷ 0 ∷ 0 ∷ [])) (place c [] ((a + 1) ∷ 0 ∷ 0 ∷ [])) (λ j. f (right c j)))
+    (λ h. all-intro (place c [] (a ∷ 0 ∷ 0 ∷ [])) (place c [] ((a + 1) ∷ 0 ∷ 0 ∷ [])) (λ j. f (right c j)) (λ j lo hi.
     implies-elim (eqb (left c j) a) (f (right c j))
-    (all-elim 0 (c .size) j (λ i. implies (eqb (left c i) a) (f (right c i))) h (omega arith) (let z = place-upto c (a + 1) 0 in omega arith))
-    (eq-eqb (left c j) a (begins-within c a rising j lo hi))))
+    (all-elim 0 (c .size) j (λ i. implies (eqb (left c i) a) (f (right c i))) h (omega arith) (let z = place-upto c [] ((a + 1) ∷ 0 ∷ 0 ∷ []) in omega arith))
+    (eq-eqb (left c j) a (begins-within c [] a rising j lo hi))))
     (λ h. all-intro 0 (c .size) (λ i. implies (eqb (left c i) a) (f (right c i))) (λ i lo hi.
     implies-intro (eqb (left c i) a) (f (right c i)) (λ e. let same = eqb-true (left c i) a e in
-    elim (decLt i (place c a 0)) [
-      | yes l ↦ absurd (begins-before c a i l same)
-      | no l ↦ elim (decLt i (place c (a + 1) 0)) [
-        | yes k ↦ all-elim (place c a 0) (place c (a + 1) 0) i (λ j. f (right c j)) h (omega arith) k
-        | no k ↦ absurd (begins-behind c a rising i (omega arith) hi same)
+    elim (decLt i (place c [] (a ∷ 0 ∷ 0 ∷ []))) [
+      | yes l ↦ absurd (begins-before c [] a i l same)
+      | no l ↦ elim (decLt i (place c [] ((a + 1) ∷ 0 ∷ 0 ∷ []))) [
+        | yes k ↦ all-elim (place c [] (a ∷ 0 ∷ 0 ∷ [])) (place c [] ((a + 1) ∷ 0 ∷ 0 ∷ [])) i (λ j. f (right c j)) h (omega arith) k
+        | no k ↦ absurd (begins-behind c [] a rising i (omega arith) hi same)
       ]
     ])))
 
@@ -44,10 +44,10 @@ pub starts-range : {ws : List ℕ} {s : Sizes} → Ready ws s → {starts : List
     → (f : ℕ → Bool) → (each (tables ws s .flow) n f ≡ all from to (λ j. f (right (tables ws s .flow) j))) × (to ≤ s .flows)
 unfolding program tables entries columns range-to range-from
 starts-range {ws} {s} h {starts} st n from to l e g f =
-    let a : from ≡ place (tables ws s .flow) n 0 = e ∙ st .start n (omega arith) in
-    let b : to ≡ place (tables ws s .flow) (n + 1) 0 = g ∙ st .start (n + 1) (omega arith) in
-    let z = place-upto (tables ws s .flow) (n + 1) 0 in
-    (rw (a, b) (each-range (tables ws s .flow) n f (flow-form h .ascending)), omega arith)
+    let a : from ≡ place (tables ws s .flow) [] (n ∷ 0 ∷ 0 ∷ []) = e ∙ st .start n (omega arith) in
+    let b : to ≡ place (tables ws s .flow) [] ((n + 1) ∷ 0 ∷ 0 ∷ []) = g ∙ st .start (n + 1) (omega arith) in
+    let z = place-upto (tables ws s .flow) [] ((n + 1) ∷ 0 ∷ 0 ∷ []) in
+    (rw (a, b) (each-range (tables ws s .flow) n f (flow-rises h)), omega arith)
 
 by-code : {A : Type 0} (c : ℕ) → c ≤ 2 → (c ≡ 0 → A) → (c ≡ 1 → A) → (c ≡ 2 → A) → A
 by-code zero h f g k = f refl

@@ -1,9 +1,9 @@
--- What a call, a send and a spawn ask because of one value of the name that they read, whatever the class: as a code.
+-- What a call, a send and a spawn ask because of one value of the name that they read, whatever the state: as a code.
 use Prim.Native.Nat.{ℕ, _+_}
 use mathlib.Core.Path.{_≡_}
 use mathlib.Core.Bool.{Bool, true, false, _&&_}
 use lib.Dec.{eqb}
-use Rattle.model.specs.Rows.{Program, tag, num}
+use Rattle.model.specs.Rows.{Program, size, tag, num}
 use Rattle.model.specs.Heads.{call-at, is-class, parameters, body, takes}
 use Rattle.model.specs.Tables.{Tables, has, each, some-of, state, has-state}
 use Rattle.model.specs.Closed.{passes}
@@ -36,11 +36,12 @@ send-asks p t r d =
       | false ↦ 0
     ]
 
--- the spawn at row r, where the function may be f
+-- the spawn at row r, where the function may be f: its process begins with nothing pushed, whatever the state that
+-- spawns
 unfoldable pub spawn-asks : Program → Tables → ℕ → ℕ → ℕ
 spawn-asks p t r f =
     elim (takes p f 0) [
-      | true ↦ there-code (has (t .flow) (num p r) r && has-state t (state r (body p f)))
+      | true ↦ there-code (has (t .flow) (num p r) r && has-state t (state r (body p f) (size p)))
       | false ↦ 0
     ]
 

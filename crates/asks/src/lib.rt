@@ -1,4 +1,4 @@
-// What a call, a send and a spawn ask whatever the class, as codes: 0 nothing, 1 the rest as a state, 2 something
+// What a call, a send and a spawn ask whatever the state, as codes: 0 nothing, 1 the rest as a state, 2 something
 // lacks.
 use lists::flow_value;
 use lists::state_index;
@@ -119,7 +119,7 @@ fn spawn_asks(ws: &[u16], s: Sizes, flow: &[u64], r: usize, f: usize) -> usize
         return 2;
     }
     let first = body(ws, s, f);
-    if state_index(ws, s, r, first) < s.states {
+    if state_index(ws, s, r, first, s.rows) < s.states {
         1
     } else {
         2

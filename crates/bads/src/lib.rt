@@ -1,7 +1,4 @@
 // Refusal 6: the rows of bads are in form, name classes, heads and letters of the program, and are B bads.
-use evidence::arrays::Arrays;
-use evidence::arrays::left;
-use evidence::arrays::right;
 use evidence::ranges::is_class;
 use evidence::ranges::is_head;
 use model::OTHER_LETTERS;
@@ -12,15 +9,13 @@ use model::TAG_HEAD;
 use model::TAG_LETTER;
 use model::TAG_MINIMUM;
 use model::Verdict;
+use program::rows::column;
 ghost use mathlib.Core.Path.{_≡_};
-ghost use Rattle.model.specs.Limits.{present};
 ghost use Rattle.model.specs.Rows.{program};
 ghost use Rattle.model.specs.Bads.{bad-step, bad-check};
 ghost use Rattle.model.specs.Verify.{answer};
-ghost use Rattle.model.specs.Demands.{Within-limits};
 ghost use Rattle.program.specs.Rows.{Whole};
 ghost use Rattle.evidence.specs.Whole.{Parts-whole};
-ghost use Rattle.bads.specs.Rows.{bad-arrays};
 ghost use Rattle.bads.specs.Reading.{row-step};
 ghost use Rattle.bads.specs.Stacks.{stack, stacks, is-subject, item-step, no-more};
 
@@ -117,33 +112,21 @@ fn is_done(expected: Expected) -> bool
     }
 }
 
-// Where the rows of bads stand.
-fn bad_rows(s: Sizes) -> Arrays
-    requires { ⌜ Within-limits present s ⌝ }
-    ensures { λ a. ⌜ a ≡ bad-arrays s ⌝ }
-{
-    let first = 6 + 2 * s.rows;
-    Arrays {
-        size: s.badrows,
-        lefts: first,
-        rights: first + s.badrows,
-    }
-}
-
 // The verdict of refusal 6.
 pub fn bad_check(ws: &[u16], s: Sizes) -> Verdict
     requires { ⌜ Parts-whole (now ws) s ⌝ }
     ensures { λ v. ⌜ v ≡ answer (bad-check (now (ws .entry)) s (program (now (ws .entry)) s)) ⌝ }
 {
-    let rows = bad_rows(s);
+    let tags = 6 + 2 * s.rows;
+    let numbers = tags + s.badrows;
     let mut expected = Expected::Bads(s.bads);
     let mut r = 0;
     while r < s.badrows {
-        let t = left(ws, rows, r);
-        let n = right(ws, rows, r);
+        let t = column(ws, s.badrows, tags, r);
+        let n = column(ws, s.badrows, numbers, r);
         match read_row(ws, s, expected, t, n) {
             Step::Wrong => {
-                let at = rows.lefts + r;
+                let at = tags + r;
                 return Verdict::Bad(at);
             }
             Step::Next(next) => {
@@ -155,6 +138,6 @@ pub fn bad_check(ws: &[u16], s: Sizes) -> Verdict
     if is_done(expected) {
         return Verdict::Safe;
     }
-    let at = rows.lefts + r;
+    let at = tags + r;
     Verdict::Bad(at)
 }

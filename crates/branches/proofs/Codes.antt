@@ -10,7 +10,7 @@ use Rattle.model.specs.Words.{Columns}
 use Rattle.model.specs.Rows.{Program}
 use Rattle.model.specs.Limits.{maxDepth}
 use Rattle.model.specs.Heads.{branch-body}
-use Rattle.model.specs.Tables.{Tables, each, some-of, state, has-state}
+use Rattle.model.specs.Tables.{Tables, each, some-of, State, onward, has-state}
 use Rattle.model.specs.Closed.{may-match, may-take, names-hold, branches-closed}
 use Rattle.model.proofs.Logic.{test, true-false, and-left, and-right, and-intro, implies-elim, implies-intro}
 use Rattle.model.proofs.Exact.Members.{some-of-iff}
@@ -49,10 +49,10 @@ module _ (l : Columns) (n : ℕ) where
       (λ h. h))))
       (λ s. rw s (at-each l n (λ w. implies (may w) (held w && there)) (λ v m. implies-intro (may v) (held v && there) (λ z. true-false z (each-none l n may s v m)))))
 
-module _ (p : Program) (t : Tables) (c : ℕ) (l : Columns) (a : ℕ) where
-  pub codes-each : (qs : List ℕ) → each l a (branches-closed p t c qs) ≡ codes-closed p t c (branch-code p t l a) qs
+module _ (p : Program) (t : Tables) (s : State) (l : Columns) (a : ℕ) where
+  pub codes-each : (qs : List ℕ) → each l a (branches-closed p t s qs) ≡ codes-closed p t s (branch-code p t l a) qs
   unfolding branches-closed codes-closed branch-code values-code may-take
   codes-each [] = at-each l a (λ v. true) (λ v m. refl)
   codes-each (q ∷ qs) =
-      each-both l a (λ v. implies (may-take p t q v) (names-hold p t maxDepth q v && has-state t (state c (branch-body p q)))) (branches-closed p t c qs) ∙
-      ap₂ _&&_ (all-codes l a (may-take p t q) (names-hold p t maxDepth q) (has-state t (state c (branch-body p q)))) (codes-each qs)
+      each-both l a (λ v. implies (may-take p t q v) (names-hold p t maxDepth q v && has-state t (onward s (branch-body p q)))) (branches-closed p t s qs) ∙
+      ap₂ _&&_ (all-codes l a (may-take p t q) (names-hold p t maxDepth q) (has-state t (onward s (branch-body p q)))) (codes-each qs)

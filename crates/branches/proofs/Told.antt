@@ -12,7 +12,7 @@ use Rattle.model.specs.Words.{Columns}
 use Rattle.model.specs.Rows.{Program, size}
 use Rattle.model.specs.Limits.{maxDepth}
 use Rattle.model.specs.Heads.{branch-body, branch-rows}
-use Rattle.model.specs.Tables.{Tables, each, some-of, state, has-state}
+use Rattle.model.specs.Tables.{Tables, each, some-of, State, onward, has-state}
 use Rattle.model.specs.Closed.{may-match, may-take, names-hold, branches-closed}
 use Rattle.model.proofs.Logic.{true-false, test, or-false-left, or-false-right}
 use Rattle.bits.specs.Bits.{odd, bit}
@@ -94,23 +94,23 @@ module _ (f : ℕ → ℕ) (most : (q : ℕ) → f q ≤ 2) where
       (ap (λ x. bit x b) (by-two (f q) (most q) (or-false-left (eqb (f q) 2) _ e) (λ z. half (code-bits f 1 (q ∷ qs)) (code-bits f 1 qs) (f q) y (omega arith)) (λ z. half (code-bits f 1 (q ∷ qs)) (code-bits f 1 qs) (f q) y (omega arith)))
       ∙ bits-at qs b (or-false-right (eqb (f q) 2) _ e) (omega arith))
 
-  module _ (p : Program) (t : Tables) (c : ℕ) where
-    lacking-open : (qs : List ℕ) → lacking f qs ≡ true → codes-closed p t c f qs ≡ false
+  module _ (p : Program) (t : Tables) (s : State) where
+    lacking-open : (qs : List ℕ) → lacking f qs ≡ true → codes-closed p t s f qs ≡ false
     unfolding lacking codes-closed code-closed
     lacking-open [] e = true-false e refl
     lacking-open (q ∷ qs) e = test (eqb (f q) 2)
         (λ z. let two = eqb-true (f q) 2 z in rw two)
-        (λ z. ap (λ x. code-closed (f q) (has-state t (state c (branch-body p q))) && x) (lacking-open qs (rw z at e)) ∙ and-no (code-closed (f q) (has-state t (state c (branch-body p q)))))
+        (λ z. ap (λ x. code-closed (f q) (has-state t (onward s (branch-body p q))) && x) (lacking-open qs (rw z at e)) ∙ and-no (code-closed (f q) (has-state t (onward s (branch-body p q)))))
 
-    bodies-codes : (qs : List ℕ) → lacking f qs ≡ false → codes-closed p t c f qs ≡ bodies-closed p t c (code-bits f 1 qs) qs
+    bodies-codes : (qs : List ℕ) → lacking f qs ≡ false → codes-closed p t s f qs ≡ bodies-closed p t s (code-bits f 1 qs) qs
     unfolding lacking codes-closed bodies-closed code-closed
     bodies-codes [] e = refl
     bodies-codes (q ∷ qs) e =
         let y = first-bit q qs e in
         let rest = bodies-codes qs (or-false-right (eqb (f q) 2) _ e) in
         by-two (f q) (most q) (or-false-left (eqb (f q) 2) _ e)
-        (λ z. ap₂ _&&_ (none-asked (code-bits f 1 (q ∷ qs)) (code-bits f 1 qs) (f q) (has-state t (state c (branch-body p q))) y z) (rest ∙ ap (λ x. bodies-closed p t c x qs) (sym (half (code-bits f 1 (q ∷ qs)) (code-bits f 1 qs) (f q) y (omega arith)))))
-        (λ z. ap₂ _&&_ (one-asked (code-bits f 1 (q ∷ qs)) (code-bits f 1 qs) (f q) (has-state t (state c (branch-body p q))) y z) (rest ∙ ap (λ x. bodies-closed p t c x qs) (sym (half (code-bits f 1 (q ∷ qs)) (code-bits f 1 qs) (f q) y (omega arith)))))
+        (λ z. ap₂ _&&_ (none-asked (code-bits f 1 (q ∷ qs)) (code-bits f 1 qs) (f q) (has-state t (onward s (branch-body p q))) y z) (rest ∙ ap (λ x. bodies-closed p t s x qs) (sym (half (code-bits f 1 (q ∷ qs)) (code-bits f 1 qs) (f q) y (omega arith)))))
+        (λ z. ap₂ _&&_ (one-asked (code-bits f 1 (q ∷ qs)) (code-bits f 1 qs) (f q) (has-state t (onward s (branch-body p q))) y z) (rest ∙ ap (λ x. bodies-closed p t s x qs) (sym (half (code-bits f 1 (q ∷ qs)) (code-bits f 1 qs) (f q) y (omega arith)))))
 
 -- the bits of branches, told
 module _ (p : Program) (t : Tables) (l : Columns) (a : ℕ) (qs : List ℕ) (k : ℕ) (same : k ≡ taken-bits (branch-code p t l a) qs) (few : 2 ^ length qs ≤ lacks) where
@@ -138,8 +138,8 @@ module _ (p : Program) (t : Tables) (l : Columns) (a : ℕ) (qs : List ℕ) (k :
 
   pub bits-told : Bits-told p t l a qs k
   bits-told = record {
-    lacked = λ z c. codes-each p t c l a qs ∙ lacking-open (branch-code p t l a) most p t c qs (lacks-some z);
-    closed = λ ne c. codes-each p t c l a qs ∙ (bodies-codes (branch-code p t l a) most p t c qs (none-lacks ne) ∙ ap (λ x. bodies-closed p t c x qs) (sym (clear (none-lacks ne))));
+    lacked = λ z s. codes-each p t s l a qs ∙ lacking-open (branch-code p t l a) most p t s qs (lacks-some z);
+    closed = λ ne s. codes-each p t s l a qs ∙ (bodies-codes (branch-code p t l a) most p t s qs (none-lacks ne) ∙ ap (λ x. bodies-closed p t s x qs) (sym (clear (none-lacks ne))));
     bits = λ ne b h. ap (λ x. bit x b) (clear (none-lacks ne)) ∙ (bits-at (branch-code p t l a) most qs b (none-lacks ne) h ∙ some-code (getD qs b 0));
     end = λ ne. let x = clear (none-lacks ne) in let y = bits-low (branch-code p t l a) most qs (none-lacks ne) in omega arith;
   }

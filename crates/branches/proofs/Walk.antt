@@ -4,7 +4,7 @@ use native.Mathlib.Omega.{arith}
 use mathlib.Core.Path.{_≡_, refl, sym, _∙_, ap}
 use mathlib.Core.Bool.{Bool, true, false, not, _&&_, _||_}
 use mathlib.Core.List.{List, [], _∷_, _++_}
-use lib.Dec.{eqb}
+use lib.Dec.{eqb, ltb}
 use lib.ListN.{length, getD}
 use borrow.Author.Tests.{eq-eqb, ne-eqb}
 use Rattle.model.specs.declared.Sizes.{Sizes}
@@ -13,14 +13,11 @@ use Rattle.model.specs.Words.{Columns, columns}
 use Rattle.model.specs.Rows.{Program, program, size, expression, pattern, branch, branch-items, past-items}
 use Rattle.model.specs.Limits.{maxDepth, maxBranches}
 use Rattle.model.specs.Heads.{branch-body, branch-rows}
-use Rattle.model.specs.Tables.{Tables, tables, state, has-state}
-use Rattle.model.proofs.Exact.Members.{has-iff, has-state-iff}
+use Rattle.model.specs.Tables.{Tables, tables, entries, State, onward, state-index, has-state}
 use Rattle.model.proofs.Parse.Spans.{Spans, spans-past, spans-takes, spans-split}
-use Rattle.bits.specs.Bits.{odd, member}
-use Rattle.bits.proofs.Loops.{both}
+use Rattle.bits.specs.Bits.{odd}
 use Rattle.positions.specs.Positions.{Run, Ends}
 use Rattle.values.specs.Values.{width, Values}
-use Rattle.values.proofs.Gathered.{width-above}
 use Rattle.matching.specs.Patterns.{values-code, Pattern, Standing, Is-values-code}
 use Rattle.matching.proofs.Coding.{code-most}
 use Rattle.branches.specs.Taken.{branch-code, lacking, code-bits, lacks, taken-bits, bodies-closed, Is-taken}
@@ -69,12 +66,10 @@ pub body-free : (k : ℕ) (y : Bool) → (k % 2 ≡ 1 → ⊥) → true ≡ impl
 unfolding odd implies
 body-free k y e = rw (ne-eqb (k % 2) 1 e)
 
--- a state is there where the set of its class has its row
-pub has-there : (t : Tables) {c w : ℕ} {here : List ℕ} → Values (t .states) c w 0 here → (r : ℕ) → r < 64 * w → (b : Bool) → b ≡ member here w 0 r → b ≡ has-state t (state c r)
-has-there t {c} of r low b e =
-    e ∙ (of .holds r low ∙ both _ (has-state t (state c r))
-    (λ z. has-state-iff t c r .1 (has-iff (t .states) c r .0 z))
-    (λ z. has-iff (t .states) c r .1 (has-state-iff t c r .0 z)))
+-- a state is there where its number is below their count
+pub state-there : (ws : List ℕ) (s : Sizes) (st : State) (k : ℕ) → k ≡ state-index (tables ws s) st → ltb k (s .states) ≡ has-state (tables ws s) st
+unfolding has-state tables entries columns
+state-there ws s st k e = rw e
 
 -- the weights of at most 16 branches
 pub power-low : (n j : ℕ) → j + n ≡ 16 → 2 ^ j ≤ 65536
@@ -180,23 +175,23 @@ module _ {p : Program} {t : Tables} {sets : List ℕ} {n q : ℕ} where
           }
 
 -- what is asked of the expressions of the branches that are left
-pub record Bodies (p : Program) (t : Tables) (c count q bits row left more : ℕ) : Type 0 where
+pub record Bodies (p : Program) (t : Tables) (s : State) (count q bits row left more : ℕ) : Type 0 where
   pub run : Run p row left
-  pub to-come : bodies-closed p t c bits (branch-rows p count q) ≡ bodies-closed p t c more (branch-rows p left row)
+  pub to-come : bodies-closed p t s bits (branch-rows p count q) ≡ bodies-closed p t s more (branch-rows p left row)
 
-module _ {p : Program} {t : Tables} {c count q bits : ℕ} where
-  module _ {row left more : ℕ} (k : Bodies p t c count q bits row left more) where
-    pub bodies-over : left ≤ 0 → true ≡ bodies-closed p t c bits (branch-rows p count q)
+module _ {p : Program} {t : Tables} {s : State} {count q bits : ℕ} where
+  module _ {row left more : ℕ} (k : Bodies p t s count q bits row left more) where
+    pub bodies-over : left ≤ 0 → true ≡ bodies-closed p t s bits (branch-rows p count q)
     unfolding bodies-closed
-    bodies-over l = sym (k .to-come ∙ ap (bodies-closed p t c more) (no-rows p left row l))
+    bodies-over l = sym (k .to-come ∙ ap (bodies-closed p t s more) (no-rows p left row l))
 
-    module _ {afters : List ℕ} (b : Branch-at p afters row left) (body : ℕ) (at : body ≡ branch-body p row) (there : Bool) (is : there ≡ implies (odd more) (has-state t (state c body))) where
-      turn : bodies-closed p t c bits (branch-rows p count q) ≡ (there && bodies-closed p t c (more / 2) (branch-rows p (left - 1) (past-items p branch row)))
+    module _ {afters : List ℕ} (b : Branch-at p afters row left) (body : ℕ) (at : body ≡ branch-body p row) (there : Bool) (is : there ≡ implies (odd more) (has-state t (onward s body))) where
+      turn : bodies-closed p t s bits (branch-rows p count q) ≡ (there && bodies-closed p t s (more / 2) (branch-rows p (left - 1) (past-items p branch row)))
       unfolding bodies-closed
-      turn = k .to-come ∙ (ap (bodies-closed p t c more) (b .rows) ∙ ap (λ x. x && bodies-closed p t c (more / 2) (branch-rows p (left - 1) (past-items p branch row))) (sym (is ∙ ap (λ x. implies (odd more) (has-state t (state c x))) at)))
+      turn = k .to-come ∙ (ap (bodies-closed p t s more) (b .rows) ∙ ap (λ x. x && bodies-closed p t s (more / 2) (branch-rows p (left - 1) (past-items p branch row))) (sym (is ∙ ap (λ x. implies (odd more) (has-state t (onward s x))) at)))
 
-      pub bodies-fail : there ≡ false → false ≡ bodies-closed p t c bits (branch-rows p count q)
+      pub bodies-fail : there ≡ false → false ≡ bodies-closed p t s bits (branch-rows p count q)
       bodies-fail e = sym (turn ∙ rw e)
 
-      pub bodies-next : there ≡ true → (row′ : ℕ) → row′ ≡ past-items p branch row → Bodies p t c count q bits row′ (left - 1) (more / 2)
+      pub bodies-next : there ≡ true → (row′ : ℕ) → row′ ≡ past-items p branch row → Bodies p t s count q bits row′ (left - 1) (more / 2)
       bodies-next e row′ er = record { run = rw er (b .run); to-come = turn ∙ rw (e, er) }

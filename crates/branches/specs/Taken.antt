@@ -11,7 +11,7 @@ use Rattle.model.specs.Index.{implies}
 use Rattle.model.specs.Words.{Columns}
 use Rattle.model.specs.Rows.{Program, size}
 use Rattle.model.specs.Heads.{branch-body, branch-rows}
-use Rattle.model.specs.Tables.{Tables, each, some-of, state, has-state}
+use Rattle.model.specs.Tables.{Tables, each, some-of, State, onward, has-state}
 use Rattle.model.specs.Closed.{may-take, branches-closed}
 use Rattle.bits.specs.Bits.{odd, bit}
 use Rattle.values.specs.Values.{width, Values}
@@ -25,10 +25,10 @@ branch-code p t l a q = values-code p t l a maxDepth q
 unfoldable pub code-closed : ℕ → Bool → Bool
 code-closed k there = eqb k 0 || eqb k 1 && there
 
--- of the branches at these rows
-unfoldable pub codes-closed : Program → Tables → ℕ → (ℕ → ℕ) → List ℕ → Bool
-codes-closed p t c f [] = true
-codes-closed p t c f (q ∷ qs) = code-closed (f q) (has-state t (state c (branch-body p q))) && codes-closed p t c f qs
+-- of the branches at these rows, where the state s takes them
+unfoldable pub codes-closed : Program → Tables → State → (ℕ → ℕ) → List ℕ → Bool
+codes-closed p t s f [] = true
+codes-closed p t s f (q ∷ qs) = code-closed (f q) (has-state t (onward s (branch-body p q))) && codes-closed p t s f qs
 
 -- some branch lacks something
 unfoldable pub lacking : (ℕ → ℕ) → List ℕ → Bool
@@ -47,11 +47,11 @@ lacks = 65536
 unfoldable pub taken-bits : (ℕ → ℕ) → List ℕ → ℕ
 taken-bits f qs = elim (lacking f qs) [ true ↦ lacks | false ↦ code-bits f 1 qs ]
 
--- the expressions of the branches whose bits are set are states
-unfoldable pub bodies-closed : Program → Tables → ℕ → ℕ → List ℕ → Bool
-bodies-closed p t c k [] = true
-bodies-closed p t c k (q ∷ qs) = implies (odd k) (has-state t (state c (branch-body p q))) &&
-    bodies-closed p t c (k / 2) qs
+-- at the expressions of the branches whose bits are set the state s goes on
+unfoldable pub bodies-closed : Program → Tables → State → ℕ → List ℕ → Bool
+bodies-closed p t s k [] = true
+bodies-closed p t s k (q ∷ qs) = implies (odd k) (has-state t (onward s (branch-body p q))) &&
+    bodies-closed p t s (k / 2) qs
 
 -- k has the bits of the branches with the values of set n, whatever list they are of
 pub record Is-taken (p : Program) (t : Tables) (sets : List ℕ) (n q count k : ℕ) : Type 0 where
@@ -61,7 +61,7 @@ pub record Is-taken (p : Program) (t : Tables) (sets : List ℕ) (n q count k : 
 
 -- what the bits k say of the branches qs with the values that the list pairs with a
 pub record Bits-told (p : Program) (t : Tables) (l : Columns) (a : ℕ) (qs : List ℕ) (k : ℕ) : Type 0 where
-  pub lacked : k ≡ lacks → (c : ℕ) → each l a (branches-closed p t c qs) ≡ false
-  pub closed : (k ≡ lacks → ⊥) → (c : ℕ) → each l a (branches-closed p t c qs) ≡ bodies-closed p t c k qs
+  pub lacked : k ≡ lacks → (s : State) → each l a (branches-closed p t s qs) ≡ false
+  pub closed : (k ≡ lacks → ⊥) → (s : State) → each l a (branches-closed p t s qs) ≡ bodies-closed p t s k qs
   pub bits : (k ≡ lacks → ⊥) → (b : ℕ) → b < length qs → bit k b ≡ some-of l a (may-take p t (getD qs b 0))
   pub end : (k ≡ lacks → ⊥) → k < 2 ^ length qs

@@ -2,19 +2,18 @@
 use lists::word;
 use matching::codes::values_code;
 use model::Sizes;
-use sets::holds;
-use values::width;
+use onward::onward;
 ghost use mathlib.Core.Path.{_≡_};
 ghost use Prim.Native.Nat.{_≤_, _<_};
 ghost use Rattle.model.specs.Limits.{maxBranches};
 ghost use Rattle.model.specs.Index.{implies};
 ghost use Rattle.model.specs.Rows.{program};
 ghost use Rattle.model.specs.Heads.{branch-rows};
-ghost use Rattle.model.specs.Tables.{tables, state, has-state};
+ghost use Rattle.model.specs.Tables.{tables, onward, state-at, has-state};
 ghost use Rattle.bits.specs.Bits.{odd, Row};
 ghost use Rattle.lists.specs.Ready.{Ready};
 ghost use Rattle.positions.specs.Positions.{Run, Ends};
-ghost use Rattle.values.specs.Values.{width, Values, Flow-sets};
+ghost use Rattle.values.specs.Values.{width, Flow-sets};
 ghost use Rattle.matching.specs.Patterns.{Matches};
 ghost use Rattle.branches.specs.Taken.{Is-taken, bodies-closed};
 
@@ -62,45 +61,46 @@ pub fn taken_bits(
     bits
 }
 
-// Where the first bit is set: whether row r is a state of the class c, whose states `here` has.
-fn body_closed(ws: &[u16], s: Sizes, here: &[u64], c: usize, bits: usize, r: usize) -> bool
+// Where the first bit is set: whether state i goes on at row r.
+fn body_closed(ws: &[u16], s: Sizes, at: &[u16], i: usize, bits: usize, r: usize) -> bool
     requires { ⌜ Ready (now ws) s ⌝ }
-    requires { ⌜ Values (tables (now ws) s .states) c (width (s .rows)) 0 (now here) ⌝ }
-    requires { ⌜ r < s .rows ⌝ }
-    ensures { λ b. ⌜ b ≡ implies (odd bits) (has-state (tables (now (ws .entry)) s) (state c r)) ⌝ }
+    requires { ⌜ i < s .states ⌝ }
+    ensures { λ b. ⌜ b ≡
+        implies (odd bits)
+        (has-state (tables (now (ws .entry)) s) (onward (state-at (tables (now (ws .entry)) s) i) r)) ⌝ }
 {
     if bits % 2 == 1 {
-        holds(here, width(s), 0, r)
+        onward(ws, s, at, i, r) < s.states
     } else {
         true
     }
 }
 
-// Whether the expressions of the branches from row q on whose bits are set are states of the class c.
+// Whether state i goes on at the expressions of the branches from row q on whose bits are set.
 pub fn bodies_closed(
     ws: &[u16],
     s: Sizes,
     afters: &[u16],
-    here: &[u64],
-    c: usize,
+    at: &[u16],
+    i: usize,
     q: usize,
     count: usize,
     bits: usize,
 ) -> bool
     requires { ⌜ Ready (now ws) s ⌝ }
     requires { ⌜ Ends (program (now ws) s) (now afters) ⌝ }
-    requires { ⌜ Values (tables (now ws) s .states) c (width (s .rows)) 0 (now here) ⌝ }
+    requires { ⌜ i < s .states ⌝ }
     requires { ⌜ Run (program (now ws) s) q count ⌝ }
     ensures { λ b. ⌜ b ≡
-        bodies-closed (program (now (ws .entry)) s) (tables (now (ws .entry)) s) c bits
-        (branch-rows (program (now (ws .entry)) s) count q) ⌝ }
+        bodies-closed (program (now (ws .entry)) s) (tables (now (ws .entry)) s)
+        (state-at (tables (now (ws .entry)) s) i) bits (branch-rows (program (now (ws .entry)) s) count q) ⌝ }
 {
     let mut row = q;
     let mut left = count;
     let mut more = bits;
     while left > 0 {
         let expression = word(afters, row);
-        if !body_closed(ws, s, here, c, more, expression) {
+        if !body_closed(ws, s, at, i, more, expression) {
             return false;
         }
         more = more / 2;

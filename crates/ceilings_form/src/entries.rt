@@ -25,7 +25,7 @@ pub fn ceilings_at(s: Sizes) -> usize
     requires { ⌜ Within-limits present s ⌝ }
     ensures { λ r. ⌜ r ≡ ceilings-at s ⌝ }
 {
-    9 + 2 * (s.rows + s.badrows + s.flows + s.mails + s.states)
+    9 + 2 * (s.rows + s.badrows + s.flows + s.mails + s.states) + s.states
 }
 
 // The counter number of entry e, and 0 past the last entry.

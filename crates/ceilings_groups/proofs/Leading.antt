@@ -20,7 +20,7 @@ use Rattle.bits.proofs.Loops.{both, any-split}
 use Rattle.steps.specs.declared.Step.{Step}
 use Rattle.steps.specs.Steps.{effect-of, rule-of-step, effect-kind}
 use Rattle.steps.proofs.Stepping.{fire-alone, effect-quiet}
-use Rattle.rules.specs.Listed.{kind-effect, listed-rule, listed-rules}
+use Rattle.rules.specs.Listed.{kind-effect, listed-rule}
 use Rattle.ceilings_form.proofs.Limited.{highest-same}
 use Rattle.ceilings.specs.Table.{held, Limits-table}
 use Rattle.ceilings_groups.specs.Groups.{table-ceilings, escapes, step}
@@ -32,11 +32,11 @@ all-same e f g h =
     (λ t. all-intro 0 e g (λ k a b. sym (h k b) ∙ all-elim 0 e k f t a b))
     (λ t. all-intro 0 e f (λ k a b. h k b ∙ all-elim 0 e k g t a b))
 
-pub any-same : (e : ℕ) (f g : ℕ → Bool) → ((k : ℕ) → k < e → f k ≡ g k) → any 0 e f ≡ any 0 e g
-any-same e f g h =
+pub any-same : (a e : ℕ) (f g : ℕ → Bool) → ((k : ℕ) → k < e → f k ≡ g k) → any a e f ≡ any a e g
+any-same a e f g h =
     both _ _
-    (λ t. let (k, w, p) = any-elim 0 e f t in any-intro 0 e k g (w .0) (w .1) (sym (h k (w .1)) ∙ p))
-    (λ t. let (k, w, p) = any-elim 0 e g t in any-intro 0 e k f (w .0) (w .1) (h k (w .1) ∙ p))
+    (λ t. let (k, w, p) = any-elim a e f t in any-intro a e k g (w .0) (w .1) (sym (h k (w .1)) ∙ p))
+    (λ t. let (k, w, p) = any-elim a e g t in any-intro a e k f (w .0) (w .1) (h k (w .1) ∙ p))
 
 -- nothing passes from a up to b
 pub any-skip : (a b e : ℕ) (f : ℕ → Bool) → a ≤ b → b ≤ e → ((y : ℕ) → a ≤ y → y < b → f y ≡ false) → any a e f ≡ any b e f
@@ -107,16 +107,14 @@ pub listed-step : (tag i : ℕ) (tos others : List ℕ) (j : ℕ) → listed-rul
 unfolding listed-rule rule-of-step
 listed-step tag i tos others j = ap (rule i (getD tos j 0)) (effect-tag tag (getD others j 0))
 
-pub leads-listed : (bs : Ceilings) (m : Marking) (tag i : ℕ) (tos others : List ℕ) (n : ℕ) → leads-out bs (listed-rules (kind tag) i tos others n) m ≡ any 0 n (λ j. escapes bs (rule-of-step (step i (getD tos j 0) (effect-kind tag) (getD others j 0))) m)
-unfolding listed-rules
-leads-listed bs m tag i tos others n =
-    leads-gather bs m 0 n (λ k. listed-rule (kind tag) i tos others k ∷ []) ∙
-    any-same n _ _ (λ j h. leads-one bs m (listed-rule (kind tag) i tos others j) ∙ ap (λ ρ. escapes bs ρ m) (listed-step tag i tos others j))
+pub leads-listed : (bs : Ceilings) (m : Marking) (tag i : ℕ) (tos others : List ℕ) (a e : ℕ) → leads-out bs (gather a e (λ k. listed-rule (kind tag) i tos others k ∷ [])) m ≡ any a e (λ j. escapes bs (rule-of-step (step i (getD tos j 0) (effect-kind tag) (getD others j 0))) m)
+leads-listed bs m tag i tos others a e =
+    leads-gather bs m a e (λ k. listed-rule (kind tag) i tos others k ∷ []) ∙
+    any-same a e _ _ (λ j h. leads-one bs m (listed-rule (kind tag) i tos others j) ∙ ap (λ ρ. escapes bs ρ m) (listed-step tag i tos others j))
 
 -- a listed rule is one of the state's
-pub listed-member : (h : Kind) (i : ℕ) (tos others : List ℕ) (n j : ℕ) → j < n → List·Memᴰ (listed-rule h i tos others j) (listed-rules h i tos others n)
-unfolding listed-rules
-listed-member h i tos others n j l = gather-intro 0 n j (λ k. listed-rule h i tos others k ∷ []) _ (omega arith) l (List·Memᴰ·head refl)
+pub listed-member : (h : Kind) (i : ℕ) (tos others : List ℕ) (a e j : ℕ) → a ≤ j → j < e → List·Memᴰ (listed-rule h i tos others j) (gather a e (λ k. listed-rule h i tos others k ∷ []))
+listed-member h i tos others a e j low l = gather-intro a e j (λ k. listed-rule h i tos others k ∷ []) _ low l (List·Memᴰ·head refl)
 
 -- what a rule does to a counter depends on that counter alone
 fire-rule : (from to : ℕ) (e : Effect) (m m′ : Marking) (y : ℕ) → m y ≡ m′ y → fire (rule from to e) m y ≡ fire (rule from to e) m′ y
@@ -154,7 +152,7 @@ module _ (bs : Ceilings) (limits : List ℕ) (table : Limits-table bs limits) (k
   escapes-same ρ s =
       sym (ap₂ (λ a b. a && not b)
       (usable-rule (bs .counters) (ρ .from) (ρ .to) (ρ .effect) ours theirs s counts-same)
-      (any-same (bs .size) _ _ (under-same ρ)))
+      (any-same 0 (bs .size) _ _ (under-same ρ)))
 
   pub leads-same : (ρs : List Rule) → ((ρ : Rule) → List·Memᴰ ρ ρs → Shaped (bs .counters) ρ) → leads-out bs ρs theirs ≡ leads-out (table-ceilings (bs .size) (bs .counters) limits) ρs ours
   unfolding leads-out escapes

@@ -18,7 +18,7 @@ use Rattle.model.specs.Markings.{Marking, usable, fire}
 use Rattle.model.specs.Ceilings.{allowed, highest, under, under-some, leads-out}
 use Rattle.model.proofs.Logic.{test, and-left, and-right, and-intro, or-left, or-right, or-cases}
 use Rattle.model.proofs.Index.{any-elim, any-intro, all-intro, all-elim}
-use Rattle.bits.specs.Bits.{member}
+use Rattle.bits.specs.Bits.{member, Set-is}
 use Rattle.bits.proofs.Loops.{both, not-not}
 use Rattle.masks.specs.declared.Mask.{Mask}
 use Rattle.masks.specs.Masks.{has}
@@ -31,7 +31,7 @@ use Rattle.ceilings_masks.specs.declared.Over.{Over}
 use Rattle.ceilings_masks.specs.Compared.{reaches, most, exceeds, Counted}
 use Rattle.ceilings_covers.specs.Covers.{Left}
 use Rattle.ceilings_covers.proofs.Covering.{allowed-lower, fits-not, adds-elim, adds-apart, fire-once, more-allows}
-use Rattle.ceilings_groups.specs.Groups.{table-ceilings, escapes, Open-step, Open-to, Groups-upto}
+use Rattle.ceilings_groups.specs.Groups.{table-ceilings, escapes, Open-step, Open-to, Groups-upto, Group-put}
 use Rattle.ceilings_groups.proofs.Leading.{any-same, leads-none}
 
 -- a limit that reaches more than the count allows it
@@ -148,4 +148,14 @@ module _ (unbounded : List ℕ) where
 
   pub boundless-some : (n x : ℕ) (m : Mask) (r : Bool) → x ≡ n → Boundless-upto unbounded x m → r ≡ not (any 0 256 (has m)) → not r ≡ any 0 256 (λ k. all 0 n (λ y. member unbounded 4 y k))
   unfolding Boundless-upto
-  boundless-some n x m r e b is = ap not is ∙ (not-not _ ∙ (any-same 256 _ _ b ∙ rw e))
+  boundless-some n x m r e b is = ap not is ∙ (not-not _ ∙ (any-same 0 256 _ _ b ∙ rw e))
+
+-- the sets of one state, stored one behind the other
+pub sets-put : (limits : List ℕ) (ceilings n kind : ℕ) (tos others : List ℕ) (m i : ℕ) (group group′ group″ : List ℕ) (q r : Mask) → ((k j : ℕ) → k < 256 → j < m → has q k ≡ true → Open-step limits ceilings n omega-limit k kind (getD tos j 0) (getD others j 0)) → ((k j : ℕ) → k < 256 → j < m → has r k ≡ true → Open-step limits ceilings n 1 k kind (getD tos j 0) (getD others j 0)) → Set-is 4 (2 * i) (has q) group group′ → Set-is 4 (2 * i + 1) (has r) group′ group″ → Group-put limits ceilings n kind tos others m i group group″
+sets-put limits ceilings n kind tos others m i group group′ group″ q r first second set set′ =
+    record {
+      opens = λ k j l b t. first k j l b (sym (set .here k l) ∙ (sym (set′ .others (2 * i) k l (λ e. omega arith)) ∙ t));
+      opens-one = λ k j l b t. second k j l b (sym (set′ .here k l) ∙ t);
+      stays = λ x k h l. set′ .others x k l (λ e. omega arith) ∙ set .others x k l (λ e. omega arith);
+      long = set′ .long ∙ set .long;
+    }

@@ -4,7 +4,7 @@ use mathlib.Core.Path.{_≡_}
 use mathlib.Core.Bool.{Bool, true, not, _&&_}
 use mathlib.Core.Logic.{_⊎_}
 use mathlib.Core.List.{List, List·Memᴰ}
-use lib.ListN.{length}
+use lib.ListN.{length, getD}
 use lib.Dec.{eqb}
 use Rattle.model.specs.Limits.{omega-limit}
 use Rattle.model.specs.Rows.{Program}
@@ -35,6 +35,19 @@ abbrev pub Open-step : List ℕ → ℕ → ℕ → ℕ → ℕ → ℕ → ℕ 
 Open-step limits ceilings n count k kind to other =
     Allowed-at limits ceilings n count k to ×
     (2 ≤ kind → Allowed-at limits ceilings n count k other × (to ≡ other → ⊥))
+
+-- the two sets of state i are put into the table: ceilings that allow what each of its m rules adds, all of one kind.
+-- The sets before them stay.
+pub record Group-put (limits : List ℕ) (ceilings n kind : ℕ) (tos others : List ℕ) (m i : ℕ)
+    (group group′ : List ℕ) : Type 0 where
+  pub opens :
+      (k j : ℕ) → k < 256 → j < m → member group′ 4 (2 * i) k ≡ true →
+      Open-step limits ceilings n omega-limit k kind (getD tos j 0) (getD others j 0)
+  pub opens-one :
+      (k j : ℕ) → k < 256 → j < m → member group′ 4 (2 * i + 1) k ≡ true →
+      Open-step limits ceilings n 1 k kind (getD tos j 0) (getD others j 0)
+  pub stays : (x k : ℕ) → x < 2 * i → k < 256 → member group′ 4 x k ≡ member group 4 x k
+  pub long : length group′ ≡ length group
 
 -- each counter gets one at most by the rule and has this count allowed under ceiling k, or it gets nothing
 abbrev pub Open-to : List ℕ → ℕ → ℕ → ℕ → ℕ → Rule → Type 0

@@ -6,6 +6,8 @@ use masks::is_none;
 use masks::load;
 use masks::none;
 use masks::or;
+use masks::store;
+use model::OMEGA;
 ghost use mathlib.Core.Path.{_≡_};
 ghost use mathlib.Core.Bool.{true, _&&_, _||_};
 ghost use Prim.Native.Nat.{ℕ, _+_, _*_, _≤_, _<_};
@@ -15,7 +17,7 @@ ghost use Rattle.model.specs.Index.{any, all};
 ghost use Rattle.bits.specs.Bits.{member};
 ghost use Rattle.masks.specs.Masks.{has};
 ghost use Rattle.ceilings_masks.specs.Compared.{Holders};
-ghost use Rattle.ceilings_groups.specs.Groups.{Allowed-at, Open-step};
+ghost use Rattle.ceilings_groups.specs.Groups.{Allowed-at, Open-step, Group-put};
 
 // Ceilings that allow the count at counter y: for 1 those that hold it, for every other count those where it is
 // unbounded; all where it is none of the n.
@@ -75,7 +77,7 @@ fn open_to(
 
 // Ceilings that allow the count where the m rules add, all of one kind: where they lead, and what they put or
 // start.
-pub fn open_to_all(
+fn open_to_all(
     limits: &[u16],
     ceilings: usize,
     n: usize,
@@ -119,7 +121,7 @@ pub fn open_to_all(
 
 // The same for the count 1, but none where some ceiling has no bound at all: that one is open to every rule and left
 // beside every ceiling, so that a second set would settle nothing more.
-pub fn held_to_all(
+fn held_to_all(
     boundless: bool,
     limits: &[u16],
     ceilings: usize,
@@ -153,6 +155,57 @@ pub fn held_to_all(
         others,
         m,
     )
+}
+
+// The two sets of state i, whose m rules are all of this kind: one behind the other.
+pub fn put_group(
+    boundless: bool,
+    limits: &[u16],
+    ceilings: usize,
+    n: usize,
+    holders: &[u64],
+    unbounded: &[u64],
+    kind: usize,
+    tos: &[u16],
+    others: &[u16],
+    m: usize,
+    i: usize,
+    group: &mut [u64],
+)
+    requires { ⌜ Holders (now limits) ceilings n (now holders) (now unbounded) ⌝ }
+    requires { ⌜ (m ≤ length (now tos)) × (m ≤ length (now others)) ⌝ }
+    requires { ⌜ (i < 65536) × (i * 8 + 8 ≤ length (now group)) ⌝ }
+    ensures { λ _. ⌜ Group-put (now (limits .entry)) ceilings n kind (now (tos .entry)) (now (others .entry)) m i
+        (now (group .entry)) (now (group .exit)) ⌝ }
+{
+    let open = open_to_all(
+        limits,
+        ceilings,
+        n,
+        holders,
+        unbounded,
+        OMEGA,
+        kind,
+        tos,
+        others,
+        m,
+    );
+    let first = 2 * i;
+    store(group, first, open);
+    let held = held_to_all(
+        boundless,
+        limits,
+        ceilings,
+        n,
+        holders,
+        unbounded,
+        kind,
+        tos,
+        others,
+        m,
+    );
+    let second = 2 * i + 1;
+    store(group, second, held);
 }
 
 // Some ceiling has no bound at any of the n counters.

@@ -36,6 +36,7 @@ use Rattle.steps.specs.declared.Step.{Step}
 use Rattle.steps.specs.Steps.{effect-of, rule-of-step, effect-kind}
 use Rattle.rules.specs.Listed.{State-rules, listed-rule, listed-rules}
 use Rattle.rules.specs.Derived.{Rule-room}
+use Rattle.kept_rules.specs.Kept.{Rules-at}
 use Rattle.ceilings_form.specs.Parts.{Whole}
 use Rattle.ceilings_form.specs.Limits.{Starts-table}
 use Rattle.ceilings_form.proofs.Limited.{highest-limit}
@@ -45,7 +46,7 @@ use Rattle.ceilings_masks.specs.declared.Over.{Over}
 use Rattle.ceilings_masks.specs.Compared.{Holders, Counted, Neighbours}
 use Rattle.ceilings_covers.specs.Covers.{Beside, covers, passes, named, Candidates, Exact, sure, Step-apart}
 use Rattle.ceilings_covers.proofs.Covering.{covers-pass, pass-covers}
-use Rattle.ceilings_groups.specs.Groups.{table-ceilings, escapes, Open-step, Open-to, Groups-upto, step}
+use Rattle.ceilings_groups.specs.Groups.{table-ceilings, escapes, Open-step, Open-to, Groups-upto, Group-put, step}
 use Rattle.ceilings_groups.proofs.Settling.{step-open}
 use Rattle.bits.specs.Bits.{member, Set-is}
 use Rattle.ceilings_groups.proofs.Leading.{any-skip, leads-none, leads-states, leads-listed, leads-same, listed-step, listed-member}
@@ -170,15 +171,15 @@ module _ (ws : List ℕ) (s : Sizes) (n : ℕ) (limits : List ℕ) where
         walk-settled z = walk-next (walk-here ∙ any-miss i (s .states) (by-state k) h z)
 
         -- its rules, one by one
-        module _ (m kd : ℕ) (tos others : List ℕ) (r : State-rules p t i tos others m) (is-kind : kd ≡ effect-kind (tag p (right (t .states) i))) where
+        module _ (a m kd : ℕ) (tos others : List ℕ) (r : Rules-at p t i tos others a m) (is-kind : kd ≡ effect-kind (tag p (right (t .states) i))) where
           abbrev out : ℕ → Bool
           out j = by-step k (step-at i kd tos others j)
 
-          by-rules : by-state k i ≡ any 0 m out
+          by-rules : by-state k i ≡ any a m out
           unfolding by-state by-step
-          by-rules = ap (λ ρs. leads-out tb ρs (counts k)) (sym (r .rules)) ∙ (leads-listed tb (counts k) (tag p (right (t .states) i)) i tos others m ∙ rw is-kind)
+          by-rules = ap (λ ρs. leads-out tb ρs (counts k)) (sym (r .rules)) ∙ (leads-listed tb (counts k) (tag p (right (t .states) i)) i tos others a m ∙ rw is-kind)
 
-          pub rules-start : leaks k ≡ (any 0 m out || any (i + 1) (s .states) (by-state k))
+          pub rules-start : leaks k ≡ (any a m out || any (i + 1) (s .states) (by-state k))
           rules-start = walk-here ∙ test (by-state k i)
               (λ z. rw (← by-rules, z) (any-hit i (s .states) (by-state k) h z))
               (λ z. rw (← by-rules, z) (any-miss i (s .states) (by-state k) h z))
@@ -283,11 +284,11 @@ module _ (ws : List ℕ) (s : Sizes) (n : ℕ) (limits : List ℕ) where
         })
 
     -- the rules of a state are of the message's, so what their steps take from are counters, and not one twice
-    pub step-shape : (i m kd : ℕ) (tos others : List ℕ) (j : ℕ) → i < s .states → State-rules p t i tos others m → kd ≡ effect-kind (tag p (right (t .states) i)) → kd ≤ 3 → j < m → Step-apart n (step-at i kd tos others j)
+    pub step-shape : (i a m kd : ℕ) (tos others : List ℕ) (j : ℕ) → i < s .states → Rules-at p t i tos others a m → kd ≡ effect-kind (tag p (right (t .states) i)) → kd ≤ 3 → a ≤ j → j < m → Step-apart n (step-at i kd tos others j)
     unfolding rules tables entries columns
-    step-shape i m kd tos others j h r is small below =
+    step-shape i a m kd tos others j h r is small low below =
         let tg : ℕ = tag p (right (t .states) i) in
-        let there : List·Memᴰ (listed-rule (kind tg) i tos others j) (state-rules p t i (state-at t i)) = subst (λ ρs. List·Memᴰ (listed-rule (kind tg) i tos others j) ρs) (r .rules) (listed-member (kind tg) i tos others m j below) in
+        let there : List·Memᴰ (listed-rule (kind tg) i tos others j) (state-rules p t i (state-at t i)) = subst (λ ρs. List·Memᴰ (listed-rule (kind tg) i tos others j) ρs) (r .rules) (listed-member (kind tg) i tos others a m j low below) in
         let shape : Shaped n (listed-rule (kind tg) i tos others j) = rw counted (shaped-all _ (gather-intro 0 (t .states .size) i (λ x. state-rules p t x (state-at t x)) _ (omega arith) h there)) in
         let same : listed-rule (kind tg) i tos others j ≡ rule-of-step (step-at i kd tos others j) = rw is (listed-step tg i tos others j) in
         shaped-step n (step-at i kd tos others j) small (subst (λ ρ. Shaped n ρ) same shape)
@@ -348,26 +349,20 @@ module _ (ws : List ℕ) (s : Sizes) (n : ℕ) (limits : List ℕ) where
         let same : ρ ≡ rule-of-step (step i (getD tos j 0) kd (getD others j 0)) = e ∙ (listed-step tg i tos others j ∙ ap (λ x. rule-of-step (step i (getD tos j 0) x (getD others j 0))) (sym is)) in
         rw same (step-open limits (s .ceilings) n count k (step i (getD tos j 0) kd (getD others j 0)) small (opens j b))
 
-    pub groups-next : (group group′ group″ : List ℕ) (q r : Mask) (a b : ℕ) → kd ≡ effect-kind tg → kd ≤ 3 → ((k j : ℕ) → k < 256 → j < m → has q k ≡ true → Open-step limits (s .ceilings) n omega-limit k kd (getD tos j 0) (getD others j 0)) → ((k j : ℕ) → k < 256 → j < m → has r k ≡ true → Open-step limits (s .ceilings) n 1 k kd (getD tos j 0) (getD others j 0)) → a ≡ 2 * i → Set-is 4 a (has q) group group′ → b ≡ 2 * i + 1 → Set-is 4 b (has r) group′ group″ → Groups-upto (program ws s) (tables ws s) limits (s .ceilings) n i group → Groups-upto (program ws s) (tables ws s) limits (s .ceilings) n (i + 1) group″
-    groups-next group group′ group″ q r a b is small first second at-a set at-b set′ g =
+    pub groups-next : (group group′ : List ℕ) → kd ≡ effect-kind tg → kd ≤ 3 → Group-put limits (s .ceilings) n kd tos others m i group group′ → Groups-upto (program ws s) (tables ws s) limits (s .ceilings) n i group → Groups-upto (program ws s) (tables ws s) limits (s .ceilings) n (i + 1) group′
+    groups-next group group′ is small put g =
         record {
           leaves = λ x ρ h w. elim (ℕ-discrete x i) [
             | yes z ↦ rw z (rules-leave ρ (rw (← z) w))
             | no z ↦ g .leaves x ρ (omega arith) w
           ];
-          opens = λ x k ρ h l t w. let kept = set′ .others (2 * x) k l (λ y. omega arith) in elim (ℕ-discrete x i) [
-            | yes z ↦
-                let here : 2 * x ≡ a = omega arith in
-                let in-set : has q k ≡ true = sym (set .here k l) ∙ (ap (λ y. member group′ 4 y k) (sym here) ∙ (sym kept ∙ t)) in
-                rules-open omega-limit k is small (λ j below. first k j l below in-set) ρ (rw (← z) w)
-            | no z ↦ g .opens x k ρ (omega arith) l (sym (set .others (2 * x) k l (λ y. omega arith)) ∙ (sym kept ∙ t)) w
+          opens = λ x k ρ h l t w. elim (ℕ-discrete x i) [
+            | yes z ↦ rules-open omega-limit k is small (λ j below. put .opens k j l below (ap (λ y. member group′ 4 (2 * y) k) (sym z) ∙ t)) ρ (rw (← z) w)
+            | no z ↦ g .opens x k ρ (omega arith) l (sym (put .stays (2 * x) k (omega arith) l) ∙ t) w
           ];
           opens-one = λ x k ρ h l t w. elim (ℕ-discrete x i) [
-            | yes z ↦
-                let here : 2 * x + 1 ≡ b = omega arith in
-                let in-set : has r k ≡ true = sym (set′ .here k l) ∙ (ap (λ y. member group″ 4 y k) (sym here) ∙ t) in
-                rules-open 1 k is small (λ j below. second k j l below in-set) ρ (rw (← z) w)
-            | no z ↦ g .opens-one x k ρ (omega arith) l (sym (set .others (2 * x + 1) k l (λ y. omega arith)) ∙ (sym (set′ .others (2 * x + 1) k l (λ y. omega arith)) ∙ t)) w
+            | yes z ↦ rules-open 1 k is small (λ j below. put .opens-one k j l below (ap (λ y. member group′ 4 (2 * y + 1) k) (sym z) ∙ t)) ρ (rw (← z) w)
+            | no z ↦ g .opens-one x k ρ (omega arith) l (sym (put .stays (2 * x + 1) k (omega arith) l) ∙ t) w
           ];
         }
 

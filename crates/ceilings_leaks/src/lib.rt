@@ -8,22 +8,22 @@ use ceilings_covers::passes;
 use ceilings_covers::surely_covered;
 use ceilings_form::entries::ceilings_at;
 use ceilings_form::entries::counter_at;
-use ceilings_groups::held_to_all;
 use ceilings_groups::is_boundless;
-use ceilings_groups::open_to_all;
+use ceilings_groups::put_group;
 use ceilings_groups::settled;
 use ceilings_masks::compare;
+use kept_rules::Kept;
+use kept_rules::keep;
+use kept_rules::none_kept;
+use kept_rules::rules_again;
+use kept_rules::rules_from;
 use lists::state_location;
 use masks::first_set;
 use masks::next_in;
-use masks::store;
-use model::OMEGA;
 use model::Sizes;
 use model::Verdict;
+use onward::guess_class;
 use program::rows::tag;
-use rules::Class;
-use rules::turn_to;
-use state_rules::state_rules;
 use steps::Step;
 use steps::effect_kind;
 use system_totals::Totals;
@@ -40,7 +40,8 @@ ghost use Rattle.model.specs.Rules.{rules};
 ghost use Rattle.model.specs.Ceilings.{ceilings-of, leak-check};
 ghost use Rattle.model.specs.Verify.{answer};
 ghost use Rattle.lists.specs.Ready.{Ready};
-ghost use Rattle.rules.specs.Derived.{Rule-tables, Entered, Rule-room};
+ghost use Rattle.rules.specs.Derived.{Rule-tables};
+ghost use Rattle.kept_rules.specs.Kept.{Room-from, Kept-rules};
 ghost use Rattle.steps.specs.Steps.{effect-kind};
 ghost use Rattle.system_totals.specs.Lines.{Totalled};
 ghost use Rattle.ceilings_groups.specs.Groups.{Groups-upto};
@@ -57,20 +58,19 @@ fn kind_at(ws: &[u16], s: Sizes, i: usize) -> usize
     effect_kind(tag(ws, s, state_location(ws, s, i)))
 }
 
-// After all states: the class entered last, and how many rules and rows there are.
+// After all states: how many rules and rows there are, and whether the rules are kept.
 pub struct Gathered {
-    pub class: Class,
     pub totals: Totals,
+    pub kept: Kept,
 }
 
 // For each state the ceilings that have no bound where its rules add, and those that hold one there. The rules are
-// counted here too, so that they are derived no more than three times: here, in the leak test, and where the listing is
-// written.
+// counted here too; and where they are few they are kept, within the first `spare` words of the lists, so that the leak
+// test does not derive them again for each ceiling that does not settle their state.
 pub fn fill_groups(
     ws: &[u16],
     s: Sizes,
     afters: &[u16],
-    inners: &[u16],
     flow_at: &[u16],
     w: usize,
     flows: &[u64],
@@ -83,34 +83,35 @@ pub fn fill_groups(
     starts: &[u16],
     holders: &[u64],
     unbounded: &[u64],
-    k: Class,
+    spare: usize,
     at: &mut [u16],
     tos: &mut [u16],
     others: &mut [u16],
+    first_at: &mut [u16],
     group: &mut [u64],
 ) -> Gathered
-    requires { ⌜ Rule-tables (now ws) s (now afters) (now inners) (now «flow_at») w (now flows) (now names)
+    requires { ⌜ Rule-tables (now ws) s (now afters) (now «flow_at») w (now flows) (now names)
         (now «letter_at») (now letters) (now branches) ⌝ }
     requires { ⌜ Ceilings-ready (now ws) s n (now limits) (now starts) (now holders) (now unbounded) ⌝ }
-    requires { ⌜ Entered (program (now ws) s) (tables (now ws) s) k (now at) ⌝ }
-    requires { ⌜ Rule-room s (now tos) (now others) × (length (now tos) ≤ 65536) ⌝ }
+    requires { ⌜ Room-from s spare (now tos) (now others) × (length (now tos) ≤ 65536) ⌝ }
     requires { ⌜ s .states * 8 ≤ length (now group) ⌝ }
-    ensures { λ g. ⌜ Entered (program (now (ws .entry)) s) (tables (now (ws .entry)) s) (g .class) (now (at .exit)) ⌝ }
     ensures { λ _. ⌜ Groups-upto (program (now (ws .entry)) s) (tables (now (ws .entry)) s) (now (limits .entry))
         (s .ceilings) n (s .states) (now (group .exit)) ⌝ }
     ensures { λ g. ⌜ Totalled (program (now (ws .entry)) s) (tables (now (ws .entry)) s) (g .totals) ⌝ }
+    ensures { λ g. ⌜ Kept-rules (program (now (ws .entry)) s) (tables (now (ws .entry)) s) (s .states) (g .kept)
+        (now («first_at» .exit)) (now (tos .exit)) (now (others .exit)) ⌝ }
 {
     let boundless = is_boundless(unbounded, n);
-    let mut class = k;
+    let mut kept = none_kept(s.states, first_at);
     let mut rules = 0;
     let mut rows = 0;
     for i in 0..s.states {
-        class = turn_to(ws, s, class, at, i);
-        let m = state_rules(
+        let used = kept.used;
+        guess_class(ws, s, at, i);
+        let m = rules_from(
             ws,
             s,
             afters,
-            inners,
             flow_at,
             w,
             flows,
@@ -118,53 +119,33 @@ pub fn fill_groups(
             letter_at,
             letters,
             branches,
-            class,
             at,
             i,
+            used,
             tos,
             others,
         );
         let head = state_head(ws, s, i);
         rules += m;
         rows += row_total(head, m);
-        let kind = effect_kind(head);
-        let first = 2 * i;
-        store(
+        put_group(
+            boundless,
+            limits,
+            s.ceilings,
+            n,
+            holders,
+            unbounded,
+            effect_kind(head),
+            &tos[used..],
+            &others[used..],
+            m,
+            i,
             group,
-            first,
-            open_to_all(
-                limits,
-                s.ceilings,
-                n,
-                holders,
-                unbounded,
-                OMEGA,
-                kind,
-                tos,
-                others,
-                m,
-            ),
         );
-        let second = 2 * i + 1;
-        store(
-            group,
-            second,
-            held_to_all(
-                boundless,
-                limits,
-                s.ceilings,
-                n,
-                holders,
-                unbounded,
-                kind,
-                tos,
-                others,
-                m,
-            ),
-        );
+        kept = keep(kept, spare, i, m, first_at);
     }
     let totals = Totals { rules, rows };
-    Gathered { class, totals }
+    Gathered { totals, kept }
 }
 
 // Refusal 13: the first ceiling that leaks, at its first entry. Loops over the ceilings, over each one's states, over
@@ -174,7 +155,6 @@ pub fn leak_check(
     ws: &[u16],
     s: Sizes,
     afters: &[u16],
-    inners: &[u16],
     flow_at: &[u16],
     w: usize,
     flows: &[u64],
@@ -188,26 +168,27 @@ pub fn leak_check(
     holders: &[u64],
     unbounded: &[u64],
     group: &[u64],
-    first_class: Class,
-    at: &mut [u16],
+    kept: Kept,
+    first_at: &[u16],
+    at: &[u16],
     tos: &mut [u16],
     others: &mut [u16],
     short: &mut [u64],
     more: &mut [u64],
 ) -> Verdict
-    requires { ⌜ Rule-tables (now ws) s (now afters) (now inners) (now «flow_at») w (now flows) (now names)
+    requires { ⌜ Rule-tables (now ws) s (now afters) (now «flow_at») w (now flows) (now names)
         (now «letter_at») (now letters) (now branches) ⌝ }
     requires { ⌜ Ceilings-ready (now ws) s n (now limits) (now starts) (now holders) (now unbounded) ⌝ }
-    requires { ⌜ Entered (program (now ws) s) (tables (now ws) s) «first_class» (now at) ⌝ }
     requires { ⌜ Groups-upto (program (now ws) s) (tables (now ws) s) (now limits) (s .ceilings) n (s .states)
         (now group) ⌝ }
+    requires { ⌜ Kept-rules (program (now ws) s) (tables (now ws) s) (s .states) kept (now «first_at») (now tos)
+        (now others) ⌝ }
     requires { ⌜ s .states * 8 ≤ length (now group) ⌝ }
     requires { ⌜ Rooms s n (now tos) (now others) (now short) (now more) ⌝ }
     ensures { λ r. ⌜ r ≡
         answer (leak-check (now (ws .entry)) s (ceilings-of (now (ws .entry)) s n)
         (rules (program (now (ws .entry)) s) (tables (now (ws .entry)) s))) ⌝ }
 {
-    let mut class = first_class;
     'ceilings: for k in 0..s.ceilings {
         let first = starts[k] as usize;
         let over = compare(ws, s, n, limits, holders, unbounded, k, first, short, more);
@@ -233,12 +214,10 @@ pub fn leak_check(
             if settled(left, over.above, group, i) {
                 continue 'states;
             }
-            class = turn_to(ws, s, class, at, i);
-            let m = state_rules(
+            let found = rules_again(
                 ws,
                 s,
                 afters,
-                inners,
                 flow_at,
                 w,
                 flows,
@@ -246,14 +225,16 @@ pub fn leak_check(
                 letter_at,
                 letters,
                 branches,
-                class,
+                kept,
+                first_at,
                 at,
                 i,
                 tos,
                 others,
             );
+            let end = found.end;
             let kind = kind_at(ws, s, i);
-            'rules: for j in 0..m {
+            'rules: for j in found.first..end {
                 let to = tos[j] as usize;
                 let other = others[j] as usize;
                 let step = Step {

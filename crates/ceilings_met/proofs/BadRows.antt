@@ -14,9 +14,10 @@ use Rattle.model.specs.Words.{Columns, left, right, columns}
 use Rattle.model.specs.Message.{bads-at}
 use Rattle.model.specs.Reader.{past, Grammar, fits, read}
 use Rattle.model.specs.Rows.{Program}
-use Rattle.model.specs.Bads.{Part, bad, subject, minimum, further, item, bad-step, bad-rows, Counted, counted, met-from, met}
+use Rattle.model.specs.Bads.{Part, bad, subject, minimum, further, item, bad-step, bad-rows, Subject, subject-at, item-at, items-from, met}
 use Rattle.model.proofs.Logic.{test, and-left}
 use Rattle.model.proofs.Reader.{by-option, past-wrong, past-row, read-none, read-end, read-stop, read-go}
+use Rattle.ceilings_met.specs.Items.{items-at}
 
 module _ {Item : Type 0} (step : Grammar Item) (rows : Columns) where
   -- what is read to its end begins with a row that fits
@@ -99,32 +100,32 @@ bad-inside ws s r h = elim (decLt r (s .badrows)) [
 ]
 
 -- a bad met item by item
-module _ (counts : Counted → ℕ) (rows : Columns) (inside : (r : ℕ) → left rows r ≡ 40 → r < rows .size) where
-  met-turn : (m r : ℕ) → left rows r ≡ 40 → met-from counts rows (suc m) r ≡ (leb (right rows (r + 2)) (counts (counted rows r)) && met-from counts rows m (r + 3))
-  unfolding met-from
-  met-turn m r h = rw (eq-eqb _ _ h, met-from)
+module _ (counts : Subject → ℕ) (rows : Columns) (inside : (r : ℕ) → left rows r ≡ 40 → r < rows .size) where
+  met-turn : (m r : ℕ) → left rows r ≡ 40 → met counts (items-from rows (suc m) r) ≡ (leb (right rows (r + 2)) (counts (subject-at rows r)) && met counts (items-from rows m (r + 3)))
+  unfolding items-from item-at met
+  met-turn m r h = rw (eq-eqb _ _ h, items-from)
 
-  met-rest : (m r : ℕ) → (left rows r ≡ 40 → ⊥) → met-from counts rows m r ≡ true
-  unfolding met-from
+  met-rest : (m r : ℕ) → (left rows r ≡ 40 → ⊥) → met counts (items-from rows m r) ≡ true
+  unfolding items-from met
   met-rest zero r h = refl
-  met-rest (suc m) r h = rw (ne-eqb _ _ h, met-from)
+  met-rest (suc m) r h = rw (ne-eqb _ _ h, items-from)
 
   -- as many rows as there are left, or more
-  met-fuel : (m m′ r : ℕ) → rows .size ≤ r + m → rows .size ≤ r + m′ → met-from counts rows m r ≡ met-from counts rows m′ r
+  met-fuel : (m m′ r : ℕ) → rows .size ≤ r + m → rows .size ≤ r + m′ → met counts (items-from rows m r) ≡ met counts (items-from rows m′ r)
   met-fuel zero m′ r a b = let past : left rows r ≡ 40 → ⊥ = λ h. let w = inside r h in omega arith in met-rest zero r past ∙ sym (met-rest m′ r past)
   met-fuel (suc m) zero r a b = let past : left rows r ≡ 40 → ⊥ = λ h. let w = inside r h in omega arith in met-rest (suc m) r past ∙ sym (met-rest zero r past)
   met-fuel (suc m) (suc m′) r a b = elim (ℕ-discrete (left rows r) 40) [
     | yes e ↦
-        met-turn m r e ∙ (ap (λ z. leb (right rows (r + 2)) (counts (counted rows r)) && z) (met-fuel m m′ (r + 3) (omega arith) (omega arith)) ∙ sym (met-turn m′ r e))
+        met-turn m r e ∙ (ap (λ z. leb (right rows (r + 2)) (counts (subject-at rows r)) && z) (met-fuel m m′ (r + 3) (omega arith) (omega arith)) ∙ sym (met-turn m′ r e))
     | no e ↦ met-rest (suc m) r e ∙ sym (met-rest (suc m′) r e)
   ]
 
-  pub met-item : (r : ℕ) → left rows r ≡ 40 → met counts rows r ≡ (leb (right rows (r + 2)) (counts (counted rows r)) && met counts rows (r + 3))
-  unfolding met
+  pub met-item : (r : ℕ) → left rows r ≡ 40 → met counts (items-at rows r) ≡ (leb (right rows (r + 2)) (counts (subject-at rows r)) && met counts (items-at rows (r + 3)))
+  unfolding items-at
   met-item r h =
       let t : rows .size - r ≡ suc (rows .size - (r + 1)) = omega (arith, inside r h) in
-      ap (λ m. met-from counts rows m r) t ∙ (met-turn (rows .size - (r + 1)) r h ∙ ap (λ b. leb (right rows (r + 2)) (counts (counted rows r)) && b) (met-fuel _ _ (r + 3) (omega arith) (omega arith)))
+      ap (λ m. met counts (items-from rows m r)) t ∙ (met-turn (rows .size - (r + 1)) r h ∙ ap (λ b. leb (right rows (r + 2)) (counts (subject-at rows r)) && b) (met-fuel _ _ (r + 3) (omega arith) (omega arith)))
 
-  pub met-over : (r : ℕ) → (left rows r ≡ 40 → ⊥) → met counts rows r ≡ true
-  unfolding met
+  pub met-over : (r : ℕ) → (left rows r ≡ 40 → ⊥) → met counts (items-at rows r) ≡ true
+  unfolding items-at
   met-over r h = met-rest (rows .size - r) r h

@@ -1,3 +1,5 @@
 pub mod BadRows
+pub mod Filled
 pub mod Meeting
 pub mod Start
+pub mod Sums

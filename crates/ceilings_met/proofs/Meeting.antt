@@ -1,10 +1,10 @@
--- Refusal 12 by the code's values: the count of an item, a bad under one ceiling and under some, the first one allowed.
-use Prim.Native.Nat.{ℕ, _+_, _≤_, _<_}
+-- Refusal 12 by the code's values: the count of an item, a bad that counts meet, the first one that some ceiling allows.
+use Prim.Native.Nat.{ℕ, _+_, _*_, _-_, _≤_, _<_}
+use native.Mathlib.Decide.{decLt}
 use native.Mathlib.Omega.{arith}
-use mathlib.Core.Path.{_≡_, sym, _∙_}
+use mathlib.Core.Path.{_≡_, refl, sym, _∙_, ap}
 use mathlib.Core.Bool.{Bool, true, false, _&&_}
 use mathlib.Core.List.{List}
-use mathlib.Core.Option.{some}
 use lib.ListN.{length, getD}
 use lib.Dec.{leb, eqb}
 use borrow.Author.Tests.{le-leb, lt-leb, eq-eqb, ne-eqb}
@@ -15,82 +15,130 @@ use Rattle.model.specs.Index.{any, first}
 use Rattle.model.specs.Words.{Columns, left, right, columns}
 use Rattle.model.specs.Message.{bads-at}
 use Rattle.model.specs.Verdict.{unless}
-use Rattle.model.specs.Rows.{program}
-use Rattle.model.specs.Tables.{tables}
-use Rattle.model.specs.Bads.{bad, bad-step, bad-rows, bad-row, counted, met}
-use Rattle.model.specs.Counters.{counter-of}
-use Rattle.model.specs.Markings.{standing, count-in}
+use Rattle.model.specs.Rows.{Program, program}
+use Rattle.model.specs.Tables.{Tables, tables}
+use Rattle.model.specs.Bads.{bad, bad-step, bad-rows, bad-row, Subject, subject-at, Item, items, met}
+use Rattle.model.specs.Counters.{counter-count, counts}
+use Rattle.model.specs.Markings.{Marking, sum-in}
 use Rattle.model.specs.Ceilings.{ceilings-of, highest, bad-allowed, met-check}
 use Rattle.model.specs.Verify.{answer}
-use Rattle.model.proofs.Reader.{by-option}
+use Rattle.model.proofs.Index.{any-intro, any-elim, any-none, none-any, first-is, first-unique, total-same}
 use Rattle.bits.specs.Bits.{Row}
 use Rattle.ceilings.specs.Table.{held, Limits-table}
 use Rattle.ceilings.proofs.Cells.{row-in}
-use Rattle.ceilings_met.specs.Items.{Ready, most, Bads-in-form, Bad-stands, bad-end}
 use Rattle.ceilings_form.proofs.Limited.{highest-same}
-use Rattle.ceilings_met.proofs.BadRows.{bad-inside, met-item, met-over}
 use Rattle.ceilings_form.proofs.Repeated.{Walked, walked-start, walked-row, walked-inside, walked-stands, walked-next}
+use Rattle.ceilings_met.specs.Items.{Range, Ready, Bads-in-form, Bad-stands, bad-end, items-at, bad-met}
+use Rattle.ceilings_met.specs.Sums.{counts-of, Sums-of, Summed}
+use Rattle.ceilings_met.proofs.BadRows.{bad-inside, met-item, met-over}
+use Rattle.ceilings_met.proofs.Sums.{range-sum, between, sums-rise, sums-counts}
 
 -- the answer of a search for the first
-first-refused : (k j e : ℕ) (v : ℕ → Verdict) → k ≡ j → j < e → v j ≡ answer (unless (eqb k e) (v k))
+first-refused : (k j e : ℕ) (v : ℕ → Verdict) → k ≡ j → (j ≡ e → ⊥) → v j ≡ answer (unless (eqb k e) (v k))
 unfolding answer unless
-first-refused k j e v z h = rw (z, ne-eqb j e (λ y. omega arith))
+first-refused k j e v z h = rw (z, ne-eqb j e h)
 
 first-passed : (k e : ℕ) (v : ℕ → Verdict) → k ≡ e → Safe ≡ answer (unless (eqb k e) (v k))
 unfolding answer unless
 first-passed k e v z = rw (eq-eqb k e z)
 
-module _ (ws : List ℕ) (s : Sizes) (n : ℕ) where
+-- the first that one of the turns before k + 1 passes is the first that turn k passes, of those before the first that one before k does
+first-less : (n k a b : ℕ) (f : ℕ → ℕ → Bool) → a ≡ first 0 n (λ j. any 0 k (f j)) → b ≡ first 0 a (λ j. f j k) → b ≡ first 0 n (λ j. any 0 (k + 1) (f j))
+first-less n k a b f e h =
+    let u = first-is 0 n (λ j. any 0 k (f j)) (omega arith) in
+    let v = first-is 0 a (λ j. f j k) (omega arith) in
+    let low = u .upto in
+    let lower = v .upto in
+    let passes : b < n → any 0 (k + 1) (f b) ≡ true = λ l. elim (decLt b a) [
+      | yes z ↦ any-intro 0 (k + 1) k (f b) (omega arith) (omega arith) (ap (λ x. f x k) h ∙ v .passes (omega arith))
+      | no z ↦
+          let same : b ≡ first 0 n (λ j. any 0 k (f j)) = omega arith in
+          let (i, w, t) = any-elim 0 k (f b) (ap (λ x. any 0 k (f x)) same ∙ u .passes (omega arith)) in
+          any-intro 0 (k + 1) i (f b) (w .0) (let y = w .1 in omega arith) t
+    ] in
+    sym (first-unique 0 n b (λ j. any 0 (k + 1) (f j)) (omega arith) (record {
+      from = omega arith;
+      upto = omega arith;
+      passes = passes;
+      before = λ j x y. none-any 0 (k + 1) (f j) (λ i lo hi. elim (decLt i k) [
+        | yes z ↦ any-none 0 k i (f j) (u .before j x (omega arith)) lo z
+        | no z ↦ let same : i ≡ k = omega arith in ap (f j) same ∙ v .before j x (omega arith)
+      ]);
+    }))
+
+-- the first lies at the end or before it
+pub first-upto : (a b n : ℕ) (f : ℕ → Bool) → b ≡ first 0 a f → a ≤ n → b ≤ n
+first-upto a b n f e h = let w = first-is 0 a f (omega arith) .upto in omega arith
+
+-- before the first ceiling, no bad is allowed
+pub first-none : (n : ℕ) (f : ℕ → ℕ → Bool) → n ≡ first 0 n (λ j. any 0 0 (f j))
+first-none n f =
+    sym (first-unique 0 n n (λ j. any 0 0 (f j)) (omega arith) (record {
+      from = omega arith;
+      upto = omega arith;
+      passes = λ l. absurd (omega arith);
+      before = λ j x y. none-any 0 0 (f j) (λ i lo hi. absurd (omega arith));
+    }))
+
+-- a sum depends on the counts of the counters alone, and so does whether a bad is met
+sums-alike : (p : Program) (t : Tables) (m m′ : Marking) → ((x : ℕ) → x < counter-count p t → m x ≡ m′ x) → (k : Subject) → sum-in p t m k ≡ sum-in p t m′ k
+unfolding sum-in
+sums-alike p t m m′ same k = total-same 0 (counter-count p t) _ _ (λ x lo hi. ap (λ y. elim (counts p t k x) [ true ↦ y | false ↦ 0 ]) (same x hi))
+
+met-alike : (p : Program) (t : Tables) (m m′ : Marking) → ((x : ℕ) → x < counter-count p t → m x ≡ m′ x) → (is : List Item) → met (sum-in p t m) is ≡ met (sum-in p t m′) is
+met-alike p t m m′ same is = ap (λ c. met c is) (λ i k. sums-alike p t m m′ same k i)
+
+module _ (ws : List ℕ) (s : Sizes) where
   abbrev rows : Columns
   rows = bad-rows ws s
 
   -- the rows are as many as the message says
-  inside : (r : ℕ) → left rows r ≡ 40 → r < rows .size
+  pub size-is : rows .size ≡ s .badrows
   unfolding bad-rows columns
-  inside r h = bad-inside ws s r h
+  size-is = refl
 
-  pub item-room : (limits items : List ℕ) → Ready ws s n limits items → (r : ℕ) → left rows r ≡ 40 → r < length items
-  item-room limits items ready r h = let l = inside r h in omega (arith, ready .items-table .room)
+  inside : (r : ℕ) → left rows r ≡ 40 → r < rows .size
+  inside r h = let e = size-is in omega (arith, bad-inside ws s r h)
 
-  module _ (k : ℕ) where
-    -- an item with a counter, and one without
-    module _ (limits items : List ℕ) (ready : Ready ws s n limits items) (below : k < s .ceilings) (r x : ℕ) (is-item : left rows r ≡ 40) (value : x ≡ getD items r 0) where
-      pub count-known : (h : ℕ) → x < n → h ≡ highest (held limits (s .ceilings) k) x → h ≡ most ws s n k (counted rows r)
-      unfolding count-in standing ceilings-of
-      count-known h l e =
-          by-option (counter-of (program ws s) (tables ws s) (counted rows r))
-          (λ z. let w = ready .items-table .no-counter r is-item z in absurd (omega arith))
-          (λ y z. let w = ready .items-table .counter r y is-item z in let same : x ≡ y = omega arith in
-          rw z (e ∙ (rw same (highest-same (held limits (s .ceilings) k) (ceilings-of ws s n .limit k) y (ready .limits-table .limit k y below (w .1))))))
+  -- the counters of an item, and its count
+  module _ (froms tos sums : List ℕ) (ready : Summed ws s froms tos sums) (r : ℕ) (low : r < s .badrows) where
+    pub item-range : Range (program ws s) (tables ws s) (subject-at rows r) (getD froms r 0) (getD tos r 0)
+    item-range = ready .items-table .range r (let e = size-is in omega arith)
 
-      pub count-none : n ≤ x → 0 ≡ most ws s n k (counted rows r)
-      unfolding count-in standing
-      count-none l =
-          by-option (counter-of (program ws s) (tables ws s) (counted rows r)) (λ z. rw z)
-          (λ y z. let w = ready .items-table .counter r y is-item z in absurd (omega arith))
+    pub item-room : (r < length froms) × (r < length tos)
+    item-room = let e = size-is in let a = ready .items-table .from-room in let b = ready .items-table .to-room in (omega arith, omega arith)
 
-    -- one item more, the one that is not met, and the end of the bad
-    module _ (r i t : ℕ) (so-far : met (most ws s n k) rows r ≡ met (most ws s n k) rows i) (tag : t ≡ left rows i) where
-      pub meets-end : (t ≡ 40 → ⊥) → true ≡ met (most ws s n k) rows r
-      meets-end h = sym (so-far ∙ met-over (most ws s n k) rows inside i (λ z. h (tag ∙ z)))
+    module _ (from to : ℕ) (from-is : from ≡ getD froms r 0) (to-is : to ≡ getD tos r 0) where
+      -- both ends are in the table of sums
+      pub ends-room : (from < length sums) × (to < length sums)
+      ends-room = let a = item-range .order in let b = item-range .upto in let c = ready .room in (omega arith, omega arith)
 
-      module _ (is-item : t ≡ 40) (least c : ℕ) (minimum : least ≡ right rows (i + 2)) (count : c ≡ most ws s n k (counted rows i)) where
-        by-item : met (most ws s n k) rows r ≡ (leb least c && met (most ws s n k) rows (i + 3))
-        by-item = so-far ∙ (met-item (most ws s n k) rows inside i (sym tag ∙ is-item) ∙ rw (minimum, count))
+      ends-told : getD sums from 0 + sum-in (program ws s) (tables ws s) (counts-of sums) (subject-at rows r) ≡ getD sums to 0
+      ends-told =
+          let e = range-sum (program ws s) (tables ws s) (subject-at rows r) (getD froms r 0) (getD tos r 0) item-range (counts-of sums) in
+          rw (from-is, to-is, e) (between sums (counter-count (program ws s) (tables ws s)) (ready .rising) (getD froms r 0) (getD tos r 0) (item-range .order) (item-range .upto))
 
-        pub meets-not : c < least → false ≡ met (most ws s n k) rows r
-        meets-not h = sym (by-item ∙ rw (lt-leb least c h))
+      module _ (low-sum high-sum : ℕ) (low-is : low-sum ≡ getD sums from 0) (high-is : high-sum ≡ getD sums to 0) where
+        pub sums-order : low-sum ≤ high-sum
+        sums-order = let e = ends-told in omega arith
 
-        pub meets-next : least ≤ c → met (most ws s n k) rows r ≡ met (most ws s n k) rows (i + 3)
-        meets-next h = by-item ∙ rw (le-leb least c h)
+        pub sum-told : high-sum - low-sum ≡ sum-in (program ws s) (tables ws s) (counts-of sums) (subject-at rows r)
+        sum-told = let e = ends-told in omega arith
 
-  -- ceiling k allows the bad at row r
-  abbrev pub allows : ℕ → ℕ → Bool
-  allows r k = met (most ws s n k) rows r
+  -- one item more, the one that is not met, and the end of the bad
+  module _ (count : Subject → ℕ) (r i t : ℕ) (so-far : met count (items-at rows r) ≡ met count (items-at rows i)) (tag : t ≡ left rows i) where
+    pub meets-end : (t ≡ 40 → ⊥) → true ≡ met count (items-at rows r)
+    meets-end h = sym (so-far ∙ met-over count rows inside i (λ z. h (tag ∙ z)))
 
-  pub allows-some : (r : ℕ) (b : Bool) → any 0 (s .ceilings) (allows r) ≡ b → b ≡ bad-allowed (program ws s) (tables ws s) (ceilings-of ws s n) rows r
-  unfolding bad-allowed ceilings-of
-  allows-some r b h = sym h
+    module _ (is-item : t ≡ 40) (least c : ℕ) (minimum : least ≡ right rows (i + 2)) (counted : c ≡ count (subject-at rows i)) where
+      by-item : met count (items-at rows r) ≡ (leb least c && met count (items-at rows (i + 3)))
+      by-item = so-far ∙ (met-item count rows inside i (sym tag ∙ is-item) ∙ rw (minimum, counted))
+
+      pub meets-not : c < least → false ≡ met count (items-at rows r)
+      meets-not h = sym (by-item ∙ rw (lt-leb least c h))
+
+      pub meets-next : least ≤ c → met count (items-at rows r) ≡ met count (items-at rows (i + 3))
+      meets-next h = by-item ∙ rw (le-leb least c h)
 
   -- the bads one after the other: the first j end before row r
   abbrev pub Bads-walked : ℕ → ℕ → Type 0
@@ -108,30 +156,63 @@ module _ (ws : List ℕ) (s : Sizes) (n : ℕ) where
   bads-next j r q w h e = rw e (walked-next (bad-step (program ws s)) rows bad (s .bads) j r w h)
 
   pub bads-inside : (j r : ℕ) → Bads-walked j r → r ≤ s .badrows
-  unfolding bad-rows columns
-  bads-inside j r w = walked-inside (bad-step (program ws s)) rows bad (s .bads) j r w
+  bads-inside j r w = let e = size-is in omega (arith, walked-inside (bad-step (program ws s)) rows bad (s .bads) j r w)
 
-  -- bad j is allowed
-  pub bad-here : ℕ → Bool
-  bad-here j = bad-allowed (program ws s) (tables ws s) (ceilings-of ws s n) rows (bad-row (program ws s) rows j)
+  pub bads-row : (j r : ℕ) → Bads-walked j r → r ≡ bad-row (program ws s) rows j
+  unfolding bad-row
+  bads-row j r w = sym (walked-row (bad-step (program ws s)) rows bad (s .bads) j r w)
 
-  pub bad-at : (j r : ℕ) (b : Bool) → Bads-walked j r → b ≡ bad-allowed (program ws s) (tables ws s) (ceilings-of ws s n) rows r → bad-here j ≡ b
-  unfolding bad-here bad-row
-  bad-at j r b w e = rw (walked-row (bad-step (program ws s)) rows bad (s .bads) j r w) (sym e)
+  -- bad j is met where its items, from its row on, are
+  pub bad-at : (m : Marking) (j r : ℕ) (b : Bool) → Bads-walked j r → b ≡ met (sum-in (program ws s) (tables ws s) m) (items-at rows r) → bad-met ws s m j ≡ b
+  unfolding bad-met items items-at
+  bad-at m j r b w e = rw (← bads-row j r w) (sym e)
 
-  -- the answer
-  module _ (j : ℕ) where
-    pub met-refused : (r at : ℕ) → Bads-walked j r → j < s .bads → first 0 (s .bads) bad-here ≡ j → at ≡ bads-at s + 2 → Met (at + r) ≡ answer (met-check s (program ws s) (tables ws s) (ceilings-of ws s n) rows)
-    unfolding met-check bad-here bad-row
-    met-refused r at w h f e =
-        rw (e, ← walked-row (bad-step (program ws s)) rows bad (s .bads) j r w)
-        (first-refused (first 0 (s .bads) bad-here) j (s .bads) (λ i. Met (bads-at s + 2 + bad-row (program ws s) rows i)) f h)
+  -- The ceilings
+  module _ (n : ℕ) where
+    -- ceiling k allows bad j
+    abbrev pub allows : ℕ → ℕ → Bool
+    allows j k = bad-met ws s (highest (ceilings-of ws s n .limit k)) j
 
-    pub met-safe : j ≡ s .bads → first 0 (s .bads) bad-here ≡ j → Safe ≡ answer (met-check s (program ws s) (tables ws s) (ceilings-of ws s n) rows)
-    unfolding met-check bad-here
-    met-safe e f = first-passed (first 0 (s .bads) bad-here) (s .bads) (λ i. Met (bads-at s + 2 + bad-row (program ws s) rows i)) (f ∙ e)
+    -- the first bad that one of the first k ceilings allows
+    abbrev pub first-allowed : ℕ → ℕ
+    first-allowed k = first 0 (s .bads) (λ j. any 0 k (allows j))
 
--- the limits of a counter stand in the table
-pub row-of : (ws : List ℕ) (s : Sizes) (n : ℕ) (limits : List ℕ) → Limits-table (ceilings-of ws s n) limits → (x : ℕ) → x < n → Row limits (s .ceilings) x
+    module _ (limits froms tos : List ℕ) (ready : Ready ws s n limits froms tos) (k : ℕ) (below : k < s .ceilings) (sums : List ℕ) (told : Sums-of (highest (held limits (s .ceilings) k)) n sums) where
+      pub summed : n < length sums → Summed ws s froms tos sums
+      summed room =
+          record {
+            whole = ready .whole;
+            items-table = ready .items-table;
+            room = rw (ready .counters) at room;
+            rising = rw (ready .counters) at (sums-rise (highest (held limits (s .ceilings) k)) n sums told);
+          }
+
+      counts-same : (x : ℕ) → x < n → counts-of sums x ≡ highest (ceilings-of ws s n .limit k) x
+      unfolding ceilings-of
+      counts-same x h =
+          sums-counts (highest (held limits (s .ceilings) k)) n sums told x h ∙
+          highest-same (held limits (s .ceilings) k) (ceilings-of ws s n .limit k) x (ready .limits-table .limit k x below h)
+
+      met-same : (j : ℕ) → bad-met ws s (counts-of sums) j ≡ allows j k
+      unfolding bad-met
+      met-same j = met-alike (program ws s) (tables ws s) _ _ (λ x l. counts-same x (let e = ready .counters in omega arith)) (items (program ws s) rows j)
+
+      pub allowed-next : (a b : ℕ) → a ≡ first-allowed k → b ≡ first 0 a (bad-met ws s (counts-of sums)) → b ≡ first-allowed (k + 1)
+      allowed-next a b e h = first-less (s .bads) k a b allows e (h ∙ ap (first 0 a) (λ i j. met-same j i))
+
+    -- the answer
+    pub met-refused : (j r at : ℕ) → j ≡ first-allowed (s .ceilings) → (j ≡ s .bads → ⊥) → r ≡ bad-row (program ws s) rows j → at ≡ bads-at s + 2 → Met (at + r) ≡ answer (met-check s (program ws s) (tables ws s) (ceilings-of ws s n) rows)
+    unfolding met-check bad-met bad-allowed ceilings-of
+    met-refused j r at e h w z = rw (z, w) (first-refused (first-allowed (s .ceilings)) j (s .bads) (λ i. Met (bads-at s + 2 + bad-row (program ws s) rows i)) (sym e) h)
+
+    pub met-safe : (j : ℕ) → j ≡ first-allowed (s .ceilings) → j ≡ s .bads → Safe ≡ answer (met-check s (program ws s) (tables ws s) (ceilings-of ws s n) rows)
+    unfolding met-check bad-met bad-allowed ceilings-of
+    met-safe j e h = first-passed (first-allowed (s .ceilings)) (s .bads) (λ i. Met (bads-at s + 2 + bad-row (program ws s) rows i)) (sym e ∙ h)
+
+-- the limits stand in the table, and those of a counter
+pub limits-room : (ws : List ℕ) (s : Sizes) (n : ℕ) (limits : List ℕ) → Limits-table (ceilings-of ws s n) limits → n * s .ceilings ≤ length limits
 unfolding ceilings-of
-row-of ws s n limits table x h = row-in limits n (s .ceilings) x h (table .room)
+limits-room ws s n limits table = table .room
+
+pub row-of : (ws : List ℕ) (s : Sizes) (n : ℕ) (limits : List ℕ) → Limits-table (ceilings-of ws s n) limits → (x : ℕ) → x < n → Row limits (s .ceilings) x
+row-of ws s n limits table x h = row-in limits n (s .ceilings) x h (limits-room ws s n limits table)

@@ -12,9 +12,9 @@ use Rattle.model.specs.declared.Verdict.the-variants.{Safe, Start}
 use Rattle.model.specs.Index.{any}
 use Rattle.model.specs.Verdict.{unless}
 use Rattle.model.specs.Message.{ceilings-at}
-use Rattle.model.specs.Rows.{Program, program, size}
-use Rattle.model.specs.Heads.{start}
-use Rattle.model.specs.Tables.{Tables, tables, state, state-index}
+use Rattle.model.specs.Rows.{Program, program}
+use Rattle.model.specs.Tables.{Tables, tables, state-index}
+use Rattle.model.specs.Closed.{start-state}
 use Rattle.model.specs.Markings.{initial}
 use Rattle.model.specs.Ceilings.{Ceiling-limits, ceilings-of, under, under-some, start-check}
 use Rattle.model.specs.Verify.{answer}
@@ -23,7 +23,7 @@ use Rattle.model.proofs.Index.{any-hit, any-miss}
 use Rattle.model.proofs.Bounded.Under.{under-iff}
 use Rattle.ceilings.specs.Table.{held, Limits-table}
 
-module _ (p : Program) (t : Tables) (n x₀ : ℕ) (at-start : x₀ ≡ state-index t (state (size p) (start p))) (b : Ceiling-limits) where
+module _ (p : Program) (t : Tables) (n x₀ : ℕ) (at-start : x₀ ≡ state-index t (start-state p)) (b : Ceiling-limits) where
   initial-one : (x : ℕ) → x ≡ x₀ → initial p t x ≡ 1
   unfolding initial
   initial-one x e = rw (eq-eqb x _ (e ∙ at-start), initial)
@@ -67,7 +67,7 @@ module _ (ws : List ℕ) (s : Sizes) (n : ℕ) where
   unfolding start-check under-some covers-start ceilings-of
   start-refused h = answer-start _ h
 
-  module _ (limits : List ℕ) (table : Limits-table (ceilings-of ws s n) limits) (x₀ : ℕ) (at-start : x₀ ≡ state-index (tables ws s) (state (size (program ws s)) (start (program ws s)))) (inside : x₀ < n) (k l : ℕ) (below : k < s .ceilings) (value : l ≡ held limits (s .ceilings) k x₀) where
+  module _ (limits : List ℕ) (table : Limits-table (ceilings-of ws s n) limits) (x₀ : ℕ) (at-start : x₀ ≡ state-index (tables ws s) (start-state (program ws s))) (inside : x₀ < n) (k l : ℕ) (below : k < s .ceilings) (value : l ≡ held limits (s .ceilings) k x₀) where
     same : l ≡ ceilings-of ws s n .limit k x₀
     unfolding ceilings-of
     same = value ∙ table .limit k x₀ below inside

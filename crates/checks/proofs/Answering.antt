@@ -17,10 +17,12 @@ use Rattle.model.specs.Counters.{counter-count}
 use Rattle.model.specs.Ceilings.{ceiling-check}
 use Rattle.model.specs.Verify.{program-check, evidence-check, ceilings-check, message, message-check, check, answer, verdict}
 use Rattle.model.proofs.Exact.Answer.{Refuses, program-refuses, ceilings-refuse}
+use Rattle.model.proofs.Exact.Entries.{ceiling-none}
 use Rattle.system_space.specs.Space.{words-after}
 use Rattle.answers.specs.Safe.{is-safe}
 use Rattle.mailed.specs.Mailed.{mailed-then-counters}
 use Rattle.checks.specs.Order.{taken, under-ceilings, from-3, from-4, from-5, from-6, from-7, from-8, from-22, from-10, from-11, from-14}
+use Rattle.checks.specs.Scratch.{Numbered}
 use Rattle.answers.proofs.Passing.{else-is, ends, goes-on, no-safe}
 
 -- the checks in the order in which the code takes them
@@ -61,6 +63,9 @@ scopes-refuse p r n = behind _ _ (behind _ _ (program-refuses p) r) n
 pub under-refuses : (ws : List ℕ) (s : Sizes) → ceiling-check ws s (counter-count (program ws s) (tables ws s)) ≡ none → Refuses (under-ceilings ws s (counter-count (program ws s) (tables ws s)))
 unfolding ceilings-check taken under-ceilings
 under-refuses ws s b = behind _ _ (ceilings-refuse (taken ws s)) b
+
+pub form-passed : (ws : List ℕ) (s : Sizes) (n : ℕ) → Numbered ws s n → ceiling-check ws s (counter-count (program ws s) (tables ws s)) ≡ none
+form-passed ws s n h = subst (λ k. ceiling-check ws s k ≡ none) (h .counted) (ceiling-none ws s n .1 (h .in-form))
 
 -- what the code finds of the n counters that it has counted is what the model says of the message
 module _ (ws : List ℕ) (s : Sizes) (n : ℕ) (v : Verdict) where

@@ -1,22 +1,22 @@
 -- What one layer's tables say is what the next one asks.
-use Prim.Native.Nat.{ℕ, _*_, _≤_, _<_}
+use Prim.Native.Nat.{ℕ, _+_, _*_, _≤_, _<_}
 use native.Mathlib.Omega.{arith}
-use mathlib.Core.Path.{_≡_, refl, sym, ap, subst, _∙_}
+use mathlib.Core.Path.{_≡_, ap, _∙_}
 use mathlib.Core.List.{List}
-use mathlib.Core.Option.{Option, some, none}
-use lib.ListN.{length}
+use mathlib.Core.Option.{none}
+use lib.ListN.{length, length-drop}
 use lib.Dec.{eqb}
 use Rattle.rooms.specs.Rooms.{row-room, limit-room}
 use Rattle.model.specs.declared.Sizes.{Sizes}
 use Rattle.model.specs.Verdict.{_>>_}
-use Rattle.model.specs.Words.{Columns, columns}
+use Rattle.model.specs.Words.{columns}
 use Rattle.model.specs.Rows.{Program, size, tag, num, program, row-check}
 use Rattle.model.specs.Limits.{present, maxCounters, maxCeilings}
 use Rattle.model.specs.Tables.{Tables, tables, entries, entry-check, has, state, state-index}
 use Rattle.model.specs.Index.{all, implies}
 use Rattle.model.specs.Scopes.{name-check, scope-check}
-use Rattle.model.specs.Heads.{innermost, start}
-use Rattle.model.specs.Closed.{opening-closed, open-check}
+use Rattle.model.specs.Heads.{start}
+use Rattle.model.specs.Closed.{start-state, opening-closed, open-check}
 use Rattle.model.specs.Counters.{counter-count, counter-check}
 use Rattle.model.specs.Verify.{program-check}
 use Rattle.model.proofs.Exact.Checks.{then-none, unless-none}
@@ -24,16 +24,15 @@ use Rattle.model.proofs.Logic.{and-right}
 use Rattle.model.proofs.Numbering.States.{index-below}
 use borrow.Author.Tests.{leb-true}
 use Rattle.program.specs.Rows.{from}
-use Rattle.program.specs.Layout.{owner}
-use Rattle.layout.specs.Tables.{After-table, Inner-upto, or-end}
-use Rattle.positions.specs.Positions.{Ends, Owners}
+use Rattle.layout.specs.Tables.{After-table}
+use Rattle.positions.specs.Positions.{Ends}
 use Rattle.ceilings_form.specs.Parts as ceilings
 use Rattle.lists.specs.Ready.{Ready}
 use Rattle.evidence.specs.Whole.{Parts-whole}
 use Rattle.rooms.specs.Cleared.{Cleared}
 use Rattle.closure_sized.proofs.Opening.{product-most}
-use Rattle.ceilings_met.specs.Items.{Items-counted}
 use Rattle.rules.specs.Derived.{Rule-room}
+use Rattle.kept_rules.specs.Kept.{Room-from}
 use Rattle.model.specs.Demands.{Within-limits}
 use Rattle.checks.specs.Scratch.{Limits-room, Mask-room}
 
@@ -55,19 +54,14 @@ unfolding counter-check
 few s p t h = leb-true _ _ (unless-none _ _ .0 h)
 
 -- refusal 8 found nothing, so the start has a counter
-pub start-counted : (s : Sizes) (p : Program) (t : Tables) → open-check s p t ≡ none → state-index t (state (size p) (start p)) < counter-count p t
+pub start-counted : (s : Sizes) (p : Program) (t : Tables) → open-check s p t ≡ none → state-index t (start-state p) < counter-count p t
 unfolding open-check opening-closed counter-count
 start-counted s p t h =
     let listed = and-right (all 0 (size p) (λ r. implies (eqb (tag p r) 11) (has (t .flow) (num p r) r))) _ (unless-none _ _ .0 (then-none _ _ .0 h .0)) in
-    let below = index-below t (state (size p) (start p)) listed in
+    let below = index-below t (start-state p) listed in
     omega arith
 
-owner-is : (p : Program) (o : Option ℕ) → or-end (size p) o ≡ elim o [ none ↦ size p | some f ↦ f ]
-unfolding or-end
-owner-is p none = refl
-owner-is p (some f) = refl
-
--- the tables of the layout
+-- the table of the layout
 module _ (ws : List ℕ) (s : Sizes) (table : List ℕ) (room : s .rows ≤ length table) where
   pub ends : After-table (program ws s) table → Ends (program ws s) table
   unfolding from program columns
@@ -78,34 +72,32 @@ module _ (ws : List ℕ) (s : Sizes) (table : List ℕ) (room : s .rows ≤ leng
         after-pattern = λ q d e h. after .patterns d q e (omega arith) h;
       }
 
-  pub owners : Inner-upto (program ws s) (s .rows) table → Owners (program ws s) table
-  unfolding owner program columns
-  owners inner =
-      record { room = room; inner = λ r h. inner .inners r h ∙ owner-is (program ws s) (innermost (program ws s) r) }
-
 -- the counter of the start, by its row
-pub start-told : (ws : List ℕ) (s : Sizes) (r x : ℕ) → r ≡ start (program ws s) → x ≡ state-index (tables ws s) (state (s .rows) r) → x ≡ state-index (tables ws s) (state (size (program ws s)) (start (program ws s)))
-unfolding program columns
-start-told ws s r x e h = h ∙ ap (λ q. state-index (tables ws s) (state (s .rows) q)) e
+pub start-told : (ws : List ℕ) (s : Sizes) (r x : ℕ) → r ≡ start (program ws s) → x ≡ state-index (tables ws s) (state (s .rows) r (s .rows)) → x ≡ state-index (tables ws s) (start-state (program ws s))
+unfolding start-state program columns
+start-told ws s r x e h = h ∙ ap (λ q. state-index (tables ws s) (state (s .rows) q (s .rows))) e
 
 pub ceilings-of-ready : (ws : List ℕ) (s : Sizes) → Ready ws s → ceilings.Whole ws s
 ceilings-of-ready ws s h = record { limits = h .limits; held = h .held }
 
--- a table of items, by another name of the number of counters
-pub items-of : (p : Program) (t : Tables) (rows : Columns) (n k : ℕ) (items : List ℕ) → n ≡ k → Items-counted p t rows k items → Items-counted p t rows n items
-items-of p t rows n k items e h = subst (λ x. Items-counted p t rows x items) (sym e) h
-
--- room for the rules of a state
-pub rule-room : (s : Sizes) (tos others : List ℕ) → Within-limits present s → Cleared row-room tos → Cleared row-room others → Rule-room s tos others
-rule-room s tos others l t o =
+-- room for the rules of a state, behind the first `spare` words
+pub spare-room : (s : Sizes) (spare : ℕ) (tos others : List ℕ) → Within-limits present s → spare + s .rows < row-room → spare + 1056 ≤ row-room → Cleared row-room tos → Cleared row-room others → Room-from s spare tos others
+spare-room s spare tos others l h k t o =
     let a = t .room in
     let b = o .room in
+    let x = length-drop spare tos in
+    let y = length-drop spare others in
     record {
-      values = let r = l .rows .1 in omega arith;
-      letters = let c = l .constructors in omega arith;
-      counters = omega arith;
-      alike = b ∙ sym a;
+      room = record {
+        values = omega arith;
+        letters = let c = l .constructors in omega arith;
+        counters = omega arith;
+        alike = omega arith;
+      };
     }
+
+pub rule-room : (s : Sizes) (tos others : List ℕ) → Within-limits present s → Cleared row-room tos → Cleared row-room others → Rule-room s tos others
+rule-room s tos others l t o = let r = l .rows .1 in spare-room s 0 tos others l (omega arith) (omega arith) t o .room
 
 -- limits of n counters, and where the ceilings begin
 pub limits-room : (s : Sizes) (n k m : ℕ) (limits ceiling-at : List ℕ) → n * s .ceilings ≤ k → s .ceilings ≤ m → Cleared k limits → Cleared m ceiling-at → Limits-room s n limits ceiling-at

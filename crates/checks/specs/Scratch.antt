@@ -8,6 +8,8 @@ use Rattle.model.specs.Rows.{program}
 use Rattle.model.specs.Tables.{tables}
 use Rattle.model.specs.Counters.{counter-count}
 use Rattle.model.specs.Ceilings.{ceilings-of, ceiling-entries}
+use Rattle.system_letters.specs.Letters.{Name-letters}
+use Rattle.rules.specs.Derived.{Rule-tables}
 use Rattle.ceilings_form.specs.Limits.{In-form, Starts-table}
 use Rattle.ceilings.specs.Table.{Limits-table}
 use Rattle.ceilings_met.specs.Items.{Bads-in-form}
@@ -38,3 +40,10 @@ pub record Limited (ws : List ℕ) (s : Sizes) (n : ℕ) (limits ceiling-at : Li
   pub in-form : In-form ws s n
   pub limits-table : Limits-table (ceilings-of ws s n) limits
   pub starts-table : Starts-table n (ceiling-entries ws s) (s .ceilings) ceiling-at
+
+-- all tables that the rules are derived from, but for the letters of names
+pub record Unnamed (ws : List ℕ) (s : Sizes) (afters flow-at : List ℕ) (w : ℕ)
+    (flows letter-at letters branches : List ℕ) : Type 0 where
+  pub named :
+      (names : List ℕ) → Name-letters (program ws s) (tables ws s) names →
+      Rule-tables ws s afters flow-at w flows names letter-at letters branches

@@ -19,11 +19,11 @@ use rooms::words64_130;
 use rooms::words64_256;
 use rooms::words64_512;
 use rooms::words64_1024;
-use rules::no_class;
 use system_totals::Totals;
 ghost use mathlib.Core.Path.{_≡_};
-ghost use Prim.Native.Nat.{_*_, _≤_};
+ghost use Prim.Native.Nat.{_+_, _*_, _≤_, _<_};
 ghost use Rattle.model.specs.declared.Verdict.the-variants.{Safe};
+ghost use Rattle.model.specs.Limits.{maxRows};
 ghost use Rattle.model.specs.Rows.{program};
 ghost use Rattle.model.specs.Tables.{tables};
 ghost use Rattle.model.specs.Rules.{rules};
@@ -31,6 +31,7 @@ ghost use Rattle.model.specs.Ceilings.{ceilings-of, leak-check};
 ghost use Rattle.model.specs.Verify.{answer};
 ghost use Rattle.rules.specs.Derived.{Rule-tables};
 ghost use Rattle.system_totals.specs.Lines.{Totalled};
+ghost use Rattle.rooms.specs.Rooms.{row-room};
 ghost use Rattle.checks.specs.Order.{under-ceilings};
 ghost use Rattle.checks.specs.Scratch.{Numbered, Limited, Limits-room, Mask-room};
 
@@ -40,12 +41,20 @@ pub struct Leaks {
     pub totals: Totals,
 }
 
+// So many words of a room by row are more than the rules of any one state need, of which there are no more than 1,056
+// where there are no more rows: in these the rules of all states are kept.
+fn spare_words(s: Sizes) -> usize
+    ensures { λ r. ⌜ (s .rows ≤ maxRows → r + s .rows < row-room) ⌝ }
+    ensures { λ r. ⌜ r + 1056 ≤ row-room ⌝ }
+{
+    if s.rows < 1056 { 482 } else { 0 }
+}
+
 // Over lent sets of ceilings.
 fn leaks_on(
     ws: &[u16],
     s: Sizes,
     afters: &[u16],
-    inners: &[u16],
     flow_at: &[u16],
     w: usize,
     flows: &[u64],
@@ -62,7 +71,7 @@ fn leaks_on(
     short: &mut [u64],
     more: &mut [u64],
 ) -> Leaks
-    requires { ⌜ Rule-tables (now ws) s (now afters) (now inners) (now «flow_at») w (now flows) (now names)
+    requires { ⌜ Rule-tables (now ws) s (now afters) (now «flow_at») w (now flows) (now names)
         (now «letter_at») (now letters) (now branches) ⌝ }
     requires { ⌜ Limited (now ws) s n (now limits) (now «ceiling_at») ⌝ }
     requires { ⌜ Mask-room n (now holders) (now unbounded) (now group) (now short) (now more) ⌝ }
@@ -75,12 +84,11 @@ fn leaks_on(
     let mut at = row_words16();
     let mut tos = row_words16();
     let mut others = row_words16();
-    let none = no_class(ws, s, &mut at);
+    let mut first_at = words16_258();
     let gathered = fill_groups(
         ws,
         s,
         afters,
-        inners,
         flow_at,
         w,
         flows,
@@ -93,18 +101,18 @@ fn leaks_on(
         ceiling_at,
         holders,
         unbounded,
-        none,
+        spare_words(s),
         &mut at,
         &mut tos,
         &mut others,
+        &mut first_at,
         group,
     );
-    let last = gathered.class;
+    let kept = gathered.kept;
     let verdict = leak_check(
         ws,
         s,
         afters,
-        inners,
         flow_at,
         w,
         flows,
@@ -118,8 +126,9 @@ fn leaks_on(
         holders,
         unbounded,
         group,
-        last,
-        &mut at,
+        kept,
+        &first_at,
+        &at,
         &mut tos,
         &mut others,
         short,
@@ -134,7 +143,6 @@ fn ceilings_on(
     ws: &[u16],
     s: Sizes,
     afters: &[u16],
-    inners: &[u16],
     flow_at: &[u16],
     w: usize,
     flows: &[u64],
@@ -151,7 +159,7 @@ fn ceilings_on(
     short: &mut [u64],
     more: &mut [u64],
 ) -> Leaks
-    requires { ⌜ Rule-tables (now ws) s (now afters) (now inners) (now «flow_at») w (now flows) (now names)
+    requires { ⌜ Rule-tables (now ws) s (now afters) (now «flow_at») w (now flows) (now names)
         (now «letter_at») (now letters) (now branches) ⌝ }
     requires { ⌜ Numbered (now ws) s n ⌝ }
     requires { ⌜ Limits-room s n (now limits) (now «ceiling_at») ⌝ }
@@ -180,7 +188,6 @@ fn ceilings_on(
         ws,
         s,
         afters,
-        inners,
         flow_at,
         w,
         flows,
@@ -204,7 +211,6 @@ fn few_limits(
     ws: &[u16],
     s: Sizes,
     afters: &[u16],
-    inners: &[u16],
     flow_at: &[u16],
     w: usize,
     flows: &[u64],
@@ -214,7 +220,7 @@ fn few_limits(
     branches: &[u16],
     n: usize,
 ) -> Leaks
-    requires { ⌜ Rule-tables (now ws) s (now afters) (now inners) (now «flow_at») w (now flows) (now names)
+    requires { ⌜ Rule-tables (now ws) s (now afters) (now «flow_at») w (now flows) (now names)
         (now «letter_at») (now letters) (now branches) ⌝ }
     requires { ⌜ Numbered (now ws) s n ⌝ }
     requires { ⌜ (n ≤ 32) × (n * s .ceilings ≤ 2048) ⌝ }
@@ -233,7 +239,6 @@ fn few_limits(
         ws,
         s,
         afters,
-        inners,
         flow_at,
         w,
         flows,
@@ -257,7 +262,6 @@ fn more_limits(
     ws: &[u16],
     s: Sizes,
     afters: &[u16],
-    inners: &[u16],
     flow_at: &[u16],
     w: usize,
     flows: &[u64],
@@ -267,7 +271,7 @@ fn more_limits(
     branches: &[u16],
     n: usize,
 ) -> Leaks
-    requires { ⌜ Rule-tables (now ws) s (now afters) (now inners) (now «flow_at») w (now flows) (now names)
+    requires { ⌜ Rule-tables (now ws) s (now afters) (now «flow_at») w (now flows) (now names)
         (now «letter_at») (now letters) (now branches) ⌝ }
     requires { ⌜ Numbered (now ws) s n ⌝ }
     requires { ⌜ (n ≤ 128) × (n * s .ceilings ≤ 16384) ⌝ }
@@ -286,7 +290,6 @@ fn more_limits(
         ws,
         s,
         afters,
-        inners,
         flow_at,
         w,
         flows,
@@ -310,7 +313,6 @@ fn all_limits(
     ws: &[u16],
     s: Sizes,
     afters: &[u16],
-    inners: &[u16],
     flow_at: &[u16],
     w: usize,
     flows: &[u64],
@@ -320,7 +322,7 @@ fn all_limits(
     branches: &[u16],
     n: usize,
 ) -> Leaks
-    requires { ⌜ Rule-tables (now ws) s (now afters) (now inners) (now «flow_at») w (now flows) (now names)
+    requires { ⌜ Rule-tables (now ws) s (now afters) (now «flow_at») w (now flows) (now names)
         (now «letter_at») (now letters) (now branches) ⌝ }
     requires { ⌜ Numbered (now ws) s n ⌝ }
     ensures { λ l. ⌜ l .verdict ≡ answer (under-ceilings (now (ws .entry)) s n) ⌝ }
@@ -338,7 +340,6 @@ fn all_limits(
         ws,
         s,
         afters,
-        inners,
         flow_at,
         w,
         flows,
@@ -364,7 +365,6 @@ pub fn ceilings_verdict(
     ws: &[u16],
     s: Sizes,
     afters: &[u16],
-    inners: &[u16],
     flow_at: &[u16],
     w: usize,
     flows: &[u64],
@@ -375,7 +375,7 @@ pub fn ceilings_verdict(
     n: usize,
 ) -> Leaks
     requires { ⌜ 1 ≤ most ⌝ }
-    requires { ⌜ Rule-tables (now ws) s (now afters) (now inners) (now «flow_at») w (now flows) (now names)
+    requires { ⌜ Rule-tables (now ws) s (now afters) (now «flow_at») w (now flows) (now names)
         (now «letter_at») (now letters) (now branches) ⌝ }
     requires { ⌜ Numbered (now ws) s n ⌝ }
     ensures { λ l. ⌜ l .verdict ≡ answer (under-ceilings (now (ws .entry)) s n) ⌝ }
@@ -387,7 +387,6 @@ pub fn ceilings_verdict(
             ws,
             s,
             afters,
-            inners,
             flow_at,
             w,
             flows,
@@ -406,7 +405,6 @@ pub fn ceilings_verdict(
                     ws,
                     s,
                     afters,
-                    inners,
                     flow_at,
                     w,
                     flows,
@@ -424,7 +422,6 @@ pub fn ceilings_verdict(
                     ws,
                     s,
                     afters,
-                    inners,
                     flow_at,
                     w,
                     flows,
@@ -442,7 +439,6 @@ pub fn ceilings_verdict(
         ws,
         s,
         afters,
-        inners,
         flow_at,
         w,
         flows,

@@ -3,3 +3,4 @@ pub mod leaks;
 pub mod listing;
 pub mod order;
 pub mod stages;
+pub mod system;

@@ -19,7 +19,6 @@ pub fn listing_verdict(
     ws: &[u16],
     s: Sizes,
     afters: &[u16],
-    inners: &[u16],
     flow_at: &[u16],
     w: usize,
     flows: &[u64],
@@ -30,7 +29,7 @@ pub fn listing_verdict(
     n: Totals,
     lent: &mut [u32],
 ) -> Verdict
-    requires { ⌜ Rule-tables (now ws) s (now afters) (now inners) (now «flow_at») w (now flows) (now names)
+    requires { ⌜ Rule-tables (now ws) s (now afters) (now «flow_at») w (now flows) (now names)
         (now «letter_at») (now letters) (now branches) ⌝ }
     requires { ⌜ Totalled (program (now ws) s) (tables (now ws) s) n ⌝ }
     ensures { λ v. ⌜ v ≡
@@ -45,7 +44,6 @@ pub fn listing_verdict(
         ws,
         s,
         afters,
-        inners,
         flow_at,
         w,
         flows,

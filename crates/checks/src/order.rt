@@ -1,6 +1,5 @@
 // The order of the checks: refusals 3 to 14, and 22 between 8 and 9, of the words of a message whose parts are whole.
-use crate::leaks::ceilings_verdict;
-use crate::listing::listing_verdict;
+use crate::system::system_verdict;
 use answers::is_safe;
 use bads::bad_check;
 use ceilings_form::entries::ceiling_check;
@@ -8,18 +7,15 @@ use closure_sized::open_verdict;
 use evidence::entries::entry_check;
 use grammar::row_check;
 use layout::ends::fill_ends;
-use layout::inner::fill_inners;
 use mailed::counters_verdict;
 use model::Sizes;
 use model::Verdict;
 use rooms::row_words16;
 use rooms::words16_512;
-use rooms::words64_1024;
 use scopes::names::name_check;
 use scopes::scope::scope_check;
 use system_letters::counter_count;
 use system_letters::fill_letters;
-use system_letters::fill_names;
 use values::width;
 ghost use mathlib.Core.Path.{_≡_};
 ghost use lib.ListN.{length};
@@ -60,20 +56,9 @@ pub fn words_verdict(ws: &[u16], s: Sizes, flow: &mut [u64], lent: &mut [u32]) -
     if !is_safe(entries) {
         return entries;
     }
-    let mut owners = row_words16();
-    fill_inners(ws, s, &afters, &mut owners);
     let mut starts = row_words16();
     let mut branches = row_words16();
-    let open = open_verdict(
-        64,
-        ws,
-        s,
-        &afters,
-        &owners,
-        &mut starts,
-        flow,
-        &mut branches,
-    );
+    let open = open_verdict(64, ws, s, &afters, &mut starts, flow, &mut branches);
     if !is_safe(open) {
         return open;
     }
@@ -90,42 +75,18 @@ pub fn words_verdict(ws: &[u16], s: Sizes, flow: &mut [u64], lent: &mut [u32]) -
     if !is_safe(form) {
         return form;
     }
-    let mut names = words64_1024();
-    fill_names(ws, s, &mut names);
     let w = width(s);
-    let leaks = ceilings_verdict(
-        32,
+    system_verdict(
         ws,
         s,
         &afters,
-        &owners,
         &starts,
         w,
         flow,
-        &names,
         &letter_at,
         &letters,
         &branches,
         n,
-    );
-    let held = leaks.verdict;
-    if !is_safe(held) {
-        return held;
-    }
-    let totals = leaks.totals;
-    listing_verdict(
-        ws,
-        s,
-        &afters,
-        &owners,
-        &starts,
-        w,
-        flow,
-        &names,
-        &letter_at,
-        &letters,
-        &branches,
-        totals,
         lent,
     )
 }

@@ -35,7 +35,7 @@ pub fn start_verdict(ws: &[u16], s: Sizes, afters: &[u16], n: usize, limits: &[u
         (ceilings-of (now (ws .entry)) s n)) ⌝ }
 {
     let first = start(ws, s, afters);
-    let counter = state_index(ws, s, s.rows, first);
+    let counter = state_index(ws, s, s.rows, first, s.rows);
     start_check(ws, s, n, limits, counter)
 }
 
@@ -57,7 +57,9 @@ pub fn met_verdict(
         answer (met-check s (program (now (ws .entry)) s) (tables (now (ws .entry)) s)
         (ceilings-of (now (ws .entry)) s n) (bad-rows (now (ws .entry)) s)) ⌝ }
 {
-    let mut items = [0u16; 256];
-    fill_items(ws, s, letter_at, letters, &mut items);
-    met_check(ws, s, n, limits, &items)
+    let mut froms = [0u16; 256];
+    let mut tos = [0u16; 256];
+    let mut sums = [0u32; 1025];
+    fill_items(ws, s, letter_at, letters, &mut froms, &mut tos);
+    met_check(ws, s, n, limits, &froms, &tos, &mut sums)
 }

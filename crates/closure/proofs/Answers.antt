@@ -15,7 +15,7 @@ use Rattle.model.specs.Words.{left, right, columns}
 use Rattle.model.specs.Message.{tables-at}
 use Rattle.model.specs.Rows.{Program, program, tag, num}
 use Rattle.model.specs.Heads.{head-at, cases, receives, branch-rows}
-use Rattle.model.specs.Tables.{Tables, entries, tables}
+use Rattle.model.specs.Tables.{Tables, entries, tables, state-at}
 use Rattle.model.specs.Verdict.{_>>_, unless, number}
 use Rattle.model.specs.Closed.{opening-closed, open-check}
 use Rattle.model.specs.Verify.{answer}
@@ -26,7 +26,7 @@ use Rattle.codes.specs.Codes.{Codes}
 use Rattle.codes.proofs.Kept.{codes-none}
 use Rattle.stated.specs.Stated.{Bits-of}
 use Rattle.closure.specs.Lent.{Unsettled}
-use Rattle.closure.specs.Entered.{first-open, Told, states-verdict}
+use Rattle.closure.specs.Told.{first-open, Told, states-verdict}
 
 -- a refusal is not safe
 pub open-refuses : {A : Type 0} (at : ℕ) → Open at ≡ Safe → A
@@ -69,6 +69,7 @@ none-settled ws s codes h = codes-none codes (h .room) (h .none)
 module _ {p : Program} {t : Tables} where
   -- where each state has its bits, a case's and a receive's have those of their branches
   case-told : {branches : List ℕ} {i : ℕ} → Told p t branches i → (k n : ℕ) (qs : List ℕ) → k < i → head-at p (right (t .states) k) ≡ cases n qs → Bits-of p t (t .flow) n qs (getD branches k 0)
+  unfolding state-at
   case-told h k n qs l e =
       let r = right (t .states) k in
       let z : cases (num p r) (branch-rows p (num p (r + 1)) (r + 2)) ≡ cases n qs = sym (head-case p r (known-kind p r (cases n qs) e)) ∙ e in
@@ -77,6 +78,7 @@ module _ {p : Program} {t : Tables} where
       rw (name, rows) at (h .at k l .case-bits (h .low k l) (known-tag p r (cases n qs) e (omega arith)))
 
   receive-told : {branches : List ℕ} {i : ℕ} → Told p t branches i → (k : ℕ) (qs : List ℕ) → k < i → head-at p (right (t .states) k) ≡ receives qs → Bits-of p t (t .mail) (left (t .states) k) qs (getD branches k 0)
+  unfolding state-at
   receive-told h k qs l e =
       let r = right (t .states) k in
       let z : receives (branch-rows p (num p r) (r + 1)) ≡ receives qs = sym (head-receive p r (known-kind p r (receives qs) e)) ∙ e in

@@ -1,2 +1,2 @@
-pub mod Entered
 pub mod Lent
+pub mod Told

@@ -1,81 +1,38 @@
-// Refusal 8: the states class by class.
+// Refusal 8: the states one after the other.
 use branches::LACKS;
 use codes::code_at;
-use lists::state_class;
 use lists::state_location;
 use lists::tables_at;
 use matching::builds::fill_builds;
 use matching::patterns::fill_patterns;
 use model::Sizes;
 use model::Verdict;
+use onward::guess_class;
 use opening::opening_closed;
-use sets::clear;
-use sets::put;
 use stated::states::state_bits;
 use values::fill_flow;
 use values::fill_mail;
 use values::fill_starts;
-use values::width;
 ghost use mathlib.Core.Path.{_≡_};
-ghost use mathlib.Core.Bool.{true};
 ghost use Prim.Native.Nat.{_≤_, _<_};
 ghost use lib.ListN.{length};
 ghost use Rattle.model.specs.Limits.{present};
-ghost use Rattle.model.specs.Words.{left};
-ghost use Rattle.model.specs.Rows.{program, tag, is-head};
-ghost use Rattle.model.specs.Heads.{is-class};
-ghost use Rattle.model.specs.Tables.{tables};
+ghost use Rattle.model.specs.Rows.{program};
+ghost use Rattle.model.specs.Tables.{tables, state-at};
 ghost use Rattle.model.specs.declared.Verdict.the-variants.{Safe};
 ghost use Rattle.model.specs.Closed.{open-check};
 ghost use Rattle.model.specs.Verify.{answer};
 ghost use Rattle.model.specs.Demands.{Within-limits};
-ghost use Rattle.bits.specs.Bits.{Row};
 ghost use Rattle.lists.specs.Lists.{Starts};
 ghost use Rattle.lists.specs.Ready.{Ready};
-ghost use Rattle.positions.specs.Positions.{Ends, Owners};
+ghost use Rattle.positions.specs.Positions.{Ends};
 ghost use Rattle.positions.specs.Branches.{Branch-bits};
-ghost use Rattle.values.specs.Values.{width, Values, Flow-sets, Mail-sets};
+ghost use Rattle.values.specs.Values.{Flow-sets, Mail-sets};
 ghost use Rattle.matching.specs.Patterns.{Matches};
 ghost use Rattle.codes.specs.Codes.{Codes};
-ghost use Rattle.stated.specs.Stated.{Begins, Stated};
-ghost use Rattle.closure.specs.Entered.{Entered, first-open, Told, states-verdict};
+ghost use Rattle.stated.specs.Stated.{Stated};
+ghost use Rattle.closure.specs.Told.{first-open, Told, states-verdict};
 ghost use Rattle.closure.specs.Lent.{Indexed, Cleared, Unsettled};
-
-// The states of the class c, which stand from `from` on, as a set of rows.
-fn enter(ws: &[u16], s: Sizes, here: &mut [u64], c: usize, from: usize)
-    requires { ⌜ Ready (now ws) s ⌝ }
-    requires { ⌜ Row (now here) (width (s .rows)) 0 ⌝ }
-    requires { ⌜ Begins (tables (now ws) s .states) c from ⌝ }
-    ensures { λ _. ⌜ Values (tables (now (ws .entry)) s .states) c (width (s .rows)) 0 (now (here .exit)) ⌝ }
-{
-    clear(here, width(s), 0);
-    let mut j = from;
-    while j < s.states {
-        if state_class(ws, s, j) != c {
-            return;
-        }
-        let r = state_location(ws, s, j);
-        put(here, width(s), 0, r);
-        j += 1;
-    }
-}
-
-// The class of state i, where it is another than that of the state before; gives where its states begin.
-fn turn(ws: &[u16], s: Sizes, here: &mut [u64], last: usize, from: usize, i: usize) -> usize
-    requires { ⌜ Ready (now ws) s ⌝ }
-    requires { ⌜ Entered (tables (now ws) s .states) (width (s .rows)) (now here) last from i ⌝ }
-    requires { ⌜ i < s .states ⌝ }
-    ensures { λ k. ⌜ Values (tables (now (ws .entry)) s .states)
-        (left (tables (now (ws .entry)) s .states) i) (width (s .rows)) 0 (now (here .exit)) ⌝ }
-    ensures { λ k. ⌜ Begins (tables (now (ws .entry)) s .states) (left (tables (now (ws .entry)) s .states) i) k ⌝ }
-{
-    let c = state_class(ws, s, i);
-    if c == last {
-        return from;
-    }
-    enter(ws, s, here, c, i);
-    i
-}
 
 // The tables that the states are told by: where each name's entries begin, the sets of names and classes, the sets of
 // constructor patterns.
@@ -108,55 +65,35 @@ fn fill_tables(
     fill_patterns(ws, s, afters, flow, firsts, nexts, may, held);
 }
 
-// The bits of state (c, r), LACKS where it lacks something, by what its head asks.
+// The bits of state i, LACKS where it lacks something, by what its head asks.
 fn settled_bits(
     ws: &[u16],
     s: Sizes,
     afters: &[u16],
-    inners: &[u16],
     starts: &[u16],
     flow: &[u64],
     mail: &[u64],
     may: &[u64],
     held: &[u64],
     codes: &mut [u32],
-    here: &[u64],
-    c: usize,
-    from: usize,
-    r: usize,
+    at: &[u16],
+    i: usize,
 ) -> usize
     requires { ⌜ Ready (now ws) s ⌝ }
     requires { ⌜ Ends (program (now ws) s) (now afters) ⌝ }
-    requires { ⌜ Owners (program (now ws) s) (now inners) ⌝ }
     requires { ⌜ Starts (tables (now ws) s .flow) (s .names) (now starts) ⌝ }
     requires { ⌜ Flow-sets (program (now ws) s) (tables (now ws) s) (now flow) ⌝ }
     requires { ⌜ Mail-sets (program (now ws) s) (tables (now ws) s) (now mail) ⌝ }
     requires { ⌜ Matches (program (now ws) s) (tables (now ws) s) (now may) (now held) 0 ⌝ }
     requires { ⌜ Codes (program (now ws) s) (tables (now ws) s) (now codes) ⌝ }
-    requires { ⌜ Values (tables (now ws) s .states) c (width (s .rows)) 0 (now here) ⌝ }
-    requires { ⌜ Begins (tables (now ws) s .states) c from ⌝ }
-    requires { ⌜ is-class (program (now ws) s) c ≡ true ⌝ }
-    requires { ⌜ is-head (tag (program (now ws) s) r) ≡ true ⌝ }
-    ensures { λ x. ⌜ Stated (program (now (ws .entry)) s) (tables (now (ws .entry)) s) c r x ⌝ }
+    requires { ⌜ i < s .states ⌝ }
+    ensures { λ x. ⌜ Stated (program (now (ws .entry)) s) (tables (now (ws .entry)) s)
+        (state-at (tables (now (ws .entry)) s) i) x ⌝ }
     ensures { λ x. ⌜ Codes (program (now (ws .entry)) s) (tables (now (ws .entry)) s) (now (codes .exit)) ⌝ }
 {
+    let r = state_location(ws, s, i);
     let k = code_at(ws, s, afters, starts, flow, mail, may, held, codes, r);
-    state_bits(
-        ws,
-        s,
-        afters,
-        inners,
-        starts,
-        flow,
-        mail,
-        may,
-        held,
-        here,
-        c,
-        from,
-        r,
-        k,
-    )
+    state_bits(ws, s, afters, starts, flow, mail, may, held, at, i, r, k)
 }
 
 // The first state that lacks something, S where none does; the branches of the states before it have their bits.
@@ -164,52 +101,30 @@ fn first_open(
     ws: &[u16],
     s: Sizes,
     afters: &[u16],
-    inners: &[u16],
     starts: &[u16],
     flow: &[u64],
     mail: &[u64],
     may: &[u64],
     held: &[u64],
     codes: &mut [u32],
-    here: &mut [u64],
+    at: &mut [u16],
     branches: &mut [u16],
 ) -> usize
     requires { ⌜ Ready (now ws) s ⌝ }
     requires { ⌜ Ends (program (now ws) s) (now afters) ⌝ }
-    requires { ⌜ Owners (program (now ws) s) (now inners) ⌝ }
     requires { ⌜ Starts (tables (now ws) s .flow) (s .names) (now starts) ⌝ }
     requires { ⌜ Flow-sets (program (now ws) s) (tables (now ws) s) (now flow) ⌝ }
     requires { ⌜ Mail-sets (program (now ws) s) (tables (now ws) s) (now mail) ⌝ }
     requires { ⌜ Matches (program (now ws) s) (tables (now ws) s) (now may) (now held) 0 ⌝ }
-    requires { ⌜ Row (now here) (width (s .rows)) 0 ⌝ }
     requires { ⌜ s .states ≤ length (now branches) ⌝ }
     requires { ⌜ Codes (program (now ws) s) (tables (now ws) s) (now codes) ⌝ }
     ensures { λ i. ⌜ (i ≡ first-open (program (now (ws .entry)) s) (tables (now (ws .entry)) s)) × (i ≤ s .states) ⌝ }
     ensures { λ i. ⌜ Told (program (now (ws .entry)) s) (tables (now (ws .entry)) s) (now (branches .exit)) i ⌝ }
 {
-    let mut last = 65536;
-    let mut from = 0;
     let mut i = 0;
     while i < s.states {
-        from = turn(ws, s, here, last, from, i);
-        last = state_class(ws, s, i);
-        let r = state_location(ws, s, i);
-        let bits = settled_bits(
-            ws,
-            s,
-            afters,
-            inners,
-            starts,
-            flow,
-            mail,
-            may,
-            held,
-            codes,
-            here,
-            last,
-            from,
-            r,
-        );
+        guess_class(ws, s, at, i);
+        let bits = settled_bits(ws, s, afters, starts, flow, mail, may, held, codes, at, i);
         if bits == LACKS {
             return i;
         }
@@ -238,7 +153,6 @@ pub fn open_check(
     ws: &[u16],
     s: Sizes,
     afters: &[u16],
-    inners: &[u16],
     starts: &mut [u16],
     flow: &mut [u64],
     mail: &mut [u64],
@@ -247,15 +161,13 @@ pub fn open_check(
     may: &mut [u64],
     held: &mut [u64],
     codes: &mut [u32],
-    here: &mut [u64],
+    at: &mut [u16],
     branches: &mut [u16],
 ) -> Verdict
     requires { ⌜ Ready (now ws) s ⌝ }
     requires { ⌜ Ends (program (now ws) s) (now afters) ⌝ }
-    requires { ⌜ Owners (program (now ws) s) (now inners) ⌝ }
     requires { ⌜ Indexed s (now starts) (now firsts) (now nexts) ⌝ }
     requires { ⌜ Cleared s (now flow) (now mail) (now may) (now held) ⌝ }
-    requires { ⌜ Row (now here) (width (s .rows)) 0 ⌝ }
     requires { ⌜ s .states ≤ length (now branches) ⌝ }
     requires { ⌜ Unsettled s (now codes) ⌝ }
     ensures { λ v. ⌜ v ≡ answer (open-check s (program (now (ws .entry)) s) (tables (now (ws .entry)) s)) ⌝ }
@@ -274,14 +186,13 @@ pub fn open_check(
         ws,
         s,
         afters,
-        inners,
         starts,
         flow,
         mail,
         may,
         held,
         codes,
-        here,
+        at,
         branches,
     );
     states_verdict(s, i)

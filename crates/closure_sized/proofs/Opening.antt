@@ -9,8 +9,8 @@ use Rattle.model.specs.declared.Sizes.{Sizes}
 use Rattle.model.specs.Limits.{maxConstructors}
 use Rattle.model.specs.Rows.{program}
 use Rattle.lists.specs.Ready.{Ready}
-use Rattle.positions.specs.Positions.{Ends, Owners}
-use Rattle.bits.specs.Bits.{Row, bit, member}
+use Rattle.positions.specs.Positions.{Ends}
+use Rattle.bits.specs.Bits.{bit, member}
 use Rattle.bits.proofs.Bits.{bit-zero}
 use Rattle.rooms.specs.Cleared.{Cleared}
 use Rattle.values.specs.Values.{width, Empty, Room}
@@ -38,36 +38,30 @@ unfolding width
 width-most r R h = omega arith
 
 -- what refusal 8 asks of cleared tables: room for a message of no more than R rows and N names
-pub lends : (ws : List ℕ) (s : Sizes) (afters inners starts flow : List ℕ) (k R N a b d e h : ℕ) (mail firsts nexts may held codes here : List ℕ) → Ready ws s → Ends (program ws s) afters → Owners (program ws s) inners → Flow-room s flow → (s .names < length starts) × (s .states ≤ k) → s .rows ≤ R → s .names ≤ N → Cleared a mail → Cleared b firsts → Cleared d nexts → Cleared e may → Cleared e held → Cleared d codes → Cleared h here → (N + 1) * width R ≤ a → maxConstructors ≤ b → R * width R ≤ e → R ≤ d → width R ≤ h → Ready ws s × (Ends (program ws s) afters × (Owners (program ws s) inners × (Indexed s starts firsts nexts × (lent.Cleared s flow mail may held × (Row here (width (s .rows)) 0 × ((s .states ≤ k) × Unsettled s codes))))))
-lends ws s afters inners starts flow k R N a b d e h mail firsts nexts may held codes here ready ends owners flows tables r n m f x y z o l am bc er rd wh =
+pub lends : (ws : List ℕ) (s : Sizes) (afters starts flow : List ℕ) (k R N a b d e : ℕ) (mail firsts nexts may held codes : List ℕ) → Ready ws s → Ends (program ws s) afters → Flow-room s flow → (s .names < length starts) × (s .states ≤ k) → s .rows ≤ R → s .names ≤ N → Cleared a mail → Cleared b firsts → Cleared d nexts → Cleared e may → Cleared e held → Cleared d codes → (N + 1) * width R ≤ a → maxConstructors ≤ b → R * width R ≤ e → R ≤ d → Ready ws s × (Ends (program ws s) afters × (Indexed s starts firsts nexts × (lent.Cleared s flow mail may held × ((s .states ≤ k) × Unsettled s codes))))
+lends ws s afters starts flow k R N a b d e mail firsts nexts may held codes ready ends flows tables r n m f x y z o am bc er rd =
     let w = width-most (s .rows) R r in (
       ready,
       (
         ends,
         (
-          owners,
+          record {
+            names = tables .0;
+            constructors = let q = f .room in omega (arith, ready .limits .constructors);
+            rows = let q = x .room in omega arith;
+          },
           (
             record {
-              names = tables .0;
-              constructors = let q = f .room in omega (arith, ready .limits .constructors);
-              rows = let q = x .room in omega arith;
+              flow-empty = flows .empty;
+              flow-room = flows .room;
+              mail-empty = empty-sets a _ mail m;
+              mail-room = sets-fit (s .names + 1) _ (N + 1) (width R) a mail m (omega arith) w am;
+              may-empty = empty-sets e _ may y;
+              may-room = sets-fit (s .rows) _ R (width R) e may y r w er;
+              held-empty = empty-sets e _ held z;
+              held-room = sets-fit (s .rows) _ R (width R) e held z r w er;
             },
-            (
-              record {
-                flow-empty = flows .empty;
-                flow-room = flows .room;
-                mail-empty = empty-sets a _ mail m;
-                mail-room = sets-fit (s .names + 1) _ (N + 1) (width R) a mail m (omega arith) w am;
-                may-empty = empty-sets e _ may y;
-                may-room = sets-fit (s .rows) _ R (width R) e may y r w er;
-                held-empty = empty-sets e _ held z;
-                held-room = sets-fit (s .rows) _ R (width R) e held z r w er;
-              },
-              (
-                record { room = let q = l .room in omega arith },
-                (tables .1, record { room = let q = o .room in omega arith; none = o .zero }),
-              ),
-            ),
+            (tables .1, record { room = let q = o .room in omega arith; none = o .zero }),
           ),
         ),
       ),

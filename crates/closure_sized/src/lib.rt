@@ -1,4 +1,4 @@
-// Refusal 8 over scratch by need: the sets of mail and of patterns, and what each head asks.
+// Refusal 8 over scratch by need: the sets of mail and of patterns, what each head asks, and guesses of states.
 use closure::open_check;
 use model::Sizes;
 use model::Verdict;
@@ -22,7 +22,7 @@ ghost use Rattle.model.specs.Closed.{open-check};
 ghost use Rattle.model.specs.Verify.{answer};
 ghost use Rattle.lists.specs.Lists.{Starts};
 ghost use Rattle.lists.specs.Ready.{Ready};
-ghost use Rattle.positions.specs.Positions.{Ends, Owners};
+ghost use Rattle.positions.specs.Positions.{Ends};
 ghost use Rattle.positions.specs.Branches.{Branch-bits};
 ghost use Rattle.values.specs.Values.{Flow-sets};
 ghost use Rattle.closure_sized.specs.Flow.{Flow-room};
@@ -32,14 +32,12 @@ fn small_open(
     ws: &[u16],
     s: Sizes,
     afters: &[u16],
-    inners: &[u16],
     starts: &mut [u16],
     flow: &mut [u64],
     branches: &mut [u16],
 ) -> Verdict
     requires { ⌜ Ready (now ws) s ⌝ }
     requires { ⌜ Ends (program (now ws) s) (now afters) ⌝ }
-    requires { ⌜ Owners (program (now ws) s) (now inners) ⌝ }
     requires { ⌜ Flow-room s (now flow) ⌝ }
     requires { ⌜ (s .names < length (now starts)) × (s .states ≤ length (now branches)) ⌝ }
     requires { ⌜ (s .rows ≤ 64) × (s .names ≤ 64) ⌝ }
@@ -57,12 +55,11 @@ fn small_open(
     let mut may = words64_130();
     let mut held = words64_130();
     let mut codes = words32_66();
-    let mut here = words64_130();
+    let mut at = words16_66();
     open_check(
         ws,
         s,
         afters,
-        inners,
         starts,
         flow,
         &mut mail,
@@ -71,7 +68,7 @@ fn small_open(
         &mut may,
         &mut held,
         &mut codes,
-        &mut here,
+        &mut at,
         branches,
     )
 }
@@ -81,14 +78,12 @@ fn middle_open(
     ws: &[u16],
     s: Sizes,
     afters: &[u16],
-    inners: &[u16],
     starts: &mut [u16],
     flow: &mut [u64],
     branches: &mut [u16],
 ) -> Verdict
     requires { ⌜ Ready (now ws) s ⌝ }
     requires { ⌜ Ends (program (now ws) s) (now afters) ⌝ }
-    requires { ⌜ Owners (program (now ws) s) (now inners) ⌝ }
     requires { ⌜ Flow-room s (now flow) ⌝ }
     requires { ⌜ (s .names < length (now starts)) × (s .states ≤ length (now branches)) ⌝ }
     requires { ⌜ (s .rows ≤ 256) × (s .names ≤ 256) ⌝ }
@@ -106,12 +101,11 @@ fn middle_open(
     let mut may = words64_1285();
     let mut held = words64_1285();
     let mut codes = words32_258();
-    let mut here = words64_130();
+    let mut at = words16_258();
     open_check(
         ws,
         s,
         afters,
-        inners,
         starts,
         flow,
         &mut mail,
@@ -120,7 +114,7 @@ fn middle_open(
         &mut may,
         &mut held,
         &mut codes,
-        &mut here,
+        &mut at,
         branches,
     )
 }
@@ -130,14 +124,12 @@ fn large_open(
     ws: &[u16],
     s: Sizes,
     afters: &[u16],
-    inners: &[u16],
     starts: &mut [u16],
     flow: &mut [u64],
     branches: &mut [u16],
 ) -> Verdict
     requires { ⌜ Ready (now ws) s ⌝ }
     requires { ⌜ Ends (program (now ws) s) (now afters) ⌝ }
-    requires { ⌜ Owners (program (now ws) s) (now inners) ⌝ }
     requires { ⌜ Flow-room s (now flow) ⌝ }
     requires { ⌜ (s .names < length (now starts)) × (s .states ≤ length (now branches)) ⌝ }
     ensures { λ v. ⌜ v ≡ answer (open-check s (program (now (ws .entry)) s) (tables (now (ws .entry)) s)) ⌝ }
@@ -154,12 +146,11 @@ fn large_open(
     let mut may = row_sets();
     let mut held = row_sets();
     let mut codes = row_words32();
-    let mut here = words64_130();
+    let mut at = row_words16();
     open_check(
         ws,
         s,
         afters,
-        inners,
         starts,
         flow,
         &mut mail,
@@ -168,7 +159,7 @@ fn large_open(
         &mut may,
         &mut held,
         &mut codes,
-        &mut here,
+        &mut at,
         branches,
     )
 }
@@ -181,7 +172,6 @@ pub fn open_verdict(
     ws: &[u16],
     s: Sizes,
     afters: &[u16],
-    inners: &[u16],
     starts: &mut [u16],
     flow: &mut [u64],
     branches: &mut [u16],
@@ -189,7 +179,6 @@ pub fn open_verdict(
     requires { ⌜ 1 ≤ most ⌝ }
     requires { ⌜ Ready (now ws) s ⌝ }
     requires { ⌜ Ends (program (now ws) s) (now afters) ⌝ }
-    requires { ⌜ Owners (program (now ws) s) (now inners) ⌝ }
     requires { ⌜ Flow-room s (now flow) ⌝ }
     requires { ⌜ (s .names < length (now starts)) × (s .states ≤ length (now branches)) ⌝ }
     ensures { λ v. ⌜ v ≡ answer (open-check s (program (now (ws .entry)) s) (tables (now (ws .entry)) s)) ⌝ }
@@ -201,17 +190,17 @@ pub fn open_verdict(
         Branch-bits (program (now (ws .entry)) s) (tables (now (ws .entry)) s) (now (branches .exit))) ⌝ }
 {
     if most >= 1024 {
-        return large_open(ws, s, afters, inners, starts, flow, branches);
+        return large_open(ws, s, afters, starts, flow, branches);
     }
     if s.rows <= most {
         if s.names <= most {
             if most <= 64 {
-                return small_open(ws, s, afters, inners, starts, flow, branches);
+                return small_open(ws, s, afters, starts, flow, branches);
             }
             if most <= 256 {
-                return middle_open(ws, s, afters, inners, starts, flow, branches);
+                return middle_open(ws, s, afters, starts, flow, branches);
             }
         }
     }
-    open_verdict(4 * most, ws, s, afters, inners, starts, flow, branches)
+    open_verdict(4 * most, ws, s, afters, starts, flow, branches)
 }

@@ -1,4 +1,4 @@
--- What heads ask whatever the class, kept by row.
+-- What heads ask whatever the state, kept by row.
 use Prim.Native.Nat.{ℕ, _-_, _≤_, _<_}
 use mathlib.Core.Path.{_≡_}
 use mathlib.Core.List.{List}

@@ -1,4 +1,4 @@
-// What a head asks whatever the class, settled once for each head.
+// What a head asks whatever the state, settled once for each head.
 use model::Sizes;
 use settled::settle;
 ghost use mathlib.Core.Path.{_≡_};

@@ -1,4 +1,3 @@
 pub mod Tags
-pub mod Elements
 pub mod Lists
 pub mod Tables

@@ -29,13 +29,12 @@ pub and-second : (a b : Bool) → a ≡ true → b ≡ (a && b)
 and-second a b h = rw h
 
 module _ (p : Program) (r t : ℕ) (tag-is : t ≡ tag p r) where
-  pub class-spawn : t ≡ 6 → eqb t 6 ≡ is-class p r
-  unfolding is-class
-  class-spawn h = rw (← tag-is) (or-first (eqb t 6) (eqb r (size p)) (eq-eqb t 6 h))
+  -- a row with tag k, or the end of the rows: a class is such, and a return
+  pub with-tag : (k : ℕ) → t ≡ k → eqb t k ≡ (eqb (tag p r) k || eqb r (size p))
+  with-tag k h = rw (← tag-is) (or-first (eqb t k) (eqb r (size p)) (eq-eqb t k h))
 
-  pub class-start : (t ≡ 6 → ⊥) → eqb r (size p) ≡ is-class p r
-  unfolding is-class
-  class-start h = rw (← tag-is) (or-second (eqb t 6) (eqb r (size p)) (ne-eqb t 6 h))
+  pub without-tag : (k : ℕ) → (t ≡ k → ⊥) → eqb r (size p) ≡ (eqb (tag p r) k || eqb r (size p))
+  without-tag k h = rw (← tag-is) (or-second (eqb t k) (eqb r (size p)) (ne-eqb t k h))
 
   -- the arms of the match: 2 and 3, then 6 and 11, then any other
   pub value-low : 2 ≤ t → t < 4 → true ≡ is-value p r

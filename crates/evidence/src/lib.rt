@@ -1,4 +1,3 @@
 // Refusal 7 (entry): the tables of a message, checked against the program's rows.
-pub mod arrays;
 pub mod entries;
 pub mod ranges;

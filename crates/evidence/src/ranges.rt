@@ -1,6 +1,7 @@
-// What document 01 calls a class, a function, a value and a head, as tests on a number.
+// What document 01 calls a class, a value and a head, and document 02 a return, as tests on a number.
 use model::Sizes;
 use model::TAG_BUILD;
+use model::TAG_CALL;
 use model::TAG_FUNCTION;
 use model::TAG_GLOBAL;
 use model::TAG_SPAWN;
@@ -8,7 +9,7 @@ use program::rows::tag;
 ghost use mathlib.Core.Path.{_≡_};
 ghost use Rattle.model.specs.Rows.{program, tag, is-head};
 ghost use Rattle.model.specs.Heads.{is-class};
-ghost use Rattle.model.specs.Tables.{is-value};
+ghost use Rattle.model.specs.Tables.{is-value, is-return};
 ghost use Rattle.program.specs.Rows.{Whole};
 
 // A spawn row, or R for the starting process.
@@ -37,4 +38,12 @@ pub fn is_head(ws: &[u16], s: Sizes, r: usize) -> bool
 {
     let t = tag(ws, s, r);
     1 <= t && t <= 9
+}
+
+// The third number of a state: a call row, or R where nothing is pushed.
+pub fn is_return(ws: &[u16], s: Sizes, b: usize) -> bool
+    requires { ⌜ Whole (now ws) s ⌝ }
+    ensures { λ t. ⌜ t ≡ is-return (program (now (ws .entry)) s) b ⌝ }
+{
+    tag(ws, s, b) == TAG_CALL || b == s.rows
 }

@@ -1,3 +1,2 @@
 pub mod Visits
 pub mod Ending
-mod Enclosing

@@ -154,24 +154,3 @@ module _ (p : Program) where
 
   pub used-below : (k : ℕ) → row-check p ≡ none → k < size p → uses (tag p k) ≡ true → num p k < p .names
   used-below k h a t = name-below k h a (or-right (binds (tag p k)) (uses (tag p k)) t)
-
-  -- a row with tag 11 begins a function that holds everywhere, which is read
-  global-item : (item : Item) (t n : ℕ) (more : List Item) → step p item t n ≡ some more → t ≡ 11 → item ≡ global
-  unfolding step expression-step kind
-  global-item constructor t n more h e = one-tag (λ k. eqb k 11) t 10 _ _ more h refl (eq-eqb t 11 e)
-  global-item global t n more h e = refl
-  global-item header t n more h e = one-tag (λ k. eqb k 11) t 22 _ _ more h refl (eq-eqb t 11 e)
-  global-item parameter t n more h e = one-tag (λ k. eqb k 11) t 23 _ _ more h refl (eq-eqb t 11 e)
-  global-item expression t n more h e = absurd (Option·none-ne-some more (rw e at h))
-  global-item made t n more h e = one-tag (λ k. eqb k 11) t 20 _ _ more h refl (eq-eqb t 11 e)
-  global-item operand t n more h e = one-tag (λ k. eqb k 11) t 21 _ _ more h refl (eq-eqb t 11 e)
-  global-item arguments t n more h e = one-tag (λ k. eqb k 11) t 22 _ _ more h refl (eq-eqb t 11 e)
-  global-item branches t n more h e = one-tag (λ k. eqb k 11) t 25 _ _ more h refl (eq-eqb t 11 e)
-  global-item (pattern d) t n more h e = pattern-tag d t n more h (λ z. absurd (omega arith)) (λ z m. absurd (omega arith)) (λ z. absurd (omega arith)) (λ z m. absurd (omega arith))
-
-  pub global-read : (k : ℕ) → row-check p ≡ none → k < size p → tag p k ≡ 11 → (q : ℕ) × (from p (global ∷ []) k ≡ past q)
-  global-read k h a t =
-      let v = visited k h a in
-      let i : v .item ≡ global = global-item (v .item) (tag p k) (num p k) (v .more) (v .says) t in
-      let w = parted (global ∷ []) (v .behind) k (size p) (rw i at (v .reads)) in
-      (w .at, w .first)

@@ -1,14 +1,9 @@
--- What the tables of ends and of innermost functions hold.
-use Prim.Native.Nat.{ℕ, zero, suc, _+_, _≤_, _<_}
+-- What the table of ends holds.
+use Prim.Native.Nat.{ℕ, zero, suc, _+_, _≤_}
 use mathlib.Core.Path.{_≡_}
-use mathlib.Core.Bool.{Bool, true, false, _&&_}
 use mathlib.Core.List.{List, [], _∷_}
-use mathlib.Core.Option.{Option, some, none}
-use lib.Dec.{ltb}
 use lib.ListN.{getD}
-use Rattle.model.specs.Rows.{Program, size, tag, kind, expression, pattern, lead, body-form, past-items}
-use Rattle.model.specs.Index.{last}
-use Rattle.model.specs.Heads.{is-function, innermost}
+use Rattle.model.specs.Rows.{Program, tag, kind, expression, pattern, lead}
 use Rattle.model.specs.Reader.{past}
 use Rattle.program.specs.Rows.{from}
 
@@ -35,27 +30,3 @@ pub record Rest-at (p : Program) (r x : ℕ) : Type 0 where
 unfoldable pub hop : List ℕ → ℕ → ℕ → ℕ
 hop table zero q = q
 hop table (suc n) q = hop table n (getD table q 0)
-
--- f is a function whose body form goes on behind row r
-unfoldable pub inside : Program → ℕ → ℕ → Bool
-inside p r f = is-function p f && ltb r (past-items p body-form (f + 1))
-
--- the row, or the number of rows where there is none
-unfoldable pub or-end : ℕ → Option ℕ → ℕ
-or-end e none = e
-or-end e (some f) = f
-
--- the innermost functions of the rows before e; the number of rows where there is none
-pub record Inner-upto (p : Program) (e : ℕ) (table : List ℕ) : Type 0 where
-  pub inners : (r : ℕ) → r < e → getD table r 0 ≡ or-end (size p) (innermost p r)
-
--- the rows up to f, none where f is the number of rows
-unfoldable pub upto : ℕ → ℕ → ℕ
-upto e f = elim (ltb f e) [ true ↦ suc f | false ↦ 0 ]
-
--- f is a function before row r, or the number of rows; of the functions before r those behind f do not go on behind r
-pub record Candidate (p : Program) (r f : ℕ) : Type 0 where
-  pub function : f < size p → is-function p f ≡ true
-  pub before : f < size p → f < r
-  pub left : last r (inside p r) ≡ last (upto (size p) f) (inside p r)
-  pub within : f ≤ size p

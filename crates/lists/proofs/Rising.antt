@@ -1,194 +1,258 @@
--- Laws of lists that ascend: where a pair has its place, and what stands there.
+-- Laws of lists that ascend: where a key has its place, and what stands there.
 use Prim.Native.Nat.{ℕ, _+_, _≤_, _<_}
 use native.Mathlib.Decide.{decLt, ℕ-discrete}
 use native.Mathlib.Omega.{arith}
-use mathlib.Core.Path.{_≡_, sym, _∙_, ap}
-use mathlib.Core.Bool.{true, false, not, _&&_}
-use mathlib.Core.Logic.{⊎-elim}
+use mathlib.Core.Path.{_≡_, refl, sym, _∙_, ap}
+use mathlib.Core.Bool.{Bool, true, false, not, _&&_, _||_}
+use mathlib.Core.List.{List, [], _∷_}
+use mathlib.Core.Logic.{_⊎_, inl, inr, ⊎-elim}
 use lib.Dec.{ltb, eqb}
-use borrow.Author.Tests.{ltb-true, ltb-false, lt-ltb, eqb-true, eq-eqb, ne-eqb, not-false, not-true}
+use lib.ListN.{getD}
+use borrow.Author.Tests.{eqb-true, eq-eqb, ne-eqb, le-ltb, not-false, not-true}
+use Rattle.model.specs.Keys.{Key, below}
 use Rattle.model.specs.Words.{Columns, left, right}
+use Rattle.model.specs.Demands.{Below}
 use Rattle.model.proofs.Logic.{true-false, test, and-left, and-right, and-intro, not-passes, not-fails}
 use Rattle.model.proofs.Index.{First, first-is, first-unique}
-use Rattle.lists.specs.Lists.{Ascending}
-use Rattle.lists.specs.Lists.{under, place, pair-index}
+use Rattle.model.proofs.Keys.{below-iff, below-trans, below-irrefl}
+use Rattle.lists.specs.Lists.{key-at, Ascending, place, is-entry, entry-index}
 
-module _ (c : Columns) (a b : ℕ) where
-  -- the test, by whether the first numbers are equal
-  pub under-same : (i : ℕ) → left c i ≡ a → under c a b i ≡ ltb (right c i) b
-  unfolding under
-  under-same i e = rw (eq-eqb (left c i) a e, under)
+or-false : (x : Bool) → (x || false) ≡ x
+or-false true = refl
+or-false false = refl
 
-  pub under-other : (i : ℕ) → (left c i ≡ a → ⊥) → under c a b i ≡ ltb (left c i) a
-  unfolding under
-  under-other i e = rw (ne-eqb (left c i) a e, under)
+and-false : (x : Bool) → (x && false) ≡ false
+and-false true = refl
+and-false false = refl
 
-  -- below (a, b), and not below, as facts
-  pub under-intro : (i : ℕ) → (left c i ≤ a) → (left c i ≡ a → right c i < b) → under c a b i ≡ true
-  under-intro i h k = elim (ℕ-discrete (left c i) a) [
-    | yes e ↦ under-same i e ∙ lt-ltb (right c i) b (k e)
-    | no e ↦ under-other i e ∙ lt-ltb (left c i) a (omega arith)
-  ]
-
-  pub under-elim : (i : ℕ) → under c a b i ≡ true → (left c i ≤ a) × (left c i ≡ a → right c i < b)
-  under-elim i h = elim (ℕ-discrete (left c i) a) [
-    | yes e ↦ (omega arith, λ z. ltb-true (right c i) b (sym (under-same i e) ∙ h))
-    | no e ↦ let w = ltb-true (left c i) a (sym (under-other i e) ∙ h) in (omega arith, λ z. absurd (e z))
-  ]
-
-  pub over-elim : (i : ℕ) → under c a b i ≡ false → (a ≤ left c i) × (left c i ≡ a → b ≤ right c i)
-  over-elim i h = elim (ℕ-discrete (left c i) a) [
-    | yes e ↦ (omega arith, λ z. ltb-false (right c i) b (sym (under-same i e) ∙ h))
-    | no e ↦ let w = ltb-false (left c i) a (sym (under-other i e) ∙ h) in (omega arith, λ z. absurd (e z))
-  ]
-
-  -- the test, from the numbers read
-  pub under-told : (i x y : ℕ) → x ≡ left c i → x ≡ a → y ≡ right c i → ltb y b ≡ under c a b i
-  under-told i x y e f g = rw g (sym (under-same i (sym e ∙ f)))
-
-  pub over-told : (i x : ℕ) → x ≡ left c i → (x ≡ a → ⊥) → ltb x a ≡ under c a b i
-  over-told i x e f = rw e (sym (under-other i (λ z. f (e ∙ z))))
-
-  -- Halving: everything before `low` is below the pair, nothing from `high` on is
+module _ (c : Columns) (ts : List ℕ) (k : Key) where
+  -- Halving: everything before `low` is below the key, nothing from `high` on is
   pub record Between (low high : ℕ) : Type 0 where
     pub order : low ≤ high
     pub upto : high ≤ c .size
-    pub before : (i : ℕ) → i < low → under c a b i ≡ true
-    pub behind : (i : ℕ) → high ≤ i → i < c .size → under c a b i ≡ false
+    pub before : (i : ℕ) → i < low → below (key-at c ts i) k ≡ true
+    pub behind : (i : ℕ) → high ≤ i → i < c .size → below (key-at c ts i) k ≡ false
 
   pub between-all : Between 0 (c .size)
   between-all = record { order = omega arith; upto = omega arith; before = λ i l. absurd (omega arith); behind = λ i l h. absurd (omega arith) }
 
-  module _ (rising : Ascending c) where
-    -- what stands before an entry below the pair is below it too
-    pub under-before : (i j : ℕ) → i < j → j < c .size → under c a b j ≡ true → under c a b i ≡ true
-    under-before i j l h u =
-        let (v, w) = under-elim j u in
-        ⊎-elim (λ x. under-intro i (omega arith) (λ z. absurd (omega arith)))
-        (λ x. let (y, z) = x in under-intro i (omega arith) (λ q. let k = w (omega arith) in omega arith)) (rising i j l h)
+  module _ (rising : Ascending c ts) where
+    -- what stands before an entry below the key is below it too
+    pub under-before : (i j : ℕ) → i < j → j < c .size → below (key-at c ts j) k ≡ true → below (key-at c ts i) k ≡ true
+    under-before i j l h u = below-iff (key-at c ts i) k .1 (below-trans (key-at c ts i) (key-at c ts j) k (rising i j l h) (below-iff (key-at c ts j) k .0 u))
 
-    pub between-up : (low high mid : ℕ) → Between low high → mid < high → under c a b mid ≡ true → Between (mid + 1) high
+    pub between-up : (low high mid : ℕ) → Between low high → mid < high → below (key-at c ts mid) k ≡ true → Between (mid + 1) high
     between-up low high mid h l u =
-        let k = h .upto in
+        let w = h .upto in
         record {
           order = omega arith;
           upto = h .upto;
-          before = λ i z. elim (ℕ-discrete i mid) [ yes e ↦ ap (under c a b) e ∙ u | no e ↦ under-before i mid (omega arith) (omega arith) u ];
+          before = λ i z. elim (ℕ-discrete i mid) [ yes e ↦ ap (λ x. below (key-at c ts x) k) e ∙ u | no e ↦ under-before i mid (omega arith) (omega arith) u ];
           behind = h .behind;
         }
 
-    pub between-down : (low high mid : ℕ) → Between low high → low ≤ mid → mid < high → under c a b mid ≡ false → Between low mid
-    between-down low high mid h l k u =
+    pub between-down : (low high mid : ℕ) → Between low high → low ≤ mid → mid < high → below (key-at c ts mid) k ≡ false → Between low mid
+    between-down low high mid h l z u =
         let w = h .upto in
         record {
           order = l;
           upto = omega arith;
           before = h .before;
-          behind = λ i z y. test (under c a b i)
-              (λ t. elim (ℕ-discrete i mid) [ yes e ↦ true-false t (ap (under c a b) e ∙ u) | no e ↦ true-false (under-before mid i (omega arith) y t) u ])
+          behind = λ i x y. test (below (key-at c ts i) k)
+              (λ t. elim (ℕ-discrete i mid) [ yes e ↦ true-false t (ap (λ v. below (key-at c ts v) k) e ∙ u) | no e ↦ true-false (under-before mid i (omega arith) y t) u ])
               (λ t. t);
         }
 
-    pub between-place : (low high : ℕ) → Between low high → high ≤ low → low ≡ place c a b
+    pub between-place : (low high : ℕ) → Between low high → high ≤ low → low ≡ place c ts k
     unfolding place
     between-place low high h e =
-        let k = h .order in
+        let x = h .order in
         let w = h .upto in
-        sym (first-unique 0 (c .size) low (λ i. not (under c a b i)) (omega arith) (record {
+        sym (first-unique 0 (c .size) low (λ i. not (below (key-at c ts i) k)) (omega arith) (record {
           from = omega arith;
           upto = omega arith;
-          passes = λ l. not-passes (under c a b low) (h .behind low (omega arith) l);
-          before = λ j x y. not-fails (under c a b j) (h .before j y);
+          passes = λ l. not-passes (below (key-at c ts low) k) (h .behind low (omega arith) l);
+          before = λ j x y. not-fails (below (key-at c ts j) k) (h .before j y);
         }))
 
   -- what the place tells
-  pub place-first : First 0 (c .size) (λ i. not (under c a b i)) (place c a b)
+  pub place-first : First 0 (c .size) (λ i. not (below (key-at c ts i) k)) (place c ts k)
   unfolding place
-  place-first = first-is 0 (c .size) (λ i. not (under c a b i)) (omega arith)
+  place-first = first-is 0 (c .size) (λ i. not (below (key-at c ts i) k)) (omega arith)
 
-  pub place-before : (i : ℕ) → i < place c a b → under c a b i ≡ true
-  place-before i h = not-false (under c a b i) (place-first .before i (omega arith) h)
+  pub place-before : (i : ℕ) → i < place c ts k → below (key-at c ts i) k ≡ true
+  place-before i h = not-false (below (key-at c ts i) k) (place-first .before i (omega arith) h)
 
-  pub place-upto : place c a b ≤ c .size
+  pub place-upto : place c ts k ≤ c .size
   place-upto = place-first .upto
 
-  pub place-behind : Ascending c → (i : ℕ) → place c a b ≤ i → i < c .size → under c a b i ≡ false
+  pub place-behind : Ascending c ts → (i : ℕ) → place c ts k ≤ i → i < c .size → below (key-at c ts i) k ≡ false
   place-behind rising i h l =
-      let at : under c a b (place c a b) ≡ false = not-true (under c a b (place c a b)) (place-first .passes (omega arith)) in
-      elim (ℕ-discrete i (place c a b)) [
-        | yes e ↦ ap (under c a b) e ∙ at
-        | no e ↦ test (under c a b i) (λ t. true-false (under-before rising (place c a b) i (omega arith) l t) at) (λ t. t)
+      let at : below (key-at c ts (place c ts k)) k ≡ false = not-true (below (key-at c ts (place c ts k)) k) (place-first .passes (omega arith)) in
+      elim (ℕ-discrete i (place c ts k)) [
+        | yes e ↦ ap (λ x. below (key-at c ts x) k) e ∙ at
+        | no e ↦ test (below (key-at c ts i) k) (λ t. true-false (under-before rising (place c ts k) i (omega arith) l t) at) (λ t. t)
       ]
 
-  -- no pair stands before its place
-  unlike-before : (i : ℕ) → i < place c a b → (eqb (left c i) a && eqb (right c i) b) ≡ false
-  unlike-before i h =
-      let (v, w) = under-elim i (place-before i h) in
-      test (eqb (left c i) a && eqb (right c i) b)
-      (λ t. let x = eqb-true (left c i) a (and-left (eqb (left c i) a) (eqb (right c i) b) t) in
-      let y = eqb-true (right c i) b (and-right (eqb (left c i) a) (eqb (right c i) b) t) in
-      let z = w x in
-      absurd (omega arith))
-      (λ t. t)
+-- The test of an entry, from its three numbers
+module _ (c : Columns) (ts : List ℕ) (a b d i : ℕ) where
+  pub entry-numbers : is-entry c ts a b d i ≡ true → (left c i ≡ a) × (right c i ≡ b) × (getD ts i 0 ≡ d)
+  unfolding is-entry
+  entry-numbers t =
+      let u = and-right (eqb (left c i) a) (eqb (right c i) b && eqb (getD ts i 0) d) t in (
+        eqb-true (left c i) a (and-left (eqb (left c i) a) (eqb (right c i) b && eqb (getD ts i 0) d) t),
+        eqb-true (right c i) b (and-left (eqb (right c i) b) (eqb (getD ts i 0) d) u),
+        eqb-true (getD ts i 0) d (and-right (eqb (right c i) b) (eqb (getD ts i 0) d) u),
+      )
 
-  -- the pair stands at its place
-  pub pair-found : (i : ℕ) → i ≡ place c a b → i < c .size → left c i ≡ a → right c i ≡ b → i ≡ pair-index c a b
-  unfolding pair-index
-  pair-found i e l x y =
-      sym (first-unique 0 (c .size) i (λ k. eqb (left c k) a && eqb (right c k) b) (omega arith) (record {
+  pub entry-is : is-entry c ts a b d i ≡ true → key-at c ts i ≡ a ∷ b ∷ d ∷ []
+  unfolding key-at
+  entry-is t = let (x, y, z) = entry-numbers t in rw (x, y, z)
+
+-- Where the entry (a, b, d) stands: at its place or nowhere
+module _ (c : Columns) (ts : List ℕ) (a b d : ℕ) where
+  -- an entry of a list that ascends that is made of the numbers is the first such
+  pub entry-found : Ascending c ts → (i : ℕ) → i < c .size → is-entry c ts a b d i ≡ true → i ≡ entry-index c ts a b d
+  unfolding entry-index
+  entry-found rising i l t =
+      sym (first-unique 0 (c .size) i (is-entry c ts a b d) (omega arith) (record {
         from = omega arith;
         upto = omega arith;
-        passes = λ z. and-intro (eqb (left c i) a) (eqb (right c i) b) (eq-eqb (left c i) a x) (eq-eqb (right c i) b y);
-        before = λ j u v. unlike-before j (omega arith);
+        passes = λ z. t;
+        before = λ j u v. test (is-entry c ts a b d j)
+            (λ e. absurd (below-irrefl (a ∷ b ∷ d ∷ []) (rw (entry-is c ts a b d j e, entry-is c ts a b d i t) at (rising j i v l))))
+            (λ e. e);
       }))
 
-  -- or nowhere
-  pub pair-missed : (i : ℕ) → Ascending c → i ≡ place c a b → (i < c .size → left c i ≡ a → right c i ≡ b → ⊥) → c .size ≡ pair-index c a b
-  unfolding pair-index
-  pair-missed i rising e no-pair =
-      sym (first-unique 0 (c .size) (c .size) (λ k. eqb (left c k) a && eqb (right c k) b) (omega arith) (record {
+  -- no entry before its place is, and behind it none that the one there is not
+  unlike-before : (i : ℕ) → i < place c ts (a ∷ b ∷ d ∷ []) → is-entry c ts a b d i ≡ false
+  unlike-before i h = test (is-entry c ts a b d i)
+      (λ e. absurd (below-irrefl (a ∷ b ∷ d ∷ []) (below-iff (a ∷ b ∷ d ∷ []) (a ∷ b ∷ d ∷ []) .0 (rw (entry-is c ts a b d i e) at (place-before c ts (a ∷ b ∷ d ∷ []) i h)))))
+      (λ e. e)
+
+  pub entry-missed : Ascending c ts → (i : ℕ) → i ≡ place c ts (a ∷ b ∷ d ∷ []) → (i < c .size → is-entry c ts a b d i ≡ false) → c .size ≡ entry-index c ts a b d
+  unfolding entry-index
+  entry-missed rising i e none-there =
+      sym (first-unique 0 (c .size) (c .size) (is-entry c ts a b d) (omega arith) (record {
         from = omega arith;
         upto = omega arith;
         passes = λ z. absurd (omega arith);
         before = λ j u v. elim (decLt j i) [
           | yes l ↦ unlike-before j (omega arith)
-          | no l ↦ test (eqb (left c j) a && eqb (right c j) b)
-              (λ t. let x = eqb-true (left c j) a (and-left (eqb (left c j) a) (eqb (right c j) b) t) in
-              let y = eqb-true (right c j) b (and-right (eqb (left c j) a) (eqb (right c j) b) t) in
-              elim (ℕ-discrete i j) [
-                | yes z ↦ absurd (no-pair (omega arith) (ap (left c) z ∙ x) (ap (right c) z ∙ y))
-                | no z ↦
-                    let under-i : not (under c a b i) ≡ true = ap (λ k. not (under c a b k)) e ∙ place-first .passes (omega arith) in
-                    let (p, q) = over-elim i (not-true (under c a b i) under-i) in
-                    ⊎-elim (λ r. absurd (omega arith))
-                    (λ r. let (r₀, r₁) = r in let k = q (omega arith) in absurd (omega arith)) (rising i j (omega arith) v)
-              ])
-              (λ t. t)
+          | no l ↦ elim (ℕ-discrete j i) [
+            | yes z ↦ ap (is-entry c ts a b d) z ∙ none-there (omega arith)
+            | no z ↦ test (is-entry c ts a b d j)
+                (λ t. true-false
+                (below-iff (key-at c ts i) (a ∷ b ∷ d ∷ []) .1 (rw (entry-is c ts a b d j t) at (rising i j (omega arith) v)))
+                (place-behind c ts (a ∷ b ∷ d ∷ []) rising i (omega arith) (omega arith)))
+                (λ t. t)
+          ]
         ];
       }))
 
--- The pairs that begin with a: from the place of (a, 0) up to that of (a + 1, 0)
-module _ (c : Columns) (a : ℕ) where
-  pub begins-before : (i : ℕ) → i < place c a 0 → left c i ≡ a → ⊥
-  begins-before i h e = let (u, v) = under-elim c a 0 i (place-before c a 0 i h) in let w = v e in omega arith
+-- An entry is below (a, 0, 0) where its first number is less; below (a, b, 0) where its first two are
+begins-below : (a x y z : ℕ) → Below (x ∷ y ∷ z ∷ []) (a ∷ 0 ∷ 0 ∷ []) → x < a
+begins-below a x y z h = ⊎-elim (λ l. l) (λ l. ⊎-elim (λ m. absurd (omega arith)) (λ m. ⊎-elim (λ n. absurd (omega arith)) (λ n. absurd (n .1)) (m .1)) (l .1)) h
 
-  pub begins-within : Ascending c → (i : ℕ) → place c a 0 ≤ i → i < place c (a + 1) 0 → left c i ≡ a
+heads-below : (a b x y z : ℕ) → Below (x ∷ y ∷ z ∷ []) (a ∷ b ∷ 0 ∷ []) → (x < a) ⊎ ((x ≡ a) × (y < b))
+heads-below a b x y z h = ⊎-elim (λ l. inl l) (λ l. ⊎-elim (λ m. inr (l .0, m)) (λ m. ⊎-elim (λ n. absurd (omega arith)) (λ n. absurd (n .1)) (m .1)) (l .1)) h
+
+-- The entries that begin with a: from the place of (a, 0, 0) up to that of (a + 1, 0, 0)
+module _ (c : Columns) (ts : List ℕ) (a : ℕ) where
+  first-less : (i : ℕ) → below (key-at c ts i) (a ∷ 0 ∷ 0 ∷ []) ≡ true → left c i < a
+  unfolding key-at
+  first-less i u = begins-below a (left c i) (right c i) (getD ts i 0) (below-iff (key-at c ts i) (a ∷ 0 ∷ 0 ∷ []) .0 u)
+
+  first-from : (i : ℕ) → below (key-at c ts i) (a ∷ 0 ∷ 0 ∷ []) ≡ false → a ≤ left c i
+  unfolding key-at
+  first-from i u = elim (decLt (left c i) a) [ yes l ↦ true-false (below-iff (key-at c ts i) (a ∷ 0 ∷ 0 ∷ []) .1 (inl l)) u | no l ↦ omega arith ]
+
+module _ (c : Columns) (ts : List ℕ) (a : ℕ) where
+  pub begins-before : (i : ℕ) → i < place c ts (a ∷ 0 ∷ 0 ∷ []) → left c i ≡ a → ⊥
+  begins-before i h e = let u = first-less c ts a i (place-before c ts (a ∷ 0 ∷ 0 ∷ []) i h) in omega arith
+
+  pub begins-within : Ascending c ts → (i : ℕ) → place c ts (a ∷ 0 ∷ 0 ∷ []) ≤ i → i < place c ts ((a + 1) ∷ 0 ∷ 0 ∷ []) → left c i ≡ a
   begins-within rising i h k =
-      let upto = place-upto c (a + 1) 0 in
-      let (u, v) = over-elim c a 0 i (place-behind c a 0 rising i h (omega arith)) in
-      let (x, y) = under-elim c (a + 1) 0 i (place-before c (a + 1) 0 i k) in
-      elim (ℕ-discrete (left c i) (a + 1)) [ yes e ↦ let w = y e in absurd (omega arith) | no e ↦ omega arith ]
+      let upto = place-upto c ts ((a + 1) ∷ 0 ∷ 0 ∷ []) in
+      let u = first-from c ts a i (place-behind c ts (a ∷ 0 ∷ 0 ∷ []) rising i h (omega arith)) in
+      let v = first-less c ts (a + 1) i (place-before c ts ((a + 1) ∷ 0 ∷ 0 ∷ []) i k) in
+      omega arith
 
-  pub begins-behind : Ascending c → (i : ℕ) → place c (a + 1) 0 ≤ i → i < c .size → left c i ≡ a → ⊥
-  begins-behind rising i h k e = let (u, v) = over-elim c (a + 1) 0 i (place-behind c (a + 1) 0 rising i h k) in omega arith
+  pub begins-behind : Ascending c ts → (i : ℕ) → place c ts ((a + 1) ∷ 0 ∷ 0 ∷ []) ≤ i → i < c .size → left c i ≡ a → ⊥
+  begins-behind rising i h k e = let u = first-from c ts (a + 1) i (place-behind c ts ((a + 1) ∷ 0 ∷ 0 ∷ []) rising i h k) in omega arith
 
-  pub begins-order : Ascending c → place c a 0 ≤ place c (a + 1) 0
-  begins-order rising = elim (decLt (place c (a + 1) 0) (place c a 0)) [
+  pub begins-order : Ascending c ts → place c ts (a ∷ 0 ∷ 0 ∷ []) ≤ place c ts ((a + 1) ∷ 0 ∷ 0 ∷ [])
+  begins-order rising = elim (decLt (place c ts ((a + 1) ∷ 0 ∷ 0 ∷ [])) (place c ts (a ∷ 0 ∷ 0 ∷ []))) [
     | yes h ↦
-        let i = place c (a + 1) 0 in
-        let upto = place-upto c a 0 in
-        let (u, v) = over-elim c (a + 1) 0 i (place-behind c (a + 1) 0 rising i (omega arith) (omega arith)) in
-        let (x, y) = under-elim c a 0 i (place-before c a 0 i h) in
+        let i = place c ts ((a + 1) ∷ 0 ∷ 0 ∷ []) in
+        let upto = place-upto c ts (a ∷ 0 ∷ 0 ∷ []) in
+        let u = first-from c ts (a + 1) i (place-behind c ts ((a + 1) ∷ 0 ∷ 0 ∷ []) rising i (omega arith) (omega arith)) in
+        let v = first-less c ts a i (place-before c ts (a ∷ 0 ∷ 0 ∷ []) i h) in
         absurd (omega arith)
     | no h ↦ omega arith
   ]
+
+-- The entries that begin with (a, b): from the place of (a, b, 0) up to that of (a, b + 1, 0)
+module _ (c : Columns) (ts : List ℕ) (a b : ℕ) where
+  two-less : (i : ℕ) → below (key-at c ts i) (a ∷ b ∷ 0 ∷ []) ≡ true → (left c i < a) ⊎ ((left c i ≡ a) × (right c i < b))
+  unfolding key-at
+  two-less i u = heads-below a b (left c i) (right c i) (getD ts i 0) (below-iff (key-at c ts i) (a ∷ b ∷ 0 ∷ []) .0 u)
+
+  two-from : (i : ℕ) → below (key-at c ts i) (a ∷ b ∷ 0 ∷ []) ≡ false → (a ≤ left c i) × (left c i ≡ a → b ≤ right c i)
+  unfolding key-at
+  two-from i u = (
+    elim (decLt (left c i) a) [ yes l ↦ true-false (below-iff (key-at c ts i) (a ∷ b ∷ 0 ∷ []) .1 (inl l)) u | no l ↦ omega arith ],
+    λ e. elim (decLt (right c i) b) [ yes l ↦ true-false (below-iff (key-at c ts i) (a ∷ b ∷ 0 ∷ []) .1 (inr (e, inl l))) u | no l ↦ omega arith ],
+  )
+
+module _ (c : Columns) (ts : List ℕ) (a b : ℕ) where
+  pub heads-before : (i : ℕ) → i < place c ts (a ∷ b ∷ 0 ∷ []) → left c i ≡ a → right c i ≡ b → ⊥
+  heads-before i h e f = ⊎-elim (λ l. omega arith) (λ l. let m = l .1 in omega arith) (two-less c ts a b i (place-before c ts (a ∷ b ∷ 0 ∷ []) i h))
+
+  pub heads-within : Ascending c ts → (i : ℕ) → place c ts (a ∷ b ∷ 0 ∷ []) ≤ i → i < place c ts (a ∷ (b + 1) ∷ 0 ∷ []) → (left c i ≡ a) × (right c i ≡ b)
+  heads-within rising i h k =
+      let upto = place-upto c ts (a ∷ (b + 1) ∷ 0 ∷ []) in
+      let (u, v) = two-from c ts a b i (place-behind c ts (a ∷ b ∷ 0 ∷ []) rising i h (omega arith)) in
+      ⊎-elim (λ l. absurd (omega arith)) (λ l. let (x, y) = l in let z = v x in (x, omega arith))
+      (two-less c ts a (b + 1) i (place-before c ts (a ∷ (b + 1) ∷ 0 ∷ []) i k))
+
+  pub heads-behind : Ascending c ts → (i : ℕ) → place c ts (a ∷ (b + 1) ∷ 0 ∷ []) ≤ i → i < c .size → left c i ≡ a → right c i ≡ b → ⊥
+  heads-behind rising i h k e f =
+      let (u, v) = two-from c ts a (b + 1) i (place-behind c ts (a ∷ (b + 1) ∷ 0 ∷ []) rising i h k) in let z = v e in omega arith
+
+  pub heads-order : Ascending c ts → place c ts (a ∷ b ∷ 0 ∷ []) ≤ place c ts (a ∷ (b + 1) ∷ 0 ∷ [])
+  heads-order rising = elim (decLt (place c ts (a ∷ (b + 1) ∷ 0 ∷ [])) (place c ts (a ∷ b ∷ 0 ∷ []))) [
+    | yes h ↦
+        let i = place c ts (a ∷ (b + 1) ∷ 0 ∷ []) in
+        let upto = place-upto c ts (a ∷ b ∷ 0 ∷ []) in
+        let (u, v) = two-from c ts a (b + 1) i (place-behind c ts (a ∷ (b + 1) ∷ 0 ∷ []) rising i (omega arith) (omega arith)) in
+        ⊎-elim (λ l. absurd (omega arith)) (λ l. let (x, y) = l in let z = v x in absurd (omega arith))
+        (two-less c ts a b i (place-before c ts (a ∷ b ∷ 0 ∷ []) i h))
+    | no h ↦ omega arith
+  ]
+
+-- The tests, from the numbers read
+module _ (c : Columns) (ts : List ℕ) (a b d i x y z : ℕ) where
+  pub first-told : x ≡ left c i → (x ≡ a → ⊥) → ltb x a ≡ below (key-at c ts i) (a ∷ b ∷ d ∷ [])
+  unfolding key-at below
+  first-told e f = rw (sym e, ne-eqb x a f) (sym (or-false (ltb x a)))
+
+  pub second-told : x ≡ left c i → x ≡ a → y ≡ right c i → (y ≡ b → ⊥) → ltb y b ≡ below (key-at c ts i) (a ∷ b ∷ d ∷ [])
+  unfolding key-at below
+  second-told e f g h = rw (sym e, sym g, f, le-ltb a a (omega arith), eq-eqb a a refl, ne-eqb y b h) (sym (or-false (ltb y b)))
+
+  pub third-told : x ≡ left c i → x ≡ a → y ≡ right c i → y ≡ b → z ≡ getD ts i 0 → ltb z d ≡ below (key-at c ts i) (a ∷ b ∷ d ∷ [])
+  unfolding key-at below
+  third-told e f g h u = rw (sym e, sym g, sym u, f, h, le-ltb a a (omega arith), eq-eqb a a refl, le-ltb b b (omega arith), eq-eqb b b refl, and-false (eqb z d)) (sym (or-false (ltb z d)))
+
+  pub first-unlike : x ≡ left c i → (x ≡ a → ⊥) → false ≡ is-entry c ts a b d i
+  unfolding is-entry
+  first-unlike e f = rw (sym e, ne-eqb x a f)
+
+  pub second-unlike : x ≡ left c i → x ≡ a → y ≡ right c i → (y ≡ b → ⊥) → false ≡ is-entry c ts a b d i
+  unfolding is-entry
+  second-unlike e f g h = rw (sym e, eq-eqb x a f, sym g, ne-eqb y b h)
+
+  pub third-like : x ≡ left c i → x ≡ a → y ≡ right c i → y ≡ b → z ≡ getD ts i 0 → eqb z d ≡ is-entry c ts a b d i
+  unfolding is-entry
+  third-like e f g h u = rw (sym e, eq-eqb x a f, sym g, eq-eqb y b h, u)

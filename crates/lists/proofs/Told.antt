@@ -1,13 +1,15 @@
--- What was read from a span, and where a pair's first number begins in it, are those of the tables' lists.
+-- What was read from a span, and where a key has its place in it, are those of the tables' lists.
 use Prim.Native.Nat.{ℕ, _+_}
 use mathlib.Core.Path.{_≡_, _∙_}
-use mathlib.Core.List.{List}
+use mathlib.Core.List.{List, [], _∷_}
+use lib.ListN.{getD}
 use Rattle.model.specs.declared.Sizes.{Sizes}
+use Rattle.model.specs.Keys.{Key}
 use Rattle.model.specs.Words.{left, right}
 use Rattle.model.specs.Tables.{tables}
 use Rattle.lists.specs.declared.Span.{Span}
-use Rattle.lists.specs.Lists.{flow-span, mail-span, state-span, listed, place, range-from, range-to}
-use Rattle.lists.proofs.Facts.{flow-listed, mail-listed, states-listed}
+use Rattle.lists.specs.Lists.{flow-span, mail-span, state-span, listed, thirds, place}
+use Rattle.lists.proofs.Facts.{flow-listed, flow-thirds, mail-listed, mail-thirds, states-listed, states-thirds}
 
 -- what was read from a span
 module _ (ws : List ℕ) (s : Sizes) (l : Span) (j v : ℕ) (same : v ≡ right (listed ws l) j) where
@@ -23,18 +25,16 @@ module _ (ws : List ℕ) (s : Sizes) (l : Span) (j v : ℕ) (same : v ≡ right 
 pub class-told : (ws : List ℕ) (s : Sizes) (l : Span) (j v : ℕ) → v ≡ left (listed ws l) j → l ≡ state-span s → v ≡ left (tables ws s .states) j
 class-told ws s l j v same e = same ∙ rw (e, states-listed ws s)
 
-pub from-told : (ws : List ℕ) (s : Sizes) (l : Span) (n i : ℕ) → l ≡ flow-span s → i ≡ place (listed ws l) n 0 → i ≡ range-from (tables ws s .flow) n
-unfolding range-from
-from-told ws s l n i e f = f ∙ rw (e, flow-listed ws s)
+pub return-told : (ws : List ℕ) (s : Sizes) (l : Span) (j v : ℕ) → v ≡ getD (thirds ws l) j 0 → l ≡ state-span s → v ≡ getD (tables ws s .returns) j 0
+return-told ws s l j v same e = same ∙ rw (e, states-thirds ws s)
 
-pub to-told : (ws : List ℕ) (s : Sizes) (l : Span) (n i : ℕ) → l ≡ flow-span s → i ≡ place (listed ws l) (n + 1) 0 → i ≡ range-to (tables ws s .flow) n
-unfolding range-to
-to-told ws s l n i e f = f ∙ rw (e, flow-listed ws s)
+-- where a key has its place in a span
+module _ (ws : List ℕ) (s : Sizes) (l : Span) (k : Key) (i : ℕ) (same : i ≡ place (listed ws l) (thirds ws l) k) where
+  pub flow-placed : l ≡ flow-span s → i ≡ place (tables ws s .flow) [] k
+  flow-placed e = same ∙ rw (e, flow-listed ws s, flow-thirds ws s)
 
-pub mail-from-told : (ws : List ℕ) (s : Sizes) (l : Span) (n i : ℕ) → l ≡ mail-span s → i ≡ place (listed ws l) n 0 → i ≡ range-from (tables ws s .mail) n
-unfolding range-from
-mail-from-told ws s l n i e f = f ∙ rw (e, mail-listed ws s)
+  pub mail-placed : l ≡ mail-span s → i ≡ place (tables ws s .mail) [] k
+  mail-placed e = same ∙ rw (e, mail-listed ws s, mail-thirds ws s)
 
-pub mail-to-told : (ws : List ℕ) (s : Sizes) (l : Span) (n i : ℕ) → l ≡ mail-span s → i ≡ place (listed ws l) (n + 1) 0 → i ≡ range-to (tables ws s .mail) n
-unfolding range-to
-mail-to-told ws s l n i e f = f ∙ rw (e, mail-listed ws s)
+  pub states-placed : l ≡ state-span s → i ≡ place (tables ws s .states) (tables ws s .returns) k
+  states-placed e = same ∙ rw (e, states-listed ws s, states-thirds ws s)

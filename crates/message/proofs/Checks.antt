@@ -65,22 +65,22 @@ sizes-pass at (l ∷ ls) h =
 
 -- a part, by the code's three tests
 
-module _ (ws : List ℕ) (at : ℕ) (ls : List Limited) (elements : ℕ) where
-  pub part-no-sizes : length ws < at + length ls → part-check ws at ls elements ≡ some (Length at)
+module _ (ws : List ℕ) (at : ℕ) (ls : List Limited) (cells : ℕ) where
+  pub part-no-sizes : length ws < at + length ls → part-check ws at ls cells ≡ some (Length at)
   unfolding part-check unless _>>_
   part-no-sizes h = rw (lt-leb (at + length ls) (length ws) h)
 
-  pub part-outside : (w : ℕ) → first-outside ls ≡ w → at + length ls ≤ length ws → w < length ls → part-check ws at ls elements ≡ some (Size (at + w))
+  pub part-outside : (w : ℕ) → first-outside ls ≡ w → at + length ls ≤ length ws → w < length ls → part-check ws at ls cells ≡ some (Size (at + w))
   unfolding part-check unless _>>_
   part-outside w e h k = rw (← e, le-leb (at + length ls) (length ws) h, sizes-refused at ls (omega arith))
 
-  pub part-no-arrays : at + length ls ≤ length ws → length ls ≤ first-outside ls → length ws < at + length ls + 2 * elements → part-check ws at ls elements ≡ some (Length at)
+  pub part-no-arrays : at + length ls ≤ length ws → length ls ≤ first-outside ls → length ws < at + length ls + cells → part-check ws at ls cells ≡ some (Length at)
   unfolding part-check unless _>>_
-  part-no-arrays h k l = rw (le-leb (at + length ls) (length ws) h, sizes-pass at ls k, lt-leb (at + length ls + 2 * elements) (length ws) l)
+  part-no-arrays h k l = rw (le-leb (at + length ls) (length ws) h, sizes-pass at ls k, lt-leb (at + length ls + cells) (length ws) l)
 
-  pub part-whole : length ls ≤ first-outside ls → at + length ls + 2 * elements ≤ length ws → part-check ws at ls elements ≡ none
+  pub part-whole : length ls ≤ first-outside ls → at + length ls + cells ≤ length ws → part-check ws at ls cells ≡ none
   unfolding part-check unless _>>_
-  part-whole k l = rw (le-leb (at + length ls) (length ws) (omega arith), sizes-pass at ls k, le-leb (at + length ls + 2 * elements) (length ws) l)
+  part-whole k l = rw (le-leb (at + length ls) (length ws) (omega arith), sizes-pass at ls k, le-leb (at + length ls + cells) (length ws) l)
 
 -- the whole message, by the code's checks one after the other
 

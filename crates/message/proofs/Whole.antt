@@ -67,9 +67,9 @@ sizes-inside at (l ∷ ls) h =
     (λ e. let z : none ≡ some (Size at) = rw (e, sizes-check) at (sym h) in let w : _≡_ {A = ℕ} 0 1 = cc in absurd (omega arith))
 
 -- a part that refuses nothing: its sizes are within their limits, and its arrays end before the words do
-part-whole-is : (ws : List ℕ) (at : ℕ) (ls : List Limited) (elements : ℕ) → part-check ws at ls elements ≡ none → All-inside ls × (at + length ls + 2 * elements ≤ length ws)
+part-whole-is : (ws : List ℕ) (at : ℕ) (ls : List Limited) (cells : ℕ) → part-check ws at ls cells ≡ none → All-inside ls × (at + length ls + cells ≤ length ws)
 unfolding part-check
-part-whole-is ws at ls elements h =
+part-whole-is ws at ls cells h =
     let behind = then-right _ _ h in
     (sizes-inside at ls (then-left _ _ behind), leb-true _ _ (unless-passes _ _ (then-right _ _ behind)))
 

@@ -1,7 +1,7 @@
 // The four parts of a message, and refusals 1 and 2. Any bytes at all get an answer.
 ghost use mathlib.Core.Path.{_≡_};
 ghost use mathlib.Core.List.{List};
-ghost use Prim.Native.Nat.{_+_, _*_, _^_, _<_};
+ghost use Prim.Native.Nat.{_+_, _^_, _<_};
 ghost use lib.ListN.{length};
 ghost use Rattle.model.specs.Limits.{present};
 ghost use Rattle.model.specs.Words.{words};
@@ -17,6 +17,7 @@ use sizes::ceilings_outside;
 use sizes::end_at;
 use sizes::program_outside;
 use sizes::sizes_of;
+use sizes::table_cells;
 use sizes::tables_at;
 use sizes::tables_outside;
 
@@ -32,13 +33,13 @@ enum Checked {
     Fail(Verdict),
 }
 
-// Refusals 1 and 2 of a part at word `at`: its sizes whole, within their limits, its two arrays of `elements` words
-// whole. The first size outside its limits is number `wrong` of the part's `count` sizes.
-fn part(bytes: &[u8], at: usize, count: usize, wrong: usize, elements: usize) -> Checked
-    requires { ⌜ at + count + 2 * elements < 2 ^ 21 ⌝ }
+// Refusals 1 and 2 of a part at word `at`: its sizes whole, within their limits, its arrays of `cells` words whole. The
+// first size outside its limits is number `wrong` of the part's `count` sizes.
+fn part(bytes: &[u8], at: usize, count: usize, wrong: usize, cells: usize) -> Checked
+    requires { ⌜ at + count + cells < 2 ^ 21 ⌝ }
     ensures { λ r. ⌜
         ((ls : List Limited) → length ls ≡ count → first-outside ls ≡ wrong →
-        r ≡ checked (part-check (words (now (bytes .entry))) at ls elements)) ⌝ }
+        r ≡ checked (part-check (words (now (bytes .entry))) at ls cells)) ⌝ }
 {
     let words = bytes.len() / 2;
     if words < at + count {
@@ -47,7 +48,7 @@ fn part(bytes: &[u8], at: usize, count: usize, wrong: usize, elements: usize) ->
     if wrong < count {
         return Checked::Fail(Verdict::Size(at + wrong));
     }
-    if words < at + count + 2 * elements {
+    if words < at + count + cells {
         return Checked::Fail(Verdict::Length(at));
     }
     Checked::Pass
@@ -58,7 +59,7 @@ fn program_part(bytes: &[u8], s: Sizes) -> Checked
     requires { ⌜ Placed s ⌝ }
     ensures { λ r. ⌜ r ≡ checked (program-part present (words (now (bytes .entry))) s) ⌝ }
 {
-    part(bytes, 0, 4, program_outside(s), s.rows)
+    part(bytes, 0, 4, program_outside(s), 2 * s.rows)
 }
 
 // The bads part: bads and their rows; tags and numbers of the rows.
@@ -66,21 +67,16 @@ fn bads_part(bytes: &[u8], s: Sizes) -> Checked
     requires { ⌜ Placed s ⌝ }
     ensures { λ r. ⌜ r ≡ checked (bads-part (words (now (bytes .entry))) s) ⌝ }
 {
-    part(bytes, bads_at(s), 2, bads_outside(s), s.badrows)
+    part(bytes, bads_at(s), 2, bads_outside(s), 2 * s.badrows)
 }
 
-// The tables part: flow, mail and state entries; first and second columns.
+// The tables part: flow, mail and state entries; first and second columns, and the states' third.
 fn tables_part(bytes: &[u8], s: Sizes) -> Checked
     requires { ⌜ Placed s ⌝ }
     ensures { λ r. ⌜ r ≡ checked (tables-part present (words (now (bytes .entry))) s) ⌝ }
 {
-    part(
-        bytes,
-        tables_at(s),
-        3,
-        tables_outside(s),
-        s.flows + s.mails + s.states,
-    )
+    let cells = table_cells(s.flows, s.mails, s.states);
+    part(bytes, tables_at(s), 3, tables_outside(s), cells)
 }
 
 // The ceilings part: ceilings and their entries; counter numbers and limits.
@@ -88,7 +84,7 @@ fn ceilings_part(bytes: &[u8], s: Sizes) -> Checked
     requires { ⌜ Placed s ⌝ }
     ensures { λ r. ⌜ r ≡ checked (ceilings-part (words (now (bytes .entry))) s) ⌝ }
 {
-    part(bytes, ceilings_at(s), 2, ceilings_outside(s), s.entries)
+    part(bytes, ceilings_at(s), 2, ceilings_outside(s), 2 * s.entries)
 }
 
 // Refusals 1 and 2 of any bytes, part by part; then that no bytes remain.

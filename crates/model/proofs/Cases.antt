@@ -1,4 +1,5 @@
--- The cases of specs/Cases.antt, LongerCases.antt, HeldCases.antt and MailedCases.antt, by computation: one theorem a table.
+-- The cases of specs/Cases.antt, LongerCases.antt, HeldCases.antt, MailedCases.antt and ReturnCases.antt, by
+-- computation: one theorem a table.
 use mathlib.Core.Path.{_≡_, refl}
 use mathlib.Core.List.{map}
 use Rattle.model.proofs.Opens.{model-opens}
@@ -6,6 +7,7 @@ use Rattle.model.specs.Cases.{obtained, proved-cases, own-cases}
 use Rattle.model.specs.LongerCases.{obtained-each, expected-each, limit-cases}
 use Rattle.model.specs.HeldCases.{reached, held-cases, held-runs}
 use Rattle.model.specs.MailedCases.{mailed-cases, mailed-runs}
+use Rattle.model.specs.ReturnCases.{return-cases}
 
 pub proved-cases-hold : map obtained proved-cases ≡ map (λ k. k .expected) proved-cases
 unfolding model-opens
@@ -34,3 +36,7 @@ mailed-cases-hold = refl
 pub mailed-runs-hold : map reached mailed-runs ≡ map (λ k. k .expected) mailed-runs
 unfolding model-opens
 mailed-runs-hold = refl
+
+pub return-cases-hold : map obtained return-cases ≡ map (λ k. k .expected) return-cases
+unfolding model-opens
+return-cases-hold = refl

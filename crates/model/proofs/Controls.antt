@@ -1,8 +1,9 @@
--- Controls: demand 3 on two stations, computed. After each number of a list the counts of the station and of the counters stand side by side.
+-- Controls: demand 3 on three stations, computed. After each number of a list the counts of the station and of the counters stand side by side.
 use Prim.Native.Nat.{ℕ}
 use mathlib.Core.Path.{_≡_, refl}
 use mathlib.Core.List.{List, [], _∷_, _++_}
 use mathlib.Core.Option.{Option, some, none}
+use lib.ListN.{replicate}
 use Rattle.model.specs.Index.{gather}
 use Rattle.model.specs.Values.{Processes}
 use Rattle.model.specs.Run.{starting, next}
@@ -13,11 +14,12 @@ use Rattle.model.specs.Markings.{Marking, initial, fire-all}
 use Rattle.model.specs.Verify.{Message, message}
 use Rattle.model.proofs.Opens.{model-opens}
 use Rattle.model.specs.Cases.{Pairs, to-bytes, two-classes-with, selective, selective-evidence}
+use Rattle.model.specs.ReturnCases.{two-deep-with, two-deep-ends}
 
 -- the counts of a station in the order of the counters: its states, then the given classes and letters
 tally : Message → Pairs → Processes → List ℕ
 tally m letters qs =
-    gather 0 (m .tables .states .size) (λ i. processes-at qs (state-at (m .tables) i .class) (state-at (m .tables) i .location) ∷ []) ++
+    gather 0 (m .tables .states .size) (λ i. processes-at (m .program) qs (state-at (m .tables) i) ∷ []) ++
     mails letters
   where
     mails : Pairs → List ℕ
@@ -46,13 +48,13 @@ two-classes-numbers = 0 ∷ 0 ∷ 0 ∷ 0 ∷ 1 ∷ 0 ∷ 1 ∷ 0 ∷ 0 ∷ 0 �
 
 two-classes-rules : List (Option Rule)
 two-classes-rules =
-    some (rule 5 6 (starts 0)) ∷ some (rule 6 2 quiet) ∷ some (rule 2 3 quiet) ∷ some (rule 3 4 (puts 10)) ∷ some (rule 0 1 (reads 10)) ∷
-    some (rule 4 7 quiet) ∷ none ∷ some (rule 7 8 quiet) ∷ some (rule 8 2 quiet) ∷ some (rule 2 3 quiet) ∷ some (rule 3 4 (puts 11)) ∷
-    some (rule 4 9 quiet) ∷ none ∷ none ∷ []
+    some (rule 8 9 (starts 0)) ∷ some (rule 9 2 quiet) ∷ some (rule 2 4 quiet) ∷ some (rule 4 6 (puts 13)) ∷ some (rule 0 1 (reads 13)) ∷
+    some (rule 6 10 quiet) ∷ none ∷ some (rule 10 11 quiet) ∷ some (rule 11 3 quiet) ∷ some (rule 3 5 quiet) ∷ some (rule 5 7 (puts 14)) ∷
+    some (rule 7 12 quiet) ∷ none ∷ none ∷ []
 
 -- in the end the spawned process stands at row 5, the first at row 26, with a message from itself
 two-classes-end : List ℕ
-two-classes-end = 0 ∷ 1 ∷ 0 ∷ 0 ∷ 0 ∷ 0 ∷ 0 ∷ 0 ∷ 0 ∷ 1 ∷ 0 ∷ 1 ∷ []
+two-classes-end = 0 ∷ 1 ∷ 0 ∷ 0 ∷ 0 ∷ 0 ∷ 0 ∷ 0 ∷ 0 ∷ 0 ∷ 0 ∷ 0 ∷ 1 ∷ 0 ∷ 1 ∷ []
 
 last-of : List (List ℕ) → List ℕ
 last-of [] = []
@@ -64,7 +66,7 @@ record Same (a b : List (List ℕ)) (end : List ℕ) : Type 0 where
   along : a ≡ b
   at-last : last-of a ≡ end
 
-two-classes-followed : Same (station-tallies two-classes-message ((15, 0) ∷ (27, 0) ∷ []) (starting (two-classes-message .program)) two-classes-numbers) (counter-tallies 12 (initial (two-classes-message .program) (two-classes-message .tables)) two-classes-rules) two-classes-end
+two-classes-followed : Same (station-tallies two-classes-message ((15, 0) ∷ (27, 0) ∷ []) (starting (two-classes-message .program)) two-classes-numbers) (counter-tallies 15 (initial (two-classes-message .program) (two-classes-message .tables)) two-classes-rules) two-classes-end
 unfolding tally station-tallies counter-tallies two-classes-message two-classes-numbers two-classes-rules two-classes-end last-of model-opens
 two-classes-followed = record { along = refl; at-last = refl }
 
@@ -80,3 +82,17 @@ selective-rules =
 selective-followed : Same (station-tallies selective-message ((18, 0) ∷ (18, 1) ∷ []) (starting (selective-message .program)) (0 ∷ 0 ∷ 0 ∷ 0 ∷ 0 ∷ 0 ∷ 0 ∷ 0 ∷ [])) (counter-tallies 10 (initial (selective-message .program) (selective-message .tables)) selective-rules) (0 ∷ 0 ∷ 0 ∷ 0 ∷ 0 ∷ 0 ∷ 0 ∷ 1 ∷ 0 ∷ 0 ∷ [])
 unfolding tally station-tallies counter-tallies selective-message selective-rules last-of model-opens
 selective-followed = record { along = refl; at-last = refl }
+
+-- A call that itself returns to two (specs/ReturnCases.antt): f gives back to the one call of it, the first time for the first call of g, then for the second.
+two-deep-message : Message
+two-deep-message =
+    message (two-deep-with (((24, 4, 8) ∷ (24, 8, 15) ∷ (24, 8, 19) ∷ (24, 12, 15) ∷ (24, 12, 19) ∷ []) ++ two-deep-ends) 9)
+
+two-deep-rules : List (Option Rule)
+two-deep-rules =
+    some (rule 5 6 quiet) ∷ some (rule 6 1 quiet) ∷ some (rule 1 0 quiet) ∷ some (rule 0 3 quiet) ∷ some (rule 3 7 quiet) ∷ some (rule 7 2 quiet) ∷
+    some (rule 2 0 quiet) ∷ some (rule 0 4 quiet) ∷ some (rule 4 8 quiet) ∷ none ∷ []
+
+two-deep-followed : Same (station-tallies two-deep-message [] (starting (two-deep-message .program)) (replicate 10 0)) (counter-tallies 9 (initial (two-deep-message .program) (two-deep-message .tables)) two-deep-rules) (0 ∷ 0 ∷ 0 ∷ 0 ∷ 0 ∷ 0 ∷ 0 ∷ 0 ∷ 1 ∷ [])
+unfolding tally station-tallies counter-tallies two-deep-message two-deep-rules last-of model-opens
+two-deep-followed = record { along = refl; at-last = refl }

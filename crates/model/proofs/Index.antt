@@ -5,10 +5,9 @@ use native.Mathlib.Decide.{ℕ-discrete, decLt}
 use native.Mathlib.Omega.{arith}
 use mathlib.Core.Path.{_≡_, refl, sym, _∙_, ap, subst}
 use mathlib.Core.Bool.{Bool, true, false}
-use mathlib.Core.Logic.{_⊎_, ⊎-elim}
+use mathlib.Core.Logic.{_⊎_, inl, inr, ⊎-elim}
 use mathlib.Core.List.{List, [], _++_, List·Memᴰ, Memᴰ·append-left, Memᴰ·append-right, List·Memᴰ·append-cases, List·Memᴰ·not-nil, List·Memᴰ·eq-of-singleton, List·Memᴰ·head}
-use mathlib.Core.Option.{some, none, Option·some-injective, Option·none-ne-some}
-use Rattle.model.specs.Index.{anyIn, allIn, firstIn, countIn, gatherIn, any, all, first, count, gather, last, only}
+use Rattle.model.specs.Index.{anyIn, allIn, firstIn, countIn, totalIn, gatherIn, any, all, first, count, total, gather, only}
 use Rattle.model.proofs.Logic.{true-false, test}
 
 -- k is an index from i below e
@@ -278,6 +277,93 @@ count-reached (suc e) x f h =
     let (k, u, v, w) = count-reached e x f (omega arith) in
     (k, omega arith, v, w))
 
+-- total
+
+totalIn-higher : (n i least : ℕ) (f g : ℕ → ℕ) → ((k : ℕ) → i ≤ k → k < i + n → (f k ≤ g k) ⊎ (least ≤ g k)) → (totalIn n i f ≤ totalIn n i g) ⊎ (least ≤ totalIn n i g)
+unfolding totalIn
+totalIn-higher zero i least f g h = inl (omega arith)
+totalIn-higher (suc n) i least f g h =
+    ⊎-elim
+    (λ (a : f i ≤ g i).
+    ⊎-elim (λ (b : totalIn n (i + 1) f ≤ totalIn n (i + 1) g). inl (omega arith)) (λ (b : least ≤ totalIn n (i + 1) g). inr (omega arith))
+    (totalIn-higher n (i + 1) least f g (λ k lo hi. h k (omega arith) (omega arith))))
+    (λ (a : least ≤ g i). inr (omega arith)) (h i (omega arith) (omega arith))
+
+totalIn-same : (n i : ℕ) (f g : ℕ → ℕ) → ((k : ℕ) → i ≤ k → k < i + n → f k ≡ g k) → totalIn n i f ≡ totalIn n i g
+unfolding totalIn
+totalIn-same zero i f g h = refl
+totalIn-same (suc n) i f g h =
+    let a = h i (omega arith) (omega arith) in
+    let b = totalIn-same n (i + 1) f g (λ k lo hi. h k (omega arith) (omega arith)) in
+    omega arith
+
+totalIn-zero : (n i : ℕ) → totalIn n i (λ k. 0) ≡ 0
+unfolding totalIn
+totalIn-zero zero i = refl
+totalIn-zero (suc n) i = let a = totalIn-zero n (i + 1) in omega arith
+
+totalIn-one : (n i k : ℕ) (f : ℕ → ℕ) → i ≤ k → k < i + n → ((j : ℕ) → (j ≡ k → ⊥) → f j ≡ 0) → totalIn n i f ≡ f k
+unfolding totalIn
+totalIn-one zero i k f lo hi others = absurd (omega arith)
+totalIn-one (suc n) i k f lo hi others =
+    at-or-behind i k lo
+    (λ e. let a = totalIn-same n (i + 1) f (λ j. 0) (λ j l h. others j (λ z. omega arith)) in
+    let b = totalIn-zero n (i + 1) in
+    let c = ap f e in
+    omega arith)
+    (λ h. let a = others i (λ z. omega arith) in
+    let b = totalIn-one n (i + 1) k f h (omega arith) others in
+    omega arith)
+
+totalIn-plus : (n i : ℕ) (f g : ℕ → ℕ) → totalIn n i (λ k. f k + g k) ≡ totalIn n i f + totalIn n i g
+unfolding totalIn
+totalIn-plus zero i f g = refl
+totalIn-plus (suc n) i f g = let a = totalIn-plus n (i + 1) f g in omega arith
+
+totalIn-swap : (n i m j : ℕ) (f : ℕ → ℕ → ℕ) → totalIn n i (λ a. totalIn m j (f a)) ≡ totalIn m j (λ b. totalIn n i (λ a. f a b))
+unfolding totalIn
+totalIn-swap zero i m j f = sym (totalIn-zero m j)
+totalIn-swap (suc n) i m j f =
+    let a = totalIn-swap n (i + 1) m j f in
+    let b = totalIn-plus m j (f i) (λ y. totalIn n (i + 1) (λ x. f x y)) in
+    omega arith
+
+pub total-end : (i e : ℕ) (f : ℕ → ℕ) → e ≤ i → total i e f ≡ 0
+unfolding total totalIn
+total-end i e f h = rw (over i e h)
+
+pub total-turn : (i e : ℕ) (f : ℕ → ℕ) → i < e → total i e f ≡ f i + total (i + 1) e f
+unfolding total totalIn
+total-turn i e f h = rw (turn i e h)
+
+-- where each term is as high, or past a number, so is the sum
+pub total-higher : (i e least : ℕ) (f g : ℕ → ℕ) → ((k : ℕ) → i ≤ k → k < e → (f k ≤ g k) ⊎ (least ≤ g k)) → (total i e f ≤ total i e g) ⊎ (least ≤ total i e g)
+unfolding total
+total-higher i e least f g h = totalIn-higher (e - i) i least f g (λ k lo hi. h k lo (omega arith))
+
+-- what the terms say, the sum says
+pub total-same : (i e : ℕ) (f g : ℕ → ℕ) → ((k : ℕ) → i ≤ k → k < e → f k ≡ g k) → total i e f ≡ total i e g
+unfolding total
+total-same i e f g h = totalIn-same (e - i) i f g (λ k lo hi. h k lo (omega arith))
+
+pub total-none : (i e : ℕ) (f : ℕ → ℕ) → ((k : ℕ) → i ≤ k → k < e → f k ≡ 0) → total i e f ≡ 0
+unfolding total
+total-none i e f h = total-same i e f (λ k. 0) h ∙ totalIn-zero (e - i) i
+
+pub total-plus : (i e : ℕ) (f g : ℕ → ℕ) → total i e (λ k. f k + g k) ≡ total i e f + total i e g
+unfolding total
+total-plus i e f g = totalIn-plus (e - i) i f g
+
+-- a sum of sums, the other way round
+pub total-swap : (i e i′ e′ : ℕ) (f : ℕ → ℕ → ℕ) → total i e (λ a. total i′ e′ (f a)) ≡ total i′ e′ (λ b. total i e (λ a. f a b))
+unfolding total
+total-swap i e i′ e′ f = totalIn-swap (e - i) i (e′ - i′) i′ f
+
+-- one term alone
+pub total-one : (i e k : ℕ) (f : ℕ → ℕ) → i ≤ k → k < e → ((j : ℕ) → (j ≡ k → ⊥) → f j ≡ 0) → total i e f ≡ f k
+unfolding total
+total-one i e k f lo hi others = totalIn-one (e - i) i k f lo (omega arith) others
+
 -- gather
 
 pub gather-end : {A : Type 0} (i e : ℕ) (f : ℕ → List A) → e ≤ i → gather i e f ≡ []
@@ -312,65 +398,6 @@ unfolding gather
 gather-elim i e f a m =
     let (k, w, t) = gatherIn-elim (e - i) i f a m in
     (k, (w .0, omega arith), t)
-
--- last
-
-pub last-hit : (n : ℕ) (f : ℕ → Bool) → f n ≡ true → last (suc n) f ≡ some n
-unfolding last
-last-hit n f t = rw (t, last)
-
-pub last-miss : (n : ℕ) (f : ℕ → Bool) → f n ≡ false → last (suc n) f ≡ last n f
-unfolding last
-last-miss n f t = rw (t, last)
-
--- the last index below n that passes, given with none behind it
-pub last-is : (n k : ℕ) (f : ℕ → Bool) → k < n → f k ≡ true → ((j : ℕ) → k < j → j < n → f j ≡ false) → last n f ≡ some k
-last-is zero k f h t none-behind = absurd (omega arith)
-last-is (suc n) k f h t none-behind = elim (ℕ-discrete k n) [
-  | yes z ↦ last-hit n f (sym (ap f z) ∙ t) ∙ ap some (sym z)
-  | no z ↦ last-miss n f (none-behind n (omega arith) (omega arith)) ∙ last-is n k f (omega arith) t (λ j a b. none-behind j a (omega arith))
-]
-
-pub last-none : (n : ℕ) (f : ℕ → Bool) → ((j : ℕ) → j < n → f j ≡ false) → last n f ≡ none
-unfolding last
-last-none zero f h = refl
-last-none (suc n) f h = last-miss n f (h n (omega arith)) ∙ last-none n f (λ j a. h j (omega arith))
-
--- what a last index is
-pub record Last (n : ℕ) (f : ℕ → Bool) (k : ℕ) : Type 0 where
-  pub below : k < n
-  pub passes : f k ≡ true
-  pub behind : (j : ℕ) → k < j → j < n → f j ≡ false
-
-pub last-elim : (n k : ℕ) (f : ℕ → Bool) → last n f ≡ some k → Last n f k
-unfolding last
-last-elim zero k f h = absurd (Option·none-ne-some k h)
-last-elim (suc n) k f h =
-    test (f n)
-    (λ e. let z = Option·some-injective n k (sym (last-hit n f e) ∙ h) in
-    record { below = omega arith; passes = sym (ap f z) ∙ e; behind = λ j a b. absurd (omega arith) })
-    (λ e. let r = last-elim n k f (sym (last-miss n f e) ∙ h) in
-    record {
-      below = omega arith;
-      passes = r .passes;
-      behind = λ j a b. elim (ℕ-discrete j n) [ yes z ↦ ap f z ∙ e | no z ↦ r .behind j a (omega arith) ];
-    })
-
--- the last index is the same where the tests are
-pub last-same : (n : ℕ) (f g : ℕ → Bool) → ((j : ℕ) → j < n → f j ≡ g j) → last n f ≡ last n g
-unfolding last
-last-same zero f g h = refl
-last-same (suc n) f g h =
-    test (g n) (λ t. last-hit n f (h n (omega arith) ∙ t) ∙ sym (last-hit n g t))
-    (λ t. last-miss n f (h n (omega arith) ∙ t) ∙ (last-same n f g (λ j l. h j (omega arith)) ∙ sym (last-miss n g t)))
-
--- ... and where none passes behind n
-pub last-upto : (n m : ℕ) (f : ℕ → Bool) → n ≤ m → ((j : ℕ) → n ≤ j → j < m → f j ≡ false) → last m f ≡ last n f
-last-upto n zero f l h = let z : n ≡ zero = omega arith in rw z
-last-upto n (suc m) f l h = elim (ℕ-discrete n (suc m)) [
-  | yes z ↦ rw z
-  | no z ↦ last-miss m f (h m (omega arith) (omega arith)) ∙ last-upto n m f (omega arith) (λ j a b. h j a (omega arith))
-]
 
 -- only
 

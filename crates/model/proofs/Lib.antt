@@ -10,6 +10,7 @@ pub mod Rows
 pub mod Heads
 pub mod Markings
 pub mod Exact
+pub mod Keys
 pub mod Listed
 pub mod Numbering
 pub mod Bounded
@@ -28,6 +29,7 @@ pub mod Stepped
 pub mod Runs
 pub mod Demands
 pub mod Refusals
+pub mod Sums
 pub mod Longer
 pub mod Mailed
 pub mod Controls

@@ -14,9 +14,8 @@ use Rattle.model.specs.Heads.{is-function}
 use Rattle.model.specs.Letters.{letter, letters, row-shape, row-letter}
 use Rattle.model.specs.Values.{closure}
 use Rattle.model.specs.Run.{run}
-use Rattle.model.specs.Bads.{letter-of}
 use Rattle.model.specs.Tables.{Tables}
-use Rattle.model.specs.Counters.{counter-of}
+use Rattle.model.specs.Counters.{letter-of, counter-of}
 use Rattle.model.specs.Markings.{standing, count-in}
 use Rattle.model.specs.Verify.{message}
 use Rattle.model.specs.Demands.{Mails-no-function}

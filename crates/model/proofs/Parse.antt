@@ -7,4 +7,3 @@ pub mod Locations
 pub mod Functions
 pub mod Branches
 pub mod Lengths
-pub mod Innermost

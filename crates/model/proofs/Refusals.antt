@@ -13,15 +13,17 @@ use Rattle.model.specs.declared.Sizes.{Sizes}
 use Rattle.model.specs.declared.Verdict.{Verdict}
 use Rattle.model.specs.declared.Verdict.the-variants.{Safe, Row, Name, Scope, Bad, Entry, Open, Counters, Ceiling, Start, Met, Space, FunctionMailed}
 use Rattle.model.specs.Limits.{Limits}
-use Rattle.model.specs.Words.{Columns, left, right}
+use Rattle.model.specs.Words.{Columns}
+use Rattle.model.specs.Keys.{Key}
 use Rattle.model.specs.Verdict.{Check, _>>_}
 use Rattle.model.specs.Message.{bads-at, tables-at, ceilings-at, parts-check}
 use Rattle.model.specs.Reader.{Grammar, first-wrong}
-use Rattle.model.specs.Rows.{Program, size, tag, is-head, is-name, step, whole, row-check}
+use Rattle.model.specs.Rows.{Program, size, is-name, step, whole, row-check}
 use Rattle.model.specs.Scopes.{bound-again, name-check, out-of-scope, scope-check}
 use Rattle.model.specs.Heads.{is-class}
 use Rattle.model.specs.Bads.{bad, bad-step, bad-row, bad-check}
 use Rattle.model.specs.Tables.{Tables, is-value, first-misplaced, list-check, entry-check, mailed-check}
+use Rattle.model.specs.Tables.{state-at, pair-key, state-key}
 use Rattle.model.specs.Closed.{opening-closed, open-check}
 use Rattle.model.specs.Counters.{counter-count, counter-check}
 use Rattle.model.specs.Rules.{rules}
@@ -31,7 +33,7 @@ use Rattle.model.specs.Ceilings.{Ceilings, ceiling-entries, ceiling-step
 use Rattle.model.specs.Verify.{Message, message, program-check, evidence-check, ceilings-check, message-check, check, answer, verdict-within}
 use Rattle.model.specs.Wanted.{Present, Wanted-first}
 use Rattle.model.specs.Wanted.{Entry as Table-entry}
-use Rattle.model.specs.Demands.{Bytes, Listed, Under-one}
+use Rattle.model.specs.Demands.{Bytes, Legal-pair, two-columns, Pairs-listed, Legal-state, three-columns, Under-one}
 use Rattle.model.specs.Refusals.{First-such, Behind, Behind, Message-part, parts, Whole, Wrong, Bound-again, Bound, Reads-outside, Placed, Lacks, Allowed, Passed, Refused, Refused-exactly, Said, Verdict-exactly, of-sound, of-refused}
 use Rattle.model.specs.Refusals.{parts-passed, rows-passed, names-passed, scopes-passed, bads-passed, entries-passed, closed-passed, mailed-passed, counters-passed, ceilings-passed, start-passed, bad-passed, kept-passed}
 use Rattle.model.specs.Refusals.{sizes-short, arrays-short, bytes-remain, size-outside, row-wrong, name-again, name-unbound, scope-left, bad-wrong, flow-misplaced, mail-misplaced, state-misplaced, opening-missing, state-open, function-mailed, counters-over, ceiling-wrong, start-outside, bad-met, ceiling-left, no-space}
@@ -44,7 +46,8 @@ use Rattle.model.proofs.Exact.Parts.{Part-wrong, parts-none, parts-some
 use Rattle.model.proofs.Exact.Reading.{first-wrong-some}
 use Rattle.model.proofs.Exact.Rows.{row-none, reads-name}
 use Rattle.model.proofs.Exact.Names.{None-again, again-iff, again-none, once-iff, binder-iff, name-none, outside-iff}
-use Rattle.model.proofs.Exact.Entries.{placed-iff, list-none, entry-none, mailed-none, mailed-some, bad-none, ceiling-none}
+use Rattle.model.proofs.Exact.Entries.{placed-iff, list-none, entry-none, mailed-none, mailed-some, bad-none}
+use Rattle.model.proofs.Exact.Entries.{ceiling-none, pair-iff, state-iff}
 use Rattle.model.proofs.Exact.Closed.{finds-first, lacks-iff, function-below, open-none}
 use Rattle.model.proofs.Exact.Finds.{Finds, found-iff, missing-iff}
 use Rattle.model.proofs.Bounded.Under.{under-some-exact}
@@ -62,12 +65,12 @@ wrong-some step rows items f v =
     )
 
 -- a list refuses its first misplaced entry
-abbrev Misplaced : (ℕ → Bool) → (ℕ → Bool) → Columns → ℕ → Verdict → Type 0
-Misplaced l r c at v = (i : ℕ) × First-such (c .size) (λ j. Placed l r c j → ⊥) i × (Entry (at + i) ≡ v)
+abbrev Misplaced : ℕ → (ℕ → Type 0) → (ℕ → Key) → ℕ → Verdict → Type 0
+Misplaced n In-range key at v = (i : ℕ) × First-such n (λ j. Placed In-range key j → ⊥) i × (Entry (at + i) ≡ v)
 
-list-some : (l r : ℕ → Bool) (c : Columns) (at : ℕ) (v : Verdict) → (list-check at l r c ≡ some v) ↔ Misplaced l r c at v
+list-some : (n : ℕ) (in-range : ℕ → Bool) (key : ℕ → Key) {In-range : ℕ → Type 0} → ((i : ℕ) → (in-range i ≡ true) ↔ In-range i) → (at : ℕ) (v : Verdict) → (list-check at n in-range key ≡ some v) ↔ Misplaced n In-range key at v
 unfolding list-check first-misplaced
-list-some l r c at v = first-some (c .size) _ (λ i b. passes-iff _ (placed-iff c l r i)) (λ i. Entry (at + i)) v
+list-some n in-range key ranged at v = first-some n _ (λ i b. passes-iff _ (placed-iff n in-range key ranged i)) (λ i. Entry (at + i)) v
 
 -- one check after the other
 then-assoc : (a b c : Check) → ((a >> b) >> c) ≡ (a >> (b >> c))
@@ -129,23 +132,28 @@ module _ (most : Limits) (bytes : List ℕ) (short : Bytes bytes) (lent : ℕ) w
   bad-some v = wrong-some (bad-step p) (m .bads) (replicate (s .bads) bad) (λ r. Bad (bads-at s + 2 + r)) v
 
   abbrev Flow-listed : Type 0
-  Flow-listed = Listed (is-name p) (is-value p) (t .flow)
+  Flow-listed = Pairs-listed (is-name p) (is-value p) (t .flow)
 
   abbrev Mail-listed : Type 0
-  Mail-listed = Listed (is-class p) (is-value p) (t .mail)
+  Mail-listed = Pairs-listed (is-class p) (is-value p) (t .mail)
 
-  entry-some : (v : Verdict) → (entry-check s p t ≡ some v) ↔ (Misplaced (is-name p) (is-value p) (t .flow) (tables-at s + 3) v ⊎ (Flow-listed × (Misplaced (is-class p) (is-value p) (t .mail) (tables-at s + 3 + s .flows) v ⊎ (Mail-listed × Misplaced (is-class p) (λ r. is-head (tag p r)) (t .states) (tables-at s + 3 + s .flows + s .mails) v))))
-  unfolding entry-check
+  abbrev Pair-misplaced : (ℕ → Bool) → (ℕ → Bool) → Columns → ℕ → Verdict → Type 0
+  Pair-misplaced l r c = Misplaced (c .size) (Legal-pair l r c) (two-columns c)
+
+  entry-some : (v : Verdict) → (entry-check s p t ≡ some v) ↔ (Pair-misplaced (is-name p) (is-value p) (t .flow) (tables-at s + 3) v ⊎ (Flow-listed × (Pair-misplaced (is-class p) (is-value p) (t .mail) (tables-at s + 3 + s .flows) v ⊎ (Mail-listed × Misplaced (t .states .size) (Legal-state p t) (three-columns t) (tables-at s + 3 + s .flows + s .mails) v))))
+  unfolding entry-check pair-key state-key state-at
   entry-some v =
-      then-some-iff _ _ v (list-none (t .flow) (is-name p) (is-value p) _) (list-some (is-name p) (is-value p) (t .flow) _ v)
-      (then-some-iff _ _ v (list-none (t .mail) (is-class p) (is-value p) _) (list-some (is-class p) (is-value p) (t .mail) _ v)
-      (list-some (is-class p) (λ r. is-head (tag p r)) (t .states) _ v))
+      let flow = pair-iff (is-name p) (is-value p) (t .flow) in
+      let mail = pair-iff (is-class p) (is-value p) (t .mail) in
+      then-some-iff _ _ v (list-none (t .flow .size) _ _ flow _) (list-some (t .flow .size) _ _ flow _ v)
+      (then-some-iff _ _ v (list-none (t .mail .size) _ _ mail _) (list-some (t .mail .size) _ _ mail _ v)
+      (list-some (t .states .size) _ _ (state-iff p t) _ v))
 
   opening : Finds t (opening-closed p t) (Wanted-first p)
   unfolding message
   opening = finds-first p t (function-below (m .words) s)
 
-  open-some : (v : Verdict) → (open-check s p t ≡ some v) ↔ ((((e : Table-entry) × Wanted-first p e × (Present t e → ⊥)) × (Open (tables-at s) ≡ v)) ⊎ (((e : Table-entry) → Wanted-first p e → Present t e) × ((i : ℕ) × First-such (t .states .size) (λ j. Lacks p t (left (t .states) j) (right (t .states) j)) i × (Open (tables-at s + 3 + s .flows + s .mails + i) ≡ v))))
+  open-some : (v : Verdict) → (open-check s p t ≡ some v) ↔ ((((e : Table-entry) × Wanted-first p e × (Present t e → ⊥)) × (Open (tables-at s) ≡ v)) ⊎ (((e : Table-entry) → Wanted-first p e → Present t e) × ((i : ℕ) × First-such (t .states .size) (λ j. Lacks p t (state-at t j)) i × (Open (tables-at s + 3 + s .flows + s .mails + i) ≡ v))))
   unfolding open-check
   open-some v =
       then-some-iff _ _ v (unless-iff _ _ (found-iff t opening)) (Iff·trans (unless-some _ _ v) (Iff·and (missing-iff t opening) Iff·rfl))
@@ -174,10 +182,10 @@ module _ (most : Limits) (bytes : List ℕ) (short : Bytes bytes) (lent : ℕ) w
   bads-known (start-passed (ceilings-passed (counters-passed (mailed-passed (closed-passed (entries-passed (bads-passed x bads) flow mail states) closed) mailed) few) form) under) = bads
 
   met-none : Passed most bytes 12 → (met-check s p t bs (m .bads) ≡ none) ↔ ((j : ℕ) → j < s .bads → Allowed m j → ⊥)
-  met-none x = met-exact bytes short (keys x) (bads-known x)
+  met-none x = met-exact bytes short (bads-known x)
 
   met-some : Passed most bytes 12 → (v : Verdict) → (met-check s p t bs (m .bads) ≡ some v) ↔ ((j : ℕ) × First-such (s .bads) (Allowed m) j × (Met (bads-at s + 2 + bad-row p (m .bads) j) ≡ v))
-  met-some x = met-refuses bytes short (keys x) (bads-known x)
+  met-some x = met-refuses bytes short (bads-known x)
 
   keys-met : Passed most bytes 13 → Keys p t
   keys-met (bad-passed x n) = keys x

@@ -10,10 +10,12 @@ use Rattle.model.specs.Rows.{Program, size, tag}
 use lib.Dec.{eqb}
 use borrow.Author.Tests.{eq-eqb}
 use Rattle.model.specs.Heads.{start, is-class}
-use Rattle.model.specs.Letters.{letters, row-letter}
+use Rattle.model.specs.Letters.{letters, row-letter, return-of}
 use Rattle.model.specs.Values.{Processes}
 use Rattle.model.specs.Run.{step-of, starting, next, run-from, run}
 use Rattle.model.specs.Tables.{Tables}
+use Rattle.model.specs.Tables.{state as triple}
+use Rattle.model.specs.Closed.{start-state}
 use Rattle.model.specs.Rules.{Rule, rules}
 use Rattle.model.specs.Markings.{Marking, usable, fire, initial, fire-all}
 use Rattle.model.specs.Verify.{Message}
@@ -139,12 +141,12 @@ module _ (m : Message) (fit : Rows-fit (m .program)) (w : Columns-whole (m .prog
       }
 
   start-good : Kept (starting p)
-  unfolding starting classes-of is-class
+  unfolding starting classes-of is-class return-of
   start-good = (
     record {
       location = start-location fit;
       class = or-right (eqb (tag p (size p)) 6) (eqb (size p) (size p)) (eq-eqb (size p) (size p) refl);
-      present = closed (state (size p) (start p)) (by-opening first-state);
+      present = closed (state (triple (size p) (start p) (size p))) (by-opening first-state);
       held = tt;
       frames = tt;
       mailbox = λ v there. absurd (List·Memᴰ·not-nil there);
@@ -163,7 +165,8 @@ module _ (m : Message) (fit : Rows-fit (m .program)) (w : Columns-whole (m .prog
   run-good is = kept-on (starting p) start-good is
 
   start-agrees : Agrees m (starting p) (initial p t)
-  start-agrees = record { equal = equal-start m (closed (state (size p) (start p)) (by-opening first-state)); bounded = inductive .contain-start }
+  unfolding start-state
+  start-agrees = record { equal = equal-start m (closed (state (triple (size p) (start p) (size p))) (by-opening first-state)); bounded = inductive .contain-start }
 
   pub all-runs-followed : All-runs-followed m (rules p t)
   unfolding run

@@ -9,13 +9,14 @@ use lib.ListN.{length, getD, getElem?, set, length-map}
 use Rattle.model.specs.Rows.{Program, size, tag, kind}
 use Rattle.model.specs.Scopes.{rest}
 use Rattle.model.specs.Heads.{body}
-use Rattle.model.specs.Letters.{letters, row-letter, value-letter}
+use Rattle.model.specs.Letters.{letters, row-letter, value-letter, return-of, state-in}
 use Rattle.model.specs.Values.{Value, Process, process, Processes}
 use Rattle.model.specs.Run.{moved, spawned, act, step-of}
-use Rattle.model.specs.Tables.{Tables, State, state}
+use Rattle.model.specs.Tables.{Tables, State, onward}
+use Rattle.model.specs.Tables.{state as triple}
 use Rattle.model.specs.Counters.{letter-key, has-letter}
 use Rattle.model.specs.Rules.{rules}
-use Rattle.model.specs.Wanted.{Member, Closed}
+use Rattle.model.specs.Wanted.{Member, Listed-state, Closed}
 use Rattle.model.proofs.Reader.{by-option}
 use Rattle.model.proofs.Heads.{by-kind}
 use Rattle.model.proofs.Acts.{act-other}
@@ -40,8 +41,8 @@ pub record Stepped (p : Program) (t : Tables) (qs qs′ : Processes) : Type 0 wh
   pub change : Change
   pub is-rule : List·Memᴰ (rule-of p t from to change) (rules p t)
   pub moves : Moves p qs qs′ from to change
-  pub from-there : Member (t .states) (from .class) (from .location)
-  pub to-there : Member (t .states) (to .class) (to .location)
+  pub from-there : Listed-state t from
+  pub to-there : Listed-state t to
   pub known : Known p t change
   pub good : All-good p t (classes-of qs′) qs′
 
@@ -96,8 +97,8 @@ module _ (p : Program) (t : Tables) (fit : Rows-fit p) (w : Columns-whole p) (pa
       let q′ : Process = process (q .class) (x .to) (x .held) (x .frames) (q .mailbox) in
       subst (Stepped p t qs) (sym (x .result))
       (record {
-        from = state (q .class) (q .location);
-        to = state (q .class) (x .to);
+        from = state-in p q;
+        to = state-in p q′;
         change = no-change;
         is-rule = x .follows;
         moves = moves-on p qs i q q′ there refl refl;
@@ -114,8 +115,8 @@ module _ (p : Program) (t : Tables) (fit : Rows-fit p) (w : Columns-whole p) (pa
       let (mailed, same) = x .mailed in
       subst (Stepped p t qs) (sym (x .result))
       (record {
-        from = state (q .class) (q .location);
-        to = state (q .class) (x .to);
+        from = state-in p q;
+        to = state-in p q′;
         change = read-one (q .class) (value-letter p v);
         is-rule = x .follows;
         moves = receives-one p qs i q q′ there refl (x .branches) (x .received) (x .taken) refl;
@@ -157,10 +158,10 @@ module _ (p : Program) (t : Tables) (fit : Rows-fit p) (w : Columns-whole p) (pa
       let (a, found, moves) = sends-one p qs i q q′ there refl (x .target) v qs′ refl (x .result) in
       let (inside, same-class) = classes-at qs (x .target) a found in
       record {
-        from = state (q .class) (q .location);
-        to = state (q .class) (rest p (q .location));
+        from = state-in p q;
+        to = onward (state-in p q) (rest p (q .location));
         change = put-one (a .class) (value-letter p v);
-        is-rule = subst (λ (c : ℕ). List·Memᴰ (rule-of p t (state (q .class) (q .location)) (state (q .class) (rest p (q .location))) (put-one c (value-letter p v))) (rules p t)) same-class (x .follows);
+        is-rule = subst (λ (c : ℕ). List·Memᴰ (rule-of p t (state-in p q) (onward (state-in p q) (rest p (q .location))) (put-one c (value-letter p v))) (rules p t)) same-class (x .follows);
         moves = moves;
         from-there = q-good .present;
         to-there = x .good .present;
@@ -170,7 +171,7 @@ module _ (p : Program) (t : Tables) (fit : Rows-fit p) (w : Columns-whole p) (pa
 
   -- a process spawned: classes grow by its own
   spawning : Spawned p t classes qs i q qs′ → Stepped p t qs qs′
-  unfolding moved spawned
+  unfolding moved spawned return-of
   spawning x =
       let q′ : Process = moved q (rest p (q .location)) (x .held) in
       let new : Process = spawned p (q .location) (x .function) in
@@ -178,9 +179,9 @@ module _ (p : Program) (t : Tables) (fit : Rows-fit p) (w : Columns-whole p) (pa
       classes-append (set qs i q′) new ∙ ap {B = List ℕ} (λ l. l ++ (q .location ∷ [])) (classes-set qs i q q′ there refl) in
       subst (Stepped p t qs) (sym (x .result))
       (record {
-        from = state (q .class) (q .location);
-        to = state (q .class) (rest p (q .location));
-        change = start-one (state (q .location) (body p (x .function .row)));
+        from = state-in p q;
+        to = onward (state-in p q) (rest p (q .location));
+        change = start-one (triple (q .location) (body p (x .function .row)) (size p));
         is-rule = x .follows;
         moves = starts-one p qs i q q′ there refl new refl refl;
         from-there = q-good .present;

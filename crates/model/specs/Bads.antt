@@ -47,27 +47,38 @@ bad-check ws s p =
 unfoldable pub bad-row : Program → Columns → ℕ → ℕ
 bad-row p rows j = after (bad-step p) rows (replicate j bad) 0
 
--- what an item asks the count of: "(40, class), (41, head) or (42, letter)"
-pub data Counted : Type 0 where
-  state-of : (class head : ℕ) → Counted
-  letter-of : (class letter : ℕ) → Counted
+-- What an item asks the count of: "(40, class), (41, head) or (42, letter)". Document 02, (iv): "A bad on (class, head)
+-- now counts the sum over the third column".
+pub data Subject : Type 0 where
+  at-head : (class head : ℕ) → Subject
+  of-letter : (class letter : ℕ) → Subject
 
-unfoldable pub counted : Columns → ℕ → Counted
-counted rows r =
+unfoldable pub subject-at : Columns → ℕ → Subject
+subject-at rows r =
     elim (eqb (left rows (r + 1)) tag-head) [
-      | true ↦ state-of (right rows r) (right rows (r + 1))
-      | false ↦ letter-of (right rows r) (right rows (r + 1))
+      | true ↦ at-head (right rows r) (right rows (r + 1))
+      | false ↦ of-letter (right rows r) (right rows (r + 1))
     ]
 
--- "it is met when every item is, an item when its count is at least its minimum": by the counts, from row r on; n rows
--- are left
-unfoldable pub met-from : (Counted → ℕ) → Columns → ℕ → ℕ → Bool
-met-from counts rows zero r = true
-met-from counts rows (suc n) r =
-    elim (eqb (left rows r) tag-class) [
-      | true ↦ leb (right rows (r + 2)) (counts (counted rows r)) && met-from counts rows n (r + 3)
-      | false ↦ true
-    ]
+-- an item: its subject, and its minimum
+pub record Item : Type 0 where
+  pub subject : Subject
+  pub minimum : ℕ
 
-unfoldable pub met : (Counted → ℕ) → Columns → ℕ → Bool
-met counts rows r = met-from counts rows (rows .size - r) r
+unfoldable pub item-at : Columns → ℕ → Item
+item-at rows r = record { subject = subject-at rows r; minimum = right rows (r + 2) }
+
+-- the items from row r on, until a row begins none; n rows are left
+unfoldable pub items-from : Columns → ℕ → ℕ → List Item
+items-from rows zero r = []
+items-from rows (suc n) r =
+    elim (eqb (left rows r) tag-class) [ true ↦ item-at rows r ∷ items-from rows n (r + 3) | false ↦ [] ]
+
+-- the items of bad number j
+unfoldable pub items : Program → Columns → ℕ → List Item
+items p rows j = items-from rows (rows .size - bad-row p rows j) (bad-row p rows j)
+
+-- "it is met when every item is, an item when its count is at least its minimum": by the counts
+unfoldable pub met : (Subject → ℕ) → List Item → Bool
+met counts [] = true
+met counts (i ∷ is) = leb (i .minimum) (counts (i .subject)) && met counts is

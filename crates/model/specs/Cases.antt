@@ -14,6 +14,9 @@ use Rattle.model.specs.Verify.{verdict-within, lent-after-within, part-h
 abbrev pub Pairs : Type 0
 Pairs = List (ℕ × ℕ)
 
+abbrev pub Triples : Type 0
+Triples = List (ℕ × ℕ × ℕ)
+
 unfoldable pub arrays : Pairs → List ℕ
 arrays ps = map (λ x. x .0) ps ++ map (λ x. x .1) ps
 
@@ -23,8 +26,15 @@ program-words names constructors functions rows = length rows ∷ names ∷ cons
 unfoldable pub bad-words : ℕ → Pairs → List ℕ
 bad-words bads rows = bads ∷ length rows ∷ arrays rows
 
-unfoldable pub table-words : Pairs → Pairs → Pairs → List ℕ
-table-words flow mail states = length flow ∷ length mail ∷ length states ∷ arrays (flow ++ mail ++ states)
+-- document 02, (iv): the states' third numbers stand behind both columns of all three lists
+unfoldable pub table-words : Pairs → Pairs → Triples → List ℕ
+table-words flow mail states =
+    length flow ∷ length mail ∷ length states ∷
+    (arrays (flow ++ mail ++ map (λ x. (x .0, x .1)) states) ++ map (λ x. x .2) states)
+
+-- states that all return to b, by class and head
+unfoldable pub returning : ℕ → Pairs → Triples
+returning b = map (λ x. (x .0, x .1, b))
 
 unfoldable pub ceiling-words : ℕ → Pairs → List ℕ
 ceiling-words ceilings entries = ceilings ∷ length entries ∷ arrays entries
@@ -81,10 +91,10 @@ a-program = program-words 3 1 0
 unfoldable pub a-bads : List ℕ
 a-bads = bad-words 1 ((40, 10) ∷ (42, 0) ∷ (43, 2) ∷ (44, 0) ∷ [])
 
--- "Tables 3 1 5"
+-- "Tables 3 1 5"; document 02, (iv): "its message becomes five words longer". No call is pushed at any time.
 unfoldable pub a-tables : List ℕ
 a-tables = table-words ((0, 10) ∷ (1, 2) ∷ (2, 2) ∷ []) ((10, 2) ∷ [])
-    ((10, 1) ∷ (10, 2) ∷ (10, 4) ∷ (10, 7) ∷ (10, 9) ∷ [])
+    (returning 10 ((10, 1) ∷ (10, 2) ∷ (10, 4) ∷ (10, 7) ∷ (10, 9) ∷ []))
 
 -- "Ceilings 5 11"
 unfoldable pub a-ceilings : List ℕ
@@ -111,7 +121,7 @@ a-listing =
     50 ∷ 51 ∷ 50 ∷ 51 ∷ 50 ∷ 51 ∷ 53 ∷ 50 ∷ 51 ∷ 52 ∷
     0 ∷ 1 ∷ 1 ∷ 2 ∷ 2 ∷ 3 ∷ 5 ∷ 3 ∷ 4 ∷ 5 ∷ []
 
--- "Proved": the twelve cases, in the paper's order
+-- "Proved": the twelve cases, in the paper's order; document 02, (iv): "places from its ceilings on move by five"
 unfoldable pub proved-cases : List Case
 proved-cases =
     -- no bytes: 1 at 0
@@ -120,8 +130,8 @@ proved-cases =
     safe 6 a-program (to-bytes a-words) a-listing ∷
     -- R 1,025: 2 at 0, which document 02, (vi), makes R 1,537
     refused 30 (with-word 0 1537) 2 0 ∷
-    -- a byte more: 1 at 79
-    refused 30 (to-bytes a-words ++ (0 ∷ [])) 1 79 ∷
+    -- a byte more: 1 at 79, now 84
+    refused 30 (to-bytes a-words ++ (0 ∷ [])) 1 84 ∷
     -- row 4 (5,1): 4 at 8 (the number of row r is word 14 + r)
     refused 30 (with-word 18 1) 4 8 ∷
     -- row 5 (21,2): 5 at 9
@@ -132,21 +142,22 @@ proved-cases =
     refused 30
     (with-tables
     (table-words ((0, 10) ∷ (1, 2) ∷ (2, 2) ∷ []) []
-    ((10, 1) ∷ (10, 2) ∷ (10, 4) ∷ (10, 7) ∷ (10, 9) ∷ []))) 8 42 ∷
-    -- first ceiling gone: 11 at 55
+    (returning 10 ((10, 1) ∷ (10, 2) ∷ (10, 4) ∷ (10, 7) ∷ (10, 9) ∷ [])))) 8 42 ∷
+    -- first ceiling gone: 11 at 55, now 60
     refused 30
     (with-ceilings
-    (ceiling-words 4 ((1, 1) ∷ (6, 0) ∷ (2, 1) ∷ (6, 0) ∷ (3, 1) ∷ (5, 1) ∷ (6, 0) ∷ (4, 1) ∷ (6, 0) ∷ []))) 11 55 ∷
-    -- last gone: 13 at 63
+    (ceiling-words 4 ((1, 1) ∷ (6, 0) ∷ (2, 1) ∷ (6, 0) ∷ (3, 1) ∷ (5, 1) ∷ (6, 0) ∷ (4, 1) ∷ (6, 0) ∷ []))) 11 60 ∷
+    -- last gone: 13 at 63, now 68
     refused 30
     (with-ceilings
-    (ceiling-words 4 ((0, 1) ∷ (6, 0) ∷ (1, 1) ∷ (6, 0) ∷ (2, 1) ∷ (6, 0) ∷ (3, 1) ∷ (5, 1) ∷ (6, 0) ∷ []))) 13 63 ∷
-    -- one ceiling, counters 0 to 4 unbounded, counter 5 at 65,534, minimum 65,535: 13 at 57
+    (ceiling-words 4 ((0, 1) ∷ (6, 0) ∷ (1, 1) ∷ (6, 0) ∷ (2, 1) ∷ (6, 0) ∷ (3, 1) ∷ (5, 1) ∷ (6, 0) ∷ []))) 13 68 ∷
+    -- one ceiling, counters 0 to 4 unbounded, counter 5 at 65,534, minimum 65,535: 13 at 57,
+    -- now 62
     refused 30
     (to-bytes
     (set (a-program ++ a-bads ++ a-tables ++ ceiling-words 1
     ((0, 65535) ∷ (1, 65535) ∷ (2, 65535) ∷ (3, 65535) ∷ (4, 65535) ∷ (5, 65534) ∷ (6, 0) ∷ [])) 32 65535))
-    13 57 ∷
+    13 62 ∷
     -- lent 23 words: 14 at 24
     refused 23 (to-bytes a-words) 14 24 ∷
     []
@@ -166,9 +177,10 @@ two-receives-bads = bad-words 1 ((40, 14) ∷ (42, 0) ∷ (43, 2) ∷ (44, 0) �
 
 -- flow: x holds class 14, m and what the send yields and y hold row 2; mail (14, 2); the states given
 unfoldable pub two-receives-with : Pairs → List ℕ
-two-receives-with states =
+two-receives-with heads =
     to-bytes
-    (two-receives ++ two-receives-bads ++ table-words ((0, 14) ∷ (1, 2) ∷ (2, 2) ∷ (3, 2) ∷ []) ((14, 2) ∷ []) states ++
+    (two-receives ++ two-receives-bads ++
+    table-words ((0, 14) ∷ (1, 2) ∷ (2, 2) ∷ (3, 2) ∷ []) ((14, 2) ∷ []) (returning 14 heads) ++
     ceiling-words 6
     ((0, 1) ∷ (8, 0) ∷ (1, 1) ∷ (8, 0) ∷ (2, 1) ∷ (8, 0) ∷ (3, 1) ∷ (7, 1) ∷ (8, 0) ∷ (4, 1) ∷ (8, 0) ∷ (6, 1) ∷
     (8, 0) ∷ []))
@@ -181,7 +193,8 @@ two-receives-listing =
     50 ∷ 51 ∷ 50 ∷ 51 ∷ 50 ∷ 51 ∷ 53 ∷ 50 ∷ 51 ∷ 52 ∷ 50 ∷ 51 ∷ 52 ∷ 50 ∷ 51 ∷ 52 ∷
     0 ∷ 1 ∷ 1 ∷ 2 ∷ 2 ∷ 3 ∷ 7 ∷ 3 ∷ 4 ∷ 7 ∷ 3 ∷ 6 ∷ 7 ∷ 4 ∷ 5 ∷ 7 ∷ []
 
--- One function, two callers. f(a) = a; b = c0; r = f(b); s = f(r); s. Giving back from row 4 leads behind either call.
+-- One function, two callers. f(a) = a; b = c0; r = f(b); s = f(r); s. Giving back from row 4 leads behind the call
+-- that is pushed.
 unfoldable pub two-callers : List ℕ
 two-callers = program-words 5 1 1
     ((10, 0) ∷ (11, 0) ∷ (22, 1) ∷ (23, 1) ∷ (1, 1) ∷ (2, 2) ∷ (20, 0) ∷ (4, 3) ∷ (21, 0) ∷ (22, 1) ∷ (21, 2) ∷
@@ -193,15 +206,16 @@ unfoldable pub two-callers-evidence : List ℕ
 two-callers-evidence =
     bad-words 1 ((40, 16) ∷ (41, 5) ∷ (43, 2) ∷ (44, 0) ∷ []) ++
     table-words ((0, 1) ∷ (1, 5) ∷ (2, 5) ∷ (3, 5) ∷ (4, 5) ∷ []) []
-    ((16, 4) ∷ (16, 5) ∷ (16, 7) ∷ (16, 11) ∷ (16, 15) ∷ []) ++
-    ceiling-words 5 ((0, 1) ∷ (5, 0) ∷ (1, 1) ∷ (5, 0) ∷ (2, 1) ∷ (5, 0) ∷ (3, 1) ∷ (5, 0) ∷ (4, 1) ∷ (5, 0) ∷ [])
+    ((16, 4, 7) ∷ (16, 4, 11) ∷ (16, 5, 16) ∷ (16, 7, 16) ∷ (16, 11, 16) ∷ (16, 15, 16) ∷ []) ++
+    ceiling-words 6
+    ((0, 1) ∷ (6, 0) ∷ (1, 1) ∷ (6, 0) ∷ (2, 1) ∷ (6, 0) ∷ (3, 1) ∷ (6, 0) ∷ (4, 1) ∷ (6, 0) ∷ (5, 1) ∷ (6, 0) ∷ [])
 
--- state 0, at row 4, has a rule to the rest of each call: states 3 (row 11) and 4 (row 15)
+-- states 0 and 1, at row 4, each have a rule to the rest of their call: states 4 (row 11) and 5 (row 15)
 unfoldable pub two-callers-listing : List ℕ
 two-callers-listing =
-    5 ∷ 0 ∷ 5 ∷ 10 ∷
+    6 ∷ 0 ∷ 5 ∷ 10 ∷
     50 ∷ 51 ∷ 50 ∷ 51 ∷ 50 ∷ 51 ∷ 50 ∷ 51 ∷ 50 ∷ 51 ∷
-    0 ∷ 3 ∷ 0 ∷ 4 ∷ 1 ∷ 2 ∷ 2 ∷ 0 ∷ 3 ∷ 0 ∷ []
+    0 ∷ 4 ∷ 1 ∷ 5 ∷ 2 ∷ 3 ∷ 3 ∷ 0 ∷ 4 ∷ 1 ∷ []
 
 -- A name two levels deep. a = c0; b = c1(a); d = c1(b); case d of { c1(c1(x)) -> x }
 unfoldable pub nested : List ℕ
@@ -214,7 +228,7 @@ unfoldable pub nested-with : Pairs → List ℕ
 nested-with flow =
     to-bytes
     (nested ++ bad-words 1 ((40, 16) ∷ (41, 2) ∷ (43, 2) ∷ (44, 0) ∷ []) ++
-    table-words flow [] ((16, 2) ∷ (16, 4) ∷ (16, 7) ∷ (16, 10) ∷ (16, 15) ∷ []) ++
+    table-words flow [] (returning 16 ((16, 2) ∷ (16, 4) ∷ (16, 7) ∷ (16, 10) ∷ (16, 15) ∷ [])) ++
     ceiling-words 5 ((0, 1) ∷ (5, 0) ∷ (1, 1) ∷ (5, 0) ∷ (2, 1) ∷ (5, 0) ∷ (3, 1) ∷ (5, 0) ∷ (4, 1) ∷ (5, 0) ∷ []))
 
 unfoldable pub nested-listing : List ℕ
@@ -231,9 +245,10 @@ two-classes = program-words 10 1 2
     (5, 5) ∷ (21, 3) ∷ (21, 4) ∷ (1, 5) ∷ (6, 6) ∷ (21, 0) ∷ (4, 7) ∷ (21, 2) ∷ (22, 1) ∷ (21, 6) ∷ (7, 8) ∷ (4, 9) ∷
     (21, 2) ∷ (22, 1) ∷ (21, 8) ∷ (1, 9) ∷ [])
 
--- The given mail. States 0 (15,3), 1 (15,5), 2 (27,9), 3 (27,11), 4 (27,14), 5 (27,15), 6 (27,17), 7 (27,21), 8
--- (27,22), 9 (27,26); letter counters 10 for (15, 0) and 11 for (27, 0). Nothing leads to state 5, so one ceiling keeps
--- it at 1 and all else unbounded. The bad: two processes at row 15.
+-- The given mail. The body of g, rows 9, 11 and 14, once for each of the calls of rows 17 and 22: states 0 (15,3), 1
+-- (15,5), 2 and 3 (27,9), 4 and 5 (27,11), 6 and 7 (27,14), 8 (27,15), 9 (27,17), 10 (27,21), 11 (27,22), 12 (27,26);
+-- letter counters 13 for (15, 0) and 14 for (27, 0). Nothing leads to state 8, so one ceiling keeps it at 1 and all
+-- else unbounded. The bad: two processes at row 15.
 unfoldable pub two-classes-with : Pairs → List ℕ
 two-classes-with mail =
     to-bytes
@@ -241,19 +256,21 @@ two-classes-with mail =
     table-words
     ((0, 1) ∷ (1, 9) ∷ (2, 6) ∷ (3, 15) ∷ (3, 27) ∷ (4, 9) ∷ (5, 9) ∷ (6, 15) ∷ (7, 9) ∷ (8, 27) ∷ (9, 9) ∷
     []) mail
-    ((15, 3) ∷ (15, 5) ∷ (27, 9) ∷ (27, 11) ∷ (27, 14) ∷ (27, 15) ∷ (27, 17) ∷ (27, 21) ∷ (27, 22) ∷ (27, 26) ∷ []) ++
+    ((15, 3, 27) ∷ (15, 5, 27) ∷ (27, 9, 17) ∷ (27, 9, 22) ∷ (27, 11, 17) ∷ (27, 11, 22) ∷ (27, 14, 17) ∷
+    (27, 14, 22) ∷ (27, 15, 27) ∷ (27, 17, 27) ∷ (27, 21, 27) ∷ (27, 22, 27) ∷ (27, 26, 27) ∷ []) ++
     ceiling-words 1
-    ((0, 65535) ∷ (1, 65535) ∷ (2, 65535) ∷ (3, 65535) ∷ (4, 65535) ∷ (5, 1) ∷ (6, 65535) ∷ (7, 65535) ∷
-    (8, 65535) ∷ (9, 65535) ∷ (10, 65535) ∷ (11, 65535) ∷ (12, 0) ∷ []))
+    ((0, 65535) ∷ (1, 65535) ∷ (2, 65535) ∷ (3, 65535) ∷ (4, 65535) ∷ (5, 65535) ∷ (6, 65535) ∷ (7, 65535) ∷ (8, 1) ∷
+    (9, 65535) ∷ (10, 65535) ∷ (11, 65535) ∷ (12, 65535) ∷ (13, 65535) ∷ (14, 65535) ∷ (15, 0) ∷ []))
 
--- state 3, the send, puts into either class's mailboxes; state 4 gives back behind either call; state 5 starts a
--- process in state 0
+-- states 4 and 5, the send, put into either class's mailboxes; states 6 and 7 give back behind their call; state 8
+-- starts a process in state 0
 unfoldable pub two-classes-listing : List ℕ
 two-classes-listing =
-    10 ∷ 2 ∷ 10 ∷ 24 ∷
-    50 ∷ 51 ∷ 52 ∷ 50 ∷ 51 ∷ 50 ∷ 51 ∷ 53 ∷ 50 ∷ 51 ∷ 53 ∷ 50 ∷ 51 ∷ 50 ∷ 51 ∷ 50 ∷ 51 ∷ 54 ∷ 50 ∷ 51 ∷ 50 ∷ 51 ∷ 50 ∷
-    51 ∷
-    0 ∷ 1 ∷ 10 ∷ 2 ∷ 3 ∷ 3 ∷ 4 ∷ 10 ∷ 3 ∷ 4 ∷ 11 ∷ 4 ∷ 7 ∷ 4 ∷ 9 ∷ 5 ∷ 6 ∷ 0 ∷ 6 ∷ 2 ∷ 7 ∷ 8 ∷ 8 ∷ 2 ∷ []
+    13 ∷ 2 ∷ 13 ∷ 32 ∷
+    50 ∷ 51 ∷ 52 ∷ 50 ∷ 51 ∷ 50 ∷ 51 ∷ 50 ∷ 51 ∷ 53 ∷ 50 ∷ 51 ∷ 53 ∷ 50 ∷ 51 ∷ 53 ∷ 50 ∷ 51 ∷ 53 ∷ 50 ∷ 51 ∷ 50 ∷ 51 ∷
+    50 ∷ 51 ∷ 54 ∷ 50 ∷ 51 ∷ 50 ∷ 51 ∷ 50 ∷ 51 ∷
+    0 ∷ 1 ∷ 13 ∷ 2 ∷ 4 ∷ 3 ∷ 5 ∷ 4 ∷ 6 ∷ 13 ∷ 4 ∷ 6 ∷ 14 ∷ 5 ∷ 7 ∷ 13 ∷ 5 ∷ 7 ∷ 14 ∷ 6 ∷ 10 ∷ 7 ∷ 12 ∷
+    8 ∷ 9 ∷ 0 ∷ 9 ∷ 2 ∷ 10 ∷ 11 ∷ 11 ∷ 3 ∷ []
 
 -- A constructor pattern over an argument name without values. g(n) = (b = c1(n); b), never called; a = c0; case a of {
 -- c1(_) -> a; c0 -> g }. The tables say too much: a may be the row 5, c1(n). But n holds nothing, so the first branch
@@ -267,7 +284,7 @@ no-argument = program-words 4 2 1
 unfoldable pub no-argument-evidence : List ℕ
 no-argument-evidence =
     bad-words 1 ((40, 18) ∷ (41, 15) ∷ (43, 1) ∷ (44, 0) ∷ []) ++
-    table-words ((0, 2) ∷ (3, 5) ∷ (3, 9) ∷ []) [] ((18, 9) ∷ (18, 11) ∷ (18, 17) ∷ []) ++
+    table-words ((0, 2) ∷ (3, 5) ∷ (3, 9) ∷ []) [] (returning 18 ((18, 9) ∷ (18, 11) ∷ (18, 17) ∷ [])) ++
     ceiling-words 3 ((0, 1) ∷ (3, 0) ∷ (1, 1) ∷ (3, 0) ∷ (2, 1) ∷ (3, 0) ∷ [])
 
 unfoldable pub no-argument-listing : List ℕ
@@ -281,18 +298,19 @@ unfoldable pub endless : List ℕ
 endless = program-words 3 0 1
     ((11, 0) ∷ (22, 0) ∷ (4, 1) ∷ (21, 0) ∷ (22, 0) ∷ (1, 1) ∷ (4, 2) ∷ (21, 0) ∷ (22, 0) ∷ (1, 2) ∷ [])
 
--- one process, in state 0 or 1; the rule from 0 to 0 takes one and then adds one
+-- one process: in the body of f it returns to the call of row 6 at first, then to that of row 2; the rule from 0 to 0
+-- takes one and then adds one
 unfoldable pub endless-evidence : List ℕ
 endless-evidence =
-    bad-words 1 ((40, 10) ∷ (41, 2) ∷ (43, 2) ∷ (44, 0) ∷ []) ++ table-words ((0, 0) ∷ []) []
-    ((10, 2) ∷ (10, 6) ∷ []) ++
-    ceiling-words 2 ((0, 1) ∷ (2, 0) ∷ (1, 1) ∷ (2, 0) ∷ [])
+    bad-words 1 ((40, 10) ∷ (41, 2) ∷ (43, 2) ∷ (44, 0) ∷ []) ++
+    table-words ((0, 0) ∷ []) [] ((10, 2, 2) ∷ (10, 2, 6) ∷ (10, 6, 10) ∷ []) ++
+    ceiling-words 3 ((0, 1) ∷ (3, 0) ∷ (1, 1) ∷ (3, 0) ∷ (2, 1) ∷ (3, 0) ∷ [])
 
 unfoldable pub endless-listing : List ℕ
 endless-listing =
-    2 ∷ 0 ∷ 2 ∷ 4 ∷
-    50 ∷ 51 ∷ 50 ∷ 51 ∷
-    0 ∷ 0 ∷ 1 ∷ 0 ∷ []
+    3 ∷ 0 ∷ 3 ∷ 6 ∷
+    50 ∷ 51 ∷ 50 ∷ 51 ∷ 50 ∷ 51 ∷
+    0 ∷ 0 ∷ 1 ∷ 0 ∷ 2 ∷ 1 ∷ []
 
 -- A rule whose new state is its from. f() = (p = spawn f; p); q = spawn f; q. The body of f is the spawn at row 2: a
 -- process of class 2 starts one of class 2 at the same place.
@@ -304,7 +322,8 @@ brood = program-words 3 0 1 ((11, 0) ∷ (22, 0) ∷ (6, 1) ∷ (21, 0) ∷ (1, 
 unfoldable pub brood-evidence : List ℕ
 brood-evidence =
     bad-words 1 ((40, 2) ∷ (41, 2) ∷ (43, 2) ∷ (44, 0) ∷ []) ++
-    table-words ((0, 0) ∷ (1, 2) ∷ (2, 5) ∷ []) [] ((2, 2) ∷ (2, 4) ∷ (5, 2) ∷ (5, 4) ∷ (8, 5) ∷ (8, 7) ∷ []) ++
+    table-words ((0, 0) ∷ (1, 2) ∷ (2, 5) ∷ []) []
+    (returning 8 ((2, 2) ∷ (2, 4) ∷ (5, 2) ∷ (5, 4) ∷ (8, 5) ∷ (8, 7) ∷ [])) ++
     ceiling-words 3 ((4, 1) ∷ (6, 0) ∷ (2, 1) ∷ (5, 1) ∷ (6, 0) ∷ (0, 1) ∷ (1, 65535) ∷ (3, 1) ∷ (5, 1) ∷ (6, 0) ∷ [])
 
 unfoldable pub brood-listing : List ℕ
@@ -326,7 +345,7 @@ unfoldable pub selective-evidence : List ℕ
 selective-evidence =
     bad-words 1 ((40, 18) ∷ (42, 0) ∷ (43, 2) ∷ (44, 0) ∷ []) ++
     table-words ((0, 18) ∷ (1, 3) ∷ (2, 5) ∷ (3, 3) ∷ (4, 5) ∷ (5, 3) ∷ (5, 5) ∷ []) ((18, 3) ∷ (18, 5) ∷ [])
-    ((18, 2) ∷ (18, 3) ∷ (18, 5) ∷ (18, 7) ∷ (18, 10) ∷ (18, 13) ∷ (18, 15) ∷ (18, 17) ∷ []) ++
+    (returning 18 ((18, 2) ∷ (18, 3) ∷ (18, 5) ∷ (18, 7) ∷ (18, 10) ∷ (18, 13) ∷ (18, 15) ∷ (18, 17) ∷ [])) ++
     ceiling-words 8
     ((0, 1) ∷ (10, 0) ∷ (1, 1) ∷ (10, 0) ∷ (2, 1) ∷ (10, 0) ∷ (3, 1) ∷ (10, 0) ∷ (4, 1) ∷ (8, 1) ∷ (10, 0) ∷
     (5, 1) ∷ (8, 1) ∷ (9, 1) ∷ (10, 0) ∷ (6, 1) ∷ (8, 1) ∷ (10, 0) ∷ (7, 1) ∷ (10, 0) ∷ [])
@@ -358,9 +377,9 @@ own-cases =
     refused 40 (nested-with ((0, 2) ∷ (1, 4) ∷ (2, 7) ∷ (3, 4) ∷ [])) 8 56 ∷
     -- a send to both classes
     safe 3 two-classes (two-classes-with ((15, 9) ∷ (27, 9) ∷ [])) two-classes-listing ∷
-    -- without the second class's mail state 3, the send, lacks it: the first columns begin at word 71, eleven of flow,
-    -- one of mail, 71 + 12 + 3
-    refused 60 (two-classes-with ((15, 9) ∷ [])) 8 86 ∷
+    -- without the second class's mail state 4, the send, lacks it: the first columns begin at word 71, eleven of flow,
+    -- one of mail, 71 + 12 + 4
+    refused 60 (two-classes-with ((15, 9) ∷ [])) 8 87 ∷
     -- an argument name without values
     safe 0 no-argument (to-bytes (no-argument ++ no-argument-evidence)) no-argument-listing ∷
     -- from = to
@@ -370,19 +389,19 @@ own-cases =
     -- a message passed over
     safe 0 selective (to-bytes (selective ++ selective-evidence)) selective-listing ∷
     -- K = 0: the start lies under no ceiling; with entries: the first is one too many
-    refused 30 (with-ceilings (ceiling-words 0 [])) 11 55 ∷
-    refused 30 (with-ceilings (ceiling-words 0 ((6, 0) ∷ []))) 10 57 ∷
+    refused 30 (with-ceilings (ceiling-words 0 [])) 11 60 ∷
+    refused 30 (with-ceilings (ceiling-words 0 ((6, 0) ∷ []))) 10 62 ∷
     -- a ceiling of its closing entry alone is in form and covers nothing that is needed
     safe 0 a-program
     (with-ceilings
     (ceiling-words 6
     ((6, 0) ∷ (0, 1) ∷ (6, 0) ∷ (1, 1) ∷ (6, 0) ∷ (2, 1) ∷ (6, 0) ∷ (3, 1) ∷ (5, 1) ∷ (6, 0) ∷ (4, 1) ∷ (6, 0) ∷
     []))) a-listing ∷
-    -- the last word of each part with its second byte missing: the parts end at words 24, 34, 55 and 79
+    -- the last word of each part with its second byte missing: the parts end at words 24, 34, 60 and 84
     refused 30 (take 47 (to-bytes a-words)) 1 0 ∷
     refused 30 (take 67 (to-bytes a-words)) 1 24 ∷
-    refused 30 (take 109 (to-bytes a-words)) 1 34 ∷
-    refused 30 (take 157 (to-bytes a-words)) 1 55 ∷
+    refused 30 (take 119 (to-bytes a-words)) 1 34 ∷
+    refused 30 (take 167 (to-bytes a-words)) 1 60 ∷
     -- the last of the sizes with its second byte missing
     refused 30 (take 7 (to-bytes a-words)) 1 0 ∷
     []

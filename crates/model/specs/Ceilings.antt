@@ -15,9 +15,9 @@ use Rattle.model.specs.Message.{bads-at, ceilings-at}
 use Rattle.model.specs.Reader.{Grammar, fits, after, first-wrong}
 use Rattle.model.specs.Rows.{Program}
 use Rattle.model.specs.Tables.{Tables}
-use Rattle.model.specs.Bads.{bad-row, met}
+use Rattle.model.specs.Bads.{Item, bad-row, items, met}
 use Rattle.model.specs.Rules.{Rule}
-use Rattle.model.specs.Markings.{Marking, usable, fire, initial, count-in}
+use Rattle.model.specs.Markings.{Marking, usable, fire, initial, sum-in}
 
 -- "Ceilings: K ceilings, E entries; counter numbers, then limits"
 unfoldable pub ceiling-entries : List ℕ → Sizes → Columns
@@ -91,8 +91,8 @@ under counters b m = all 0 counters (λ x. allowed (b x) (m x))
 unfoldable pub under-some : Ceilings → Marking → Bool
 under-some bs m = any 0 (bs .size) (λ k. under (bs .counters) (bs .limit k) m)
 
--- The highest counts under a ceiling: the limits themselves, and where there is none a count past every limit, also
--- after a rule takes one.
+-- The highest counts under a ceiling: the limits themselves, and where there is none a count past every limit and every
+-- minimum, also after a rule takes one.
 unfoldable pub highest : Ceiling-limits → Marking
 highest b x = elim (eqb (b x) omega-limit) [ true ↦ omega-limit + 1 | false ↦ b x ]
 
@@ -100,14 +100,15 @@ highest b x = elim (eqb (b x) omega-limit) [ true ↦ omega-limit + 1 | false �
 unfoldable pub start-check : Sizes → Program → Tables → Ceilings → Check
 start-check s p t bs = unless (under-some bs (initial p t)) (Start (ceilings-at s))
 
--- some ceiling allows counts that meet the bad whose first row is r
-unfoldable pub bad-allowed : Program → Tables → Ceilings → Columns → ℕ → Bool
-bad-allowed p t bs rows r = any 0 (bs .size) (λ k. met (count-in p t (highest (bs .limit k))) rows r)
+-- Some ceiling allows counts that meet the bad of these items. Document 02, (iv): "the sum over the third column, also
+-- in a ceiling".
+unfoldable pub bad-allowed : Program → Tables → Ceilings → List Item → Bool
+bad-allowed p t bs is = any 0 (bs .size) (λ k. met (sum-in p t (highest (bs .limit k))) is)
 
 -- 12: "a ceiling allows a bad: that first bad's first tag"
 unfoldable pub met-check : Sizes → Program → Tables → Ceilings → Columns → Check
 met-check s p t bs rows =
-    let j : ℕ = first 0 (s .bads) (λ i. bad-allowed p t bs rows (bad-row p rows i)) in
+    let j : ℕ = first 0 (s .bads) (λ i. bad-allowed p t bs (items p rows i)) in
     unless (eqb j (s .bads)) (Met (bads-at s + 2 + bad-row p rows j))
 
 -- some rule that can be used at the counts leads out of all ceilings

@@ -14,7 +14,7 @@ use Rattle.model.specs.Tables.{Tables}
 use Rattle.model.specs.Counters.{counter-check}
 use Rattle.model.specs.Rules.{from-all}
 use Rattle.model.specs.Verify.{verdict-within, answer}
-use Rattle.model.specs.Cases.{Pairs, program-words, bad-words, table-words, ceiling-words, to-bytes}
+use Rattle.model.specs.Cases.{Pairs, program-words, bad-words, table-words, ceiling-words, to-bytes, returning}
 use Rattle.model.specs.VerdictCases.{Verdict-case, at}
 
 -- number and place by the former limits
@@ -48,16 +48,16 @@ unfoldable pub crowd-with : Pairs → List ℕ
 crowd-with states =
     to-bytes
     (program-words 16 1 0 crowd ++ bad-words 1 ((40, 65) ∷ (41, 1) ∷ (43, 2) ∷ (44, 0) ∷ []) ++
-    table-words ((0, 65) ∷ []) ((65, 65) ∷ []) states ++ ceiling-words 0 [])
+    table-words ((0, 65) ∷ []) ((65, 65) ∷ []) (returning 65 states) ++ ceiling-words 0 [])
 
 unfoldable pub counter-cases : List Verdict-case
 counter-cases =
     -- 512 states and a letter: 513 counters. The tables begin at word 144, behind 134 of the program and 10 of the
     -- bads, and size S is their third.
     at 9 146 (crowd-with crowd-states) ∷
-    -- 511 states, without the first, and a letter: 512 counters. Size K is behind 3 sizes and two columns of 513
-    -- words.
-    at 11 1173 (crowd-with (drop 1 crowd-states)) ∷
+    -- 511 states, without the first, and a letter: 512 counters. Size K is behind 3 sizes, two columns of 513 words and
+    -- one of 511.
+    at 11 1684 (crowd-with (drop 1 crowd-states)) ∷
     []
 
 -- Refusal 9 of a program of one row with so many states and mail entries: it asks only how many states there are. The
@@ -87,6 +87,7 @@ counted-by-present k =
       flow = record { size = 0; lefts = []; rights = [] };
       mail = record { size = k .1; lefts = 1 ∷ []; rights = 1 ∷ [] };
       states = record { size = k .0; lefts = []; rights = [] };
+      returns = [];
     } in
     let v = answer (counter-check present s p t) in number v ∷ place v ∷ []
 

@@ -13,6 +13,7 @@ use Rattle.model.specs.Limits.{Limits, maxNames, maxConstructors, maxFun
 use Rattle.model.specs.Limits.{maxFlows, maxMails, maxCeilings, maxCeilingEntries, omega-limit}
 use Rattle.model.specs.Tags.{tag-function, tag-global}
 use Rattle.model.specs.Words.{Columns, left, right}
+use Rattle.model.specs.Keys.{Key}
 use Rattle.model.specs.Message.{end-at}
 use Rattle.model.specs.Reader.{first-wrong}
 use Rattle.model.specs.Rows.{Program, size, tag, num, is-head, is-name, step, whole}
@@ -21,14 +22,14 @@ use Rattle.model.specs.Heads.{is-class}
 use Rattle.model.specs.Values.{Processes}
 use Rattle.model.specs.Run.{step-of, run}
 use Rattle.model.specs.Letters.{processes-at, messages-of}
-use Rattle.model.specs.Bads.{bad-step, bad, state-of, letter-of}
-use Rattle.model.specs.Tables.{Tables, is-value}
+use Rattle.model.specs.Bads.{bad-step, bad}
+use Rattle.model.specs.Tables.{Tables, is-value, State}
 use Rattle.model.specs.Wanted.{Closed}
 use Rattle.model.specs.Met.{All-met}
-use Rattle.model.specs.Counters.{counter-count}
+use Rattle.model.specs.Counters.{counter-count, state-of, letter-of}
 use Rattle.model.specs.Rules.{Rule, rules}
 use Rattle.model.specs.Listing.{system-words, written, listed-rules}
-use Rattle.model.specs.Markings.{Marking, usable, fire, initial, fire-all, count-in}
+use Rattle.model.specs.Markings.{Marking, usable, fire, initial, fire-all, count-in, sum-in}
 use Rattle.model.specs.Ceilings.{Ceilings, ceiling-entries, ceiling-step, ceilings-ahead}
 use Rattle.model.specs.Verify.{Message, message, verdict-within, lent-after-within, part-handed-within}
 
@@ -75,22 +76,47 @@ pub record Well-formed (p : Program) : Type 0 where
       (r : ℕ) → r < size p → uses (tag p r) ≡ true →
       (b : ℕ) × (b < size p) × (binds-name p (num p r) b ≡ true) × (in-scope p b r ≡ true)
 
--- one pair is below another
-abbrev pub Pair-below : ℕ → ℕ → ℕ → ℕ → Type 0
-Pair-below a b a′ b′ = (a < a′) ⊎ ((a ≡ a′) × (b < b′))
+-- One entry stands below another: by the first column in which they differ. (One that ends before stands below; entries
+-- of one list have as many columns.)
+abbrev pub Below : Key → Key → Type 0
+Below [] [] = ⊥
+Below [] (y ∷ b) = Unit {0}
+Below (x ∷ a) [] = ⊥
+Below (x ∷ a) (y ∷ b) = (x < y) ⊎ ((x ≡ y) × Below a b)
 
--- each entry is in its range, and the list ascends strictly
-pub record Listed (legal-left legal-right : ℕ → Bool) (c : Columns) : Type 0 where
-  pub left-legal : (i : ℕ) → i < c .size → legal-left (left c i) ≡ true
-  pub right-legal : (i : ℕ) → i < c .size → legal-right (right c i) ≡ true
-  pub ascending : (i j : ℕ) → i < j → j < c .size → Pair-below (left c i) (right c i) (left c j) (right c j)
+-- each of n entries is in its range, and the list ascends strictly
+pub record Listed (n : ℕ) (In-range : ℕ → Type 0) (key : ℕ → Key) : Type 0 where
+  pub in-range : (i : ℕ) → i < n → In-range i
+  pub ascending : (i j : ℕ) → i < j → j < n → Below (key i) (key j)
+
+-- a list of pairs: the ranges of its two columns, and the columns of an entry
+abbrev pub Legal-pair : (ℕ → Bool) → (ℕ → Bool) → Columns → ℕ → Type 0
+Legal-pair legal-left legal-right c i = (legal-left (left c i) ≡ true) × (legal-right (right c i) ≡ true)
+
+abbrev pub two-columns : Columns → ℕ → Key
+two-columns c i = left c i ∷ right c i ∷ []
+
+abbrev pub Pairs-listed : (ℕ → Bool) → (ℕ → Bool) → Columns → Type 0
+Pairs-listed legal-left legal-right c = Listed (c .size) (Legal-pair legal-left legal-right c) (two-columns c)
+
+-- the state list; document 02, (iv): a third number is a call row or R, and "The list ascends in the three columns."
+pub record Legal-state (p : Program) (t : Tables) (i : ℕ) : Type 0 where
+  pub class : is-class p (left (t .states) i) ≡ true
+  pub head : is-head (tag p (right (t .states) i)) ≡ true
+  pub return : (tag p (getD (t .returns) i 0) ≡ 4) ⊎ (getD (t .returns) i 0 ≡ size p)
+
+abbrev pub three-columns : Tables → ℕ → Key
+three-columns t i = left (t .states) i ∷ right (t .states) i ∷ getD (t .returns) i 0 ∷ []
+
+abbrev pub States-listed : Program → Tables → Type 0
+States-listed p t = Listed (t .states .size) (Legal-state p t) (three-columns t)
 
 -- "the rest of the message is in form"
 pub record In-form (m : Message) : Type 0 where
   pub bads : first-wrong (bad-step (m .program)) (m .bads) (replicate (m .sizes .bads) bad) ≡ none
-  pub flow : Listed (is-name (m .program)) (is-value (m .program)) (m .tables .flow)
-  pub mail : Listed (is-class (m .program)) (is-value (m .program)) (m .tables .mail)
-  pub states : Listed (is-class (m .program)) (λ r. is-head (tag (m .program) r)) (m .tables .states)
+  pub flow : Pairs-listed (is-name (m .program)) (is-value (m .program)) (m .tables .flow)
+  pub mail : Pairs-listed (is-class (m .program)) (is-value (m .program)) (m .tables .mail)
+  pub states : States-listed (m .program) (m .tables)
   pub ceilings :
       first-wrong (ceiling-step (m .ceilings .counters)) (ceiling-entries (m .words) (m .sizes))
       (ceilings-ahead (m .sizes .ceilings)) ≡ none
@@ -105,7 +131,7 @@ Under-one bs m = (k : ℕ) × (k < bs .size) × Under bs k m
 
 -- bad number j is met by the counts
 abbrev pub Met : Message → Marking → ℕ → Type 0
-Met m counts j = All-met (count-in (m .program) (m .tables) counts) (m .bads) j
+Met m counts j = All-met (sum-in (m .program) (m .tables) counts) (m .bads) j
 
 -- "the counts under the ceilings contain the start, are kept by each derived rule and meet no named bad count"
 pub record Inductive (m : Message) : Type 0 where
@@ -161,9 +187,9 @@ used (none ∷ os) = used os
 used (some ρ ∷ os) = ρ ∷ used os
 
 -- "the two have equal counts: of processes in each class and place, and of messages of each letter in each class's
--- mailboxes"
+-- mailboxes"; document 02, (iv): "Station and counters share counts per triple", class, place and the call returned to
 pub record Equal-counts (m : Message) (qs : Processes) (counts : Marking) : Type 0 where
-  pub processes : (c r : ℕ) → processes-at qs c r ≡ count-in (m .program) (m .tables) counts (state-of c r)
+  pub processes : (s : State) → processes-at (m .program) qs s ≡ count-in (m .program) (m .tables) counts (state-of s)
   pub messages : (c l : ℕ) → messages-of (m .program) qs c l ≡ count-in (m .program) (m .tables) counts (letter-of c l)
 
 -- after some numbers of a list: the rules used so far are a run, and its counts are those of the station, under one

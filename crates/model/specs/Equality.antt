@@ -13,7 +13,7 @@ use Rattle.model.specs.Scopes.{binds, in-scope}
 use Rattle.model.specs.Heads.{head-at, cases, receives, branch-body}
 use Rattle.model.specs.Values.{Value, closure, built, Bindings, bind, equal, Process}
 use Rattle.model.specs.Run.{run}
-use Rattle.model.specs.Letters.{row-letter, value-letter}
+use Rattle.model.specs.Letters.{row-letter, value-letter, state-in}
 use Rattle.model.specs.Patterns.{Holds, Match}
 use Rattle.model.specs.Tables.{Tables}
 use Rattle.model.specs.Wanted.{MayTake}
@@ -43,7 +43,7 @@ pub record Equality-laws : Type 0 where
 -- a value of the tables for the value of the run: the branch at row b may take it in the process's state, and the
 -- letters are equal
 abbrev pub May-take : Program → Tables → Process → ℕ → Value → Type 0
-May-take p t q b v = (u : ℕ) × MayTake p t (q .class) (q .location) b u × (row-letter p u ≡ value-letter p v)
+May-take p t q b v = (u : ℕ) × MayTake p t (state-in p q) b u × (row-letter p u ≡ value-letter p v)
 
 -- What matches in a run may match in the tables: of each process of a run, each branch, at a case or a receive.
 pub record Matches-may (p : Program) (t : Tables) (q : Process) : Type 0 where

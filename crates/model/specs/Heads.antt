@@ -2,14 +2,12 @@
 use Prim.Native.Nat.{ℕ, zero, suc, _+_}
 use mathlib.Core.Bool.{Bool, _&&_, _||_}
 use mathlib.Core.List.{List, [], _∷_}
-use mathlib.Core.Option.{Option}
 use lib.ListN.{take, drop}
-use lib.Dec.{ltb, eqb}
-use Rattle.model.specs.Tags.{tag-function, tag-spawn, tag-global}
-use Rattle.model.specs.Index.{last}
+use lib.Dec.{eqb}
 use Rattle.model.specs.Limits.{maxDepth}
-use Rattle.model.specs.Rows.{Program, size, tag, num, kind, header, expression, pattern, body-form, branch, arity}
+use Rattle.model.specs.Rows.{Program, size, tag, num, kind, header, expression, pattern, branch, arity}
 use Rattle.model.specs.Rows.{declarations, past-items}
+use Rattle.model.specs.Tags.{tag-function, tag-spawn, tag-global}
 use Rattle.model.specs.Rows.{give, build, function, call, send, spawn, self, case, receive, other}
 use Rattle.model.specs.Scopes.{rest}
 
@@ -86,10 +84,6 @@ body p f = past-items p (header ∷ []) (f + 1)
 -- f is a function that can be called with n arguments
 unfoldable pub takes : Program → ℕ → ℕ → Bool
 takes p f n = is-function p f && eqb (num p (f + 1)) n
-
--- "inside the innermost function": the last function before row r whose body form goes on behind r
-unfoldable pub innermost : Program → ℕ → Option ℕ
-innermost p r = last r (λ f. is-function p f && ltb r (past-items p body-form (f + 1)))
 
 -- "the start expression"
 unfoldable pub start : Program → ℕ

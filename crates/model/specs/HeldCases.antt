@@ -10,8 +10,8 @@ use Rattle.model.specs.Values.{Process}
 use Rattle.model.specs.Letters.{value-letter}
 use Rattle.model.specs.Run.{run}
 use Rattle.model.specs.Rules.{from-all}
-use Rattle.model.specs.Cases.{Pairs, program-words, bad-words, table-words, ceiling-words, to-bytes, Case}
-use Rattle.model.specs.Cases.{refused, safe, a-listing}
+use Rattle.model.specs.Cases.{Pairs, Triples, program-words, bad-words, table-words, ceiling-words, to-bytes}
+use Rattle.model.specs.Cases.{Case, returning, refused, safe, a-listing}
 
 -- A run, and its processes then: of each its class, its place, and the letters in its mailbox with their count
 -- before them
@@ -78,7 +78,7 @@ sent a = sent-names 3 a
 unfoldable pub sent-tables : List ℕ
 sent-tables =
     table-words ((0, 12) ∷ (1, 2) ∷ (2, 2) ∷ []) ((12, 2) ∷ [])
-    ((12, 1) ∷ (12, 2) ∷ (12, 5) ∷ (12, 8) ∷ (12, 11) ∷ [])
+    (returning 12 ((12, 1) ∷ (12, 2) ∷ (12, 5) ∷ (12, 8) ∷ (12, 11) ∷ []))
 
 -- x = self; a = c0(x); b = c0(a); d = c0(b); case d of { the patterns given -> x }
 unfoldable pub deep : Pairs → List ℕ
@@ -97,7 +97,7 @@ four-deep a = deep ((31, 0) ∷ (31, 0) ∷ (31, 0) ∷ a ∷ [])
 unfoldable pub deep-tables : List ℕ
 deep-tables =
     table-words ((0, 18) ∷ (1, 2) ∷ (2, 5) ∷ (3, 8) ∷ []) []
-    ((18, 1) ∷ (18, 2) ∷ (18, 5) ∷ (18, 8) ∷ (18, 11) ∷ (18, 17) ∷ [])
+    (returning 18 ((18, 1) ∷ (18, 2) ∷ (18, 5) ∷ (18, 8) ∷ (18, 11) ∷ (18, 17) ∷ []))
 
 -- f() = self; case f of { =f -> f; _ -> f }: branches in rows 7 and 9
 unfoldable pub global : List ℕ
@@ -115,7 +115,8 @@ function-inside =
     (8, 2) ∷ (25, 2) ∷ (33, 2) ∷ (1, 2) ∷ (32, 0) ∷ (1, 0) ∷ [])
 
 unfoldable pub function-tables : List ℕ
-function-tables = table-words ((0, 1) ∷ (2, 5) ∷ []) [] ((14, 1) ∷ (14, 5) ∷ (14, 8) ∷ (14, 11) ∷ (14, 13) ∷ [])
+function-tables = table-words ((0, 1) ∷ (2, 5) ∷ []) []
+    (returning 14 ((14, 1) ∷ (14, 5) ∷ (14, 8) ∷ (14, 11) ∷ (14, 13) ∷ []))
 
 -- work() = receive { _ -> work }; make() = s = spawn work; s. Then a = make(); b = make(); case a of { =N -> a; _
 -- -> b }, where the name N is given: two processes of class 7. Branches in rows 19 and 21.
@@ -131,14 +132,15 @@ one-class n =
 unfoldable pub one-class-tables : Pairs → List ℕ
 one-class-tables branches =
     table-words ((0, 0) ∷ (1, 5) ∷ (2, 7) ∷ (3, 7) ∷ (4, 7) ∷ []) []
-    (((7, 2) ∷ (22, 7) ∷ (22, 9) ∷ (22, 10) ∷ (22, 13) ∷ (22, 16) ∷ []) ++ branches)
+    (((7, 2, 22) ∷ (22, 7, 10) ∷ (22, 7, 13) ∷ (22, 9, 10) ∷ (22, 9, 13) ∷ []) ++
+    returning 22 (((22, 10) ∷ (22, 13) ∷ (22, 16) ∷ []) ++ branches))
 
--- the spawn starts state 0; make gives back to either call; either branch may be taken
+-- the spawn, states 1 and 2, starts state 0; make gives back behind its call; either branch may be taken
 unfoldable pub one-class-listing : List ℕ
 one-class-listing =
-    8 ∷ 0 ∷ 7 ∷ 15 ∷
-    50 ∷ 51 ∷ 54 ∷ 50 ∷ 51 ∷ 50 ∷ 51 ∷ 50 ∷ 51 ∷ 50 ∷ 51 ∷ 50 ∷ 51 ∷ 50 ∷ 51 ∷
-    1 ∷ 2 ∷ 0 ∷ 2 ∷ 4 ∷ 2 ∷ 5 ∷ 3 ∷ 1 ∷ 4 ∷ 1 ∷ 5 ∷ 6 ∷ 5 ∷ 7 ∷ []
+    10 ∷ 0 ∷ 8 ∷ 18 ∷
+    50 ∷ 51 ∷ 54 ∷ 50 ∷ 51 ∷ 54 ∷ 50 ∷ 51 ∷ 50 ∷ 51 ∷ 50 ∷ 51 ∷ 50 ∷ 51 ∷ 50 ∷ 51 ∷ 50 ∷ 51 ∷
+    1 ∷ 3 ∷ 0 ∷ 2 ∷ 4 ∷ 0 ∷ 3 ∷ 6 ∷ 4 ∷ 7 ∷ 5 ∷ 1 ∷ 6 ∷ 2 ∷ 7 ∷ 8 ∷ 7 ∷ 9 ∷ []
 
 -- u = c1; w = c2; a = c0(u); b = c0(w); d = c0(u); case a of { =b -> a; _ -> case a of { =d -> a; _ -> b } }:
 -- branches in rows 19, 21, 24, 26
@@ -157,7 +159,8 @@ other-arguments =
 unfoldable pub other-arguments-tables : List ℕ
 other-arguments-tables =
     table-words ((0, 3) ∷ (1, 5) ∷ (2, 7) ∷ (3, 10) ∷ (4, 13) ∷ []) []
-    ((27, 3) ∷ (27, 5) ∷ (27, 7) ∷ (27, 10) ∷ (27, 13) ∷ (27, 16) ∷ (27, 19) ∷ (27, 21) ∷ (27, 24) ∷ (27, 26) ∷ [])
+    (returning 27
+    ((27, 3) ∷ (27, 5) ∷ (27, 7) ∷ (27, 10) ∷ (27, 13) ∷ (27, 16) ∷ (27, 19) ∷ (27, 21) ∷ (27, 24) ∷ (27, 26) ∷ []))
 
 -- x = self; u = c0; w = c1; send x u; send x w; receive { =w -> x }
 unfoldable pub passed-over : List ℕ
@@ -173,7 +176,7 @@ passed-over =
 unfoldable pub passed-over-tables : List ℕ
 passed-over-tables =
     table-words ((0, 16) ∷ (1, 3) ∷ (2, 5) ∷ (3, 3) ∷ (4, 5) ∷ []) ((16, 3) ∷ (16, 5) ∷ [])
-    ((16, 2) ∷ (16, 3) ∷ (16, 5) ∷ (16, 7) ∷ (16, 10) ∷ (16, 13) ∷ (16, 15) ∷ [])
+    (returning 16 ((16, 2) ∷ (16, 3) ∷ (16, 5) ∷ (16, 7) ∷ (16, 10) ∷ (16, 13) ∷ (16, 15) ∷ []))
 
 -- letter counters 7 for c0 and 8 for c1; the receive reads 8 alone
 unfoldable pub passed-over-listing : List ℕ
@@ -196,7 +199,7 @@ address-sent n =
 unfoldable pub address-tables : List ℕ
 address-tables =
     table-words ((0, 0) ∷ (1, 14) ∷ (2, 6) ∷ (3, 6) ∷ []) ((14, 6) ∷ [])
-    ((6, 2) ∷ (14, 5) ∷ (14, 6) ∷ (14, 8) ∷ (14, 11) ∷ (14, 13) ∷ [])
+    (returning 14 ((6, 2) ∷ (14, 5) ∷ (14, 6) ∷ (14, 8) ∷ (14, 11) ∷ (14, 13) ∷ []))
 
 -- the message is sent, and no rule reads it
 unfoldable pub address-unread : List ℕ
@@ -218,13 +221,13 @@ two-values =
     (4, 6) ∷ (21, 0) ∷ (22, 1) ∷ (21, 4) ∷
     (1, 5) ∷ [])
 
-unfoldable pub two-values-tables : Pairs → List ℕ
+unfoldable pub two-values-tables : Triples → List ℕ
 two-values-tables branches =
     table-words
     ((0, 2) ∷ (1, 13) ∷ (1, 15) ∷ (2, 5) ∷ (3, 13) ∷ (4, 15) ∷ (5, 5) ∷ (5, 13) ∷ (5, 15) ∷ (6, 5) ∷ (6, 13) ∷
     (6, 15) ∷ []) []
-    (((26, 5) ∷ (26, 7) ∷ []) ++ branches ++
-    ((26, 13) ∷ (26, 15) ∷ (26, 17) ∷ (26, 21) ∷ (26, 25) ∷ []))
+    (((26, 5, 17) ∷ (26, 5, 21) ∷ (26, 7, 17) ∷ (26, 7, 21) ∷ []) ++ branches ++
+    returning 26 ((26, 13) ∷ (26, 15) ∷ (26, 17) ∷ (26, 21) ∷ (26, 25) ∷ []))
 
 -- f(a) = m = c0(a); m, which nobody calls; x = self; y = c0(x); case y of { =x -> x }: branch in row 15
 unfoldable pub valueless-argument : List ℕ
@@ -240,7 +243,8 @@ valueless-argument =
 -- the values of x are given, among them that of its own class
 unfoldable pub valueless-argument-tables : Pairs → List ℕ
 valueless-argument-tables xs =
-    table-words (((0, 1) ∷ []) ++ xs ++ ((4, 9) ∷ [])) [] ((16, 8) ∷ (16, 9) ∷ (16, 12) ∷ (16, 15) ∷ [])
+    table-words (((0, 1) ∷ []) ++ xs ++ ((4, 9) ∷ [])) []
+    (returning 16 ((16, 8) ∷ (16, 9) ∷ (16, 12) ∷ (16, 15) ∷ []))
 
 -- x = self; a = c0(x); b = c0(a); d = c0(b); send x d; receive { c0(c0(c0(P))) -> x }, where P is given: four levels
 -- deep in a receive. Row 18, then x is given back in row 19.
@@ -257,7 +261,7 @@ deep-receive a =
 unfoldable pub deep-receive-tables : List ℕ
 deep-receive-tables =
     table-words ((0, 20) ∷ (1, 2) ∷ (2, 5) ∷ (3, 8) ∷ (4, 8) ∷ []) ((20, 8) ∷ [])
-    ((20, 1) ∷ (20, 2) ∷ (20, 5) ∷ (20, 8) ∷ (20, 11) ∷ (20, 14) ∷ (20, 19) ∷ [])
+    (returning 20 ((20, 1) ∷ (20, 2) ∷ (20, 5) ∷ (20, 8) ∷ (20, 11) ∷ (20, 14) ∷ (20, 19) ∷ []))
 
 -- x = self; f = fun () -> x; s = send x f; receive { =f -> x }: a function in the mailbox (which 22 refuses), rows 8
 -- to 10
@@ -304,16 +308,16 @@ held-cases =
     50 ∷ 51 ∷ 50 ∷ 51 ∷ 50 ∷ 51 ∷ 50 ∷ 51 ∷ 50 ∷ 51 ∷ 53 ∷
     0 ∷ 1 ∷ 1 ∷ 2 ∷ 2 ∷ 3 ∷ 3 ∷ 4 ∷ 4 ∷ 5 ∷ 7 ∷ []) ∷
     -- a tag 11 name: row 0 is a function, and may match nothing; so the first branch is not wanted
-    safe 3 global (held-message global 10 0 (table-words ((0, 0) ∷ []) [] ((10, 4) ∷ (10, 9) ∷ [])) 2)
+    safe 3 global (held-message global 10 0 (table-words ((0, 0) ∷ []) [] (returning 10 ((10, 4) ∷ (10, 9) ∷ []))) 2)
     (quiet-listing 2 ((0, 1) ∷ [])) ∷
     -- a built value with a function inside: by rows alone it may match itself
     safe 3 function-inside (held-message function-inside 14 0 function-tables 5)
     (quiet-listing 5 ((0, 1) ∷ (1, 2) ∷ (2, 3) ∷ (2, 4) ∷ [])) ∷
-    -- two processes of one class may be one; without the state of that branch state 5 lacks it: the first
+    -- two processes of one class may be one; without the state of that branch state 7 lacks it: the first
     -- columns begin at word 61, five of flow
-    safe 3 (one-class 4) (held-message (one-class 4) 22 0 (one-class-tables ((22, 19) ∷ (22, 21) ∷ [])) 8)
+    safe 3 (one-class 4) (held-message (one-class 4) 22 0 (one-class-tables ((22, 19) ∷ (22, 21) ∷ [])) 10)
     one-class-listing ∷
-    refused 9 (held-message (one-class 4) 22 0 (one-class-tables ((22, 21) ∷ [])) 7) 8 71 ∷
+    refused 9 (held-message (one-class 4) 22 0 (one-class-tables ((22, 21) ∷ [])) 9) 8 73 ∷
     -- build rows of one constructor, whatever their arguments
     safe 3 other-arguments (held-message other-arguments 27 0 other-arguments-tables 10)
     (quiet-listing 10 ((0, 1) ∷ (1, 2) ∷ (2, 3) ∷ (3, 4) ∷ (4, 5) ∷ (5, 6) ∷ (5, 7) ∷ (7, 8) ∷ (7, 9) ∷ [])) ∷
@@ -325,14 +329,18 @@ held-cases =
     1 ∷ 2 ∷ 2 ∷ 3 ∷ 0 ∷ 3 ∷ 4 ∷ 6 ∷ 4 ∷ 5 ∷ 6 ∷ []) ∷
     safe 3 (address-sent 1) (held-message (address-sent 1) 14 0 address-tables 7) address-unread ∷
     safe 3 (address-sent 0) (held-message (address-sent 0) 14 0 address-tables 7) address-unread ∷
-    -- two values, of which the second alone may match; without its branch state 1 lacks it: the first columns begin at
+    -- two values, of which the second alone may match; without its branch state 2 lacks it: the first columns begin at
     -- word 69, twelve of flow
-    safe 3 two-values (held-message two-values 26 0 (two-values-tables ((26, 10) ∷ (26, 12) ∷ [])) 9)
-    (quiet-listing 9
-    ((0, 1) ∷ (1, 2) ∷ (1, 3) ∷ (2, 7) ∷ (2, 8) ∷ (3, 7) ∷ (3, 8) ∷ (4, 5) ∷ (5, 6) ∷ (6, 0) ∷ (7, 0) ∷ [])) ∷
-    refused 9 (held-message two-values 26 0 (two-values-tables ((26, 12) ∷ [])) 8) 8 82 ∷
+    safe 3 two-values
+    (held-message two-values 26 0
+    (two-values-tables ((26, 10, 17) ∷ (26, 10, 21) ∷ (26, 12, 17) ∷ (26, 12, 21) ∷ [])) 13)
+    (quiet-listing 13
+    ((0, 2) ∷ (1, 3) ∷ (2, 4) ∷ (2, 6) ∷ (3, 5) ∷ (3, 7) ∷ (4, 11) ∷ (5, 12) ∷ (6, 11) ∷ (7, 12) ∷ (8, 9) ∷ (9, 10) ∷
+    (10, 0) ∷ (11, 1) ∷ [])) ∷
+    refused 9 (held-message two-values 26 0 (two-values-tables ((26, 12, 17) ∷ (26, 12, 21) ∷ [])) 11) 8 83 ∷
     -- the values of x with row 4 among them, by an extra entry: a c0 as y is, whose argument has no value; and without
-    safe 3 valueless-argument (held-message valueless-argument 16 0 (valueless-argument-tables ((3, 4) ∷ (3, 16) ∷ [])) 4)
+    safe 3 valueless-argument
+    (held-message valueless-argument 16 0 (valueless-argument-tables ((3, 4) ∷ (3, 16) ∷ [])) 4)
     (quiet-listing 4 ((0, 1) ∷ (1, 2) ∷ (2, 3) ∷ [])) ∷
     safe 3 valueless-argument (held-message valueless-argument 16 0 (valueless-argument-tables ((3, 16) ∷ [])) 4)
     (quiet-listing 4 ((0, 1) ∷ (1, 2) ∷ [])) ∷

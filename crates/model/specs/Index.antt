@@ -1,9 +1,8 @@
--- Loops over the indices from i below e, as definitions: is there one, all, the first, the last, how many, what they
+-- Loops over the indices from i below e, as definitions: is there one, all, the first, how many, their sum, what they
 -- give together. Every check of the model is made of these, so that a loop of the code is "the turns that are left".
 use Prim.Native.Nat.{ℕ, zero, suc, _+_, _-_}
 use mathlib.Core.Bool.{Bool, true, false}
 use mathlib.Core.List.{List, [], _∷_, _++_}
-use mathlib.Core.Option.{Option, some, none}
 
 -- where the test passes, what is to hold
 unfoldable pub implies : Bool → Bool → Bool
@@ -27,6 +26,10 @@ unfoldable pub countIn : ℕ → ℕ → (ℕ → Bool) → ℕ
 countIn zero i f = 0
 countIn (suc n) i f = elim (f i) [ true ↦ 1 + countIn n (i + 1) f | false ↦ countIn n (i + 1) f ]
 
+unfoldable pub totalIn : ℕ → ℕ → (ℕ → ℕ) → ℕ
+totalIn zero i f = 0
+totalIn (suc n) i f = f i + totalIn n (i + 1) f
+
 unfoldable pub gatherIn : {A : Type 0} → ℕ → ℕ → (ℕ → List A) → List A
 gatherIn zero i f = []
 gatherIn (suc n) i f = f i ++ gatherIn n (i + 1) f
@@ -47,14 +50,13 @@ first i e f = firstIn (e - i) i f
 unfoldable pub count : ℕ → ℕ → (ℕ → Bool) → ℕ
 count i e f = countIn (e - i) i f
 
+-- the sum of what the indices from i below e give
+unfoldable pub total : ℕ → ℕ → (ℕ → ℕ) → ℕ
+total i e f = totalIn (e - i) i f
+
 -- what the indices from i below e give, joined in order
 unfoldable pub gather : {A : Type 0} → ℕ → ℕ → (ℕ → List A) → List A
 gather i e f = gatherIn (e - i) i f
-
--- the last index below e that passes
-unfoldable pub last : ℕ → (ℕ → Bool) → Option ℕ
-last zero f = none
-last (suc n) f = elim (f n) [ true ↦ some n | false ↦ last n f ]
 
 -- the element alone, where the test passes
 unfoldable pub only : {A : Type 0} → Bool → A → List A

@@ -1,12 +1,13 @@
 -- Document 01, "The system": the letters of messages, and how many processes and messages a run has.
 use Prim.Native.Nat.{ℕ, _+_}
-use mathlib.Core.Bool.{Bool, true, false, _&&_}
+use mathlib.Core.Bool.{Bool, true, false}
 use mathlib.Core.List.{List, [], _∷_}
 use lib.Dec.{eqb}
 use Rattle.model.specs.Tags.{tag-build}
-use Rattle.model.specs.Rows.{Program, tag, num}
+use Rattle.model.specs.Rows.{Program, size, tag, num}
 use Rattle.model.specs.Heads.{is-function}
-use Rattle.model.specs.Values.{Value, closure, built, address, Process, Processes}
+use Rattle.model.specs.Values.{Value, closure, built, address, Frame, Process, Processes}
+use Rattle.model.specs.Tables.{State, state, same-state}
 
 -- what of a value its letter tells
 pub data Shape : Type 0 where
@@ -49,10 +50,20 @@ unfoldable pub one-if : Bool → ℕ
 one-if true = 1
 one-if false = 0
 
--- "A process counts under its class and place, ended and stopped ones too"
-unfoldable pub processes-at : Processes → ℕ → ℕ → ℕ
-processes-at [] c r = 0
-processes-at (q ∷ qs) c r = one-if (eqb (q .class) c && eqb (q .location) r) + processes-at qs c r
+-- Document 02, (iv): "the call row that the process will return to, or R where none is pushed"
+unfoldable pub return-of : Program → List Frame → ℕ
+return-of p [] = size p
+return-of p (f ∷ fs) = f .call
+
+-- the state in which a process is
+abbrev pub state-in : Program → Process → State
+state-in p q = state (q .class) (q .location) (return-of p (q .frames))
+
+-- "A process counts under its class and place, ended and stopped ones too"; document 02, (iv): "Station and counters
+-- share counts per triple"
+unfoldable pub processes-at : Program → Processes → State → ℕ
+processes-at p [] s = 0
+processes-at p (q ∷ qs) s = one-if (same-state (state-in p q) s) + processes-at p qs s
 
 -- the messages of a letter in one mailbox
 unfoldable pub letters-in : Program → List Value → ℕ → ℕ

@@ -2,6 +2,7 @@ pub mod Limits
 pub mod Tags
 pub mod Index
 pub mod Words
+pub mod Keys
 pub mod Verdict
 pub mod Message
 pub mod Reader
@@ -13,9 +14,9 @@ pub mod Matching
 pub mod Run
 pub mod Patterns
 pub mod Transitions
+pub mod Tables
 pub mod Letters
 pub mod Bads
-pub mod Tables
 pub mod Closed
 pub mod Counters
 pub mod Rules
@@ -32,6 +33,7 @@ pub mod Wanted
 pub mod Met
 pub mod Demands
 pub mod Refusals
+pub mod Sums
 pub mod Longer
 pub mod LongerCases
 pub mod Mailed
@@ -40,3 +42,4 @@ pub mod HeldCases
 pub mod MailedCases
 pub mod NoEmptyName
 pub mod NameCases
+pub mod ReturnCases

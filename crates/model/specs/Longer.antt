@@ -1,5 +1,6 @@
--- Document 02, (vi), "Longer programs": what a gate keeps when its limits are raised, and what a gate of the
--- former ones turns away, as types.
+-- Document 02, (vi), "Longer programs": what a gate keeps when its limits are raised, and what a gate of the former
+-- ones turns away, as types. Both gates read the message as it now is, with (iv)'s third array, and differ in limits
+-- alone: a message on file is one of this form.
 use Prim.Native.Nat.{ℕ, _≤_, _<_}
 use mathlib.Core.Path.{_≡_}
 use mathlib.Core.Logic.{_↔_, _⊎_}

@@ -9,9 +9,8 @@ use Rattle.model.specs.Limits.{Limits}
 use Rattle.model.specs.Rows.{Program}
 use Rattle.model.specs.Values.{closure, Bindings, Process}
 use Rattle.model.specs.Run.{run}
-use Rattle.model.specs.Bads.{Counted, letter-of}
 use Rattle.model.specs.Tables.{Tables}
-use Rattle.model.specs.Counters.{counter-of}
+use Rattle.model.specs.Counters.{Counted, letter-of, counter-of}
 use Rattle.model.specs.Markings.{Marking, count-in}
 use Rattle.model.specs.Verify.{message, verdict-within}
 use Rattle.model.specs.Demands.{Bytes}

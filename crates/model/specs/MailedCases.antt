@@ -2,7 +2,7 @@
 use Prim.Native.Nat.{ℕ}
 use mathlib.Core.List.{List, [], _∷_, _++_}
 use Rattle.model.specs.Limits.{present}
-use Rattle.model.specs.Cases.{Pairs, program-words, bad-words, table-words, ceiling-words, to-bytes}
+use Rattle.model.specs.Cases.{Pairs, program-words, bad-words, table-words, returning, ceiling-words, to-bytes}
 use Rattle.model.specs.Cases.{refused, safe}
 use Rattle.model.specs.LongerCases.{Limit-case, within, limits}
 use Rattle.model.specs.HeldCases.{Arrival, steps, held-message}
@@ -24,7 +24,7 @@ mailing n =
 unfoldable pub mailing-tables : Pairs → Pairs → List ℕ
 mailing-tables flow mail =
     table-words (((0, 1) ∷ (2, 22) ∷ (3, 6) ∷ (4, 9) ∷ []) ++ flow) mail
-    ((22, 5) ∷ (22, 6) ∷ (22, 9) ∷ (22, 12) ∷ (22, 15) ∷ (22, 18) ∷ (22, 21) ∷ [])
+    (returning 22 ((22, 5) ∷ (22, 6) ∷ (22, 9) ∷ (22, 12) ∷ (22, 15) ∷ (22, 18) ∷ (22, 21) ∷ []))
 
 -- m is sent, y may be u
 unfoldable pub sends-m : Pairs
@@ -63,7 +63,7 @@ mailed-cases =
     within (limits 22 7 7) (refused 9 (mailing-message 4 1 sends-m ((22, 9) ∷ []) 8) 9 60) ∷
     within (limits 22 7 7) (refused 9 (mailing-message 4 1 sends-m ((22, 6) ∷ (22, 9) ∷ []) 9) 22 68) ∷
     -- 22 before 10: entry 8 is to close the ceiling, and its limit is not 0; and with a function in the mail
-    within present (refused 9 (mailing-message 4 1 sends-m ((22, 9) ∷ []) 9) 10 101) ∷
+    within present (refused 9 (mailing-message 4 1 sends-m ((22, 9) ∷ []) 9) 10 108) ∷
     within present (refused 9 (mailing-message 4 1 sends-m ((22, 6) ∷ (22, 9) ∷ []) 8) 22 68) ∷
     []
 

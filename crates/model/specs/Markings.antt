@@ -4,11 +4,12 @@ use mathlib.Core.Bool.{Bool, true, false, _&&_}
 use mathlib.Core.List.{List, [], _∷_}
 use mathlib.Core.Option.{Option, some, none}
 use lib.Dec.{leb, eqb}
-use Rattle.model.specs.Rows.{Program, size}
-use Rattle.model.specs.Heads.{start}
-use Rattle.model.specs.Tables.{Tables, state, state-index}
-use Rattle.model.specs.Bads.{Counted}
-use Rattle.model.specs.Counters.{counter-of}
+use Rattle.model.specs.Index.{total}
+use Rattle.model.specs.Rows.{Program}
+use Rattle.model.specs.Tables.{Tables, state-index}
+use Rattle.model.specs.Closed.{start-state}
+use Rattle.model.specs.Bads.{Subject}
+use Rattle.model.specs.Counters.{counter-count, Counted, counter-of, counts}
 use Rattle.model.specs.Rules.{Effect, quiet, reads, puts, starts, Rule}
 
 -- counts: "a whole number without limit for each counter"
@@ -51,7 +52,7 @@ fire ρ m = effect-added (ρ .effect) (adding (ρ .to) (effect-taken (ρ .effect
 
 -- "at first 1 for state (R, start), 0 for the others"
 unfoldable pub initial : Program → Tables → Marking
-initial p t x = elim (eqb x (state-index t (state (size p) (start p)))) [ true ↦ 1 | false ↦ 0 ]
+initial p t x = elim (eqb x (state-index t (start-state p))) [ true ↦ 1 | false ↦ 0 ]
 
 -- "fed rules of the written system, one after another ... a list with a rule that can't be used in its turn is no run"
 unfoldable pub fire-all : List Rule → Marking → Option Marking
@@ -65,3 +66,7 @@ standing m (some x) = m x
 
 unfoldable pub count-in : Program → Tables → Marking → Counted → ℕ
 count-in p t m k = standing m (counter-of p t k)
+
+-- what an item of a bad counts: the sum over its counters
+unfoldable pub sum-in : Program → Tables → Marking → Subject → ℕ
+sum-in p t m k = total 0 (counter-count p t) (λ x. elim (counts p t k x) [ true ↦ m x | false ↦ 0 ])

@@ -13,6 +13,11 @@ use Rattle.model.specs.Limits.{maxFlows, maxMails, maxCeilings, maxCeili
 use Rattle.model.specs.Words.{words}
 use Rattle.model.specs.Verdict.{Check, _>>_, unless}
 
+-- how many words the arrays of the tables have: "two parallel arrays", and document 02, (iv): "a third array of S
+-- numbers, at the end of the tables part"
+abbrev pub table-cells : ℕ → ℕ → ℕ → ℕ
+table-cells flows mails states = 2 * (flows + mails + states) + states
+
 -- "four parts back to back. Each part is its sizes, then two parallel arrays": the word at which a part begins, by the
 -- sizes before it
 abbrev pub bads-from : ℕ → ℕ
@@ -22,12 +27,12 @@ abbrev pub tables-from : ℕ → ℕ → ℕ
 tables-from rows bad-rows = bads-from rows + 2 + 2 * bad-rows
 
 abbrev pub ceilings-from : ℕ → ℕ → ℕ → ℕ
-ceilings-from rows bad-rows entries = tables-from rows bad-rows + 3 + 2 * entries
+ceilings-from rows bad-rows cells = tables-from rows bad-rows + 3 + cells
 
 -- the words of the longest message, each part at the limits of its sizes. (Document 02's 32,269 count what (iv) and (v)
 -- add.)
 abbrev pub maxWords : ℕ
-maxWords = ceilings-from maxRows maxBadRows (maxFlows + maxMails + maxStates) + 2 + 2 * maxCeilingEntries
+maxWords = ceilings-from maxRows maxBadRows (table-cells maxFlows maxMails maxStates) + 2 + 2 * maxCeilingEntries
 
 unfoldable pub bads-at : Sizes → ℕ
 bads-at s = bads-from (s .rows)
@@ -36,7 +41,7 @@ unfoldable pub tables-at : Sizes → ℕ
 tables-at s = tables-from (s .rows) (s .badrows)
 
 unfoldable pub ceilings-at : Sizes → ℕ
-ceilings-at s = ceilings-from (s .rows) (s .badrows) (s .flows + s .mails + s .states)
+ceilings-at s = ceilings-from (s .rows) (s .badrows) (table-cells (s .flows) (s .mails) (s .states))
 
 -- "the word past the ceilings"
 unfoldable pub end-at : Sizes → ℕ
@@ -50,7 +55,7 @@ sizes ws =
     let b : ℕ = bads-from rows in
     let bad-rows : ℕ = getD ws (b + 1) 0 in
     let t : ℕ = tables-from rows bad-rows in
-    let k : ℕ = ceilings-from rows bad-rows (getD ws t 0 + getD ws (t + 1) 0 + getD ws (t + 2) 0) in
+    let k : ℕ = ceilings-from rows bad-rows (table-cells (getD ws t 0) (getD ws (t + 1) 0) (getD ws (t + 2) 0)) in
     record {
       rows = rows;
       names = getD ws 1 0;
@@ -82,12 +87,12 @@ sizes-check at (l ∷ ls) =
     leb (l .size) (l .most)) [ true ↦ sizes-check (at + 1) ls | false ↦ some (Size at) ]
 
 -- "1 and 2 go together, part by part: sizes whole, sizes within limits, arrays whole"; 1: "a part is not whole: its
--- first word"
+-- first word". The arrays have so many cells, a word each.
 unfoldable pub part-check : List ℕ → ℕ → List Limited → ℕ → Check
-part-check ws at ls elements =
+part-check ws at ls cells =
     unless (leb (at + length ls) (length ws)) (Length at) >>
     sizes-check at ls >>
-    unless (leb (at + length ls + 2 * elements) (length ws)) (Length at)
+    unless (leb (at + length ls + cells) (length ws)) (Length at)
 
 -- the sizes of each part, with their limits; three limits are those in force
 abbrev pub program-sizes : Limits → Sizes → List Limited
@@ -106,16 +111,17 @@ abbrev pub ceilings-sizes : Sizes → List Limited
 ceilings-sizes s = limited (s .ceilings) 0 maxCeilings ∷ limited (s .entries) 0 maxCeilingEntries ∷ []
 
 unfoldable pub program-part : Limits → List ℕ → Sizes → Check
-program-part most ws s = part-check ws 0 (program-sizes most s) (s .rows)
+program-part most ws s = part-check ws 0 (program-sizes most s) (2 * s .rows)
 
 unfoldable pub bads-part : List ℕ → Sizes → Check
-bads-part ws s = part-check ws (bads-at s) (bads-sizes s) (s .badrows)
+bads-part ws s = part-check ws (bads-at s) (bads-sizes s) (2 * s .badrows)
 
 unfoldable pub tables-part : Limits → List ℕ → Sizes → Check
-tables-part most ws s = part-check ws (tables-at s) (tables-sizes most s) (s .flows + s .mails + s .states)
+tables-part most ws s =
+    part-check ws (tables-at s) (tables-sizes most s) (table-cells (s .flows) (s .mails) (s .states))
 
 unfoldable pub ceilings-part : List ℕ → Sizes → Check
-ceilings-part ws s = part-check ws (ceilings-at s) (ceilings-sizes s) (s .entries)
+ceilings-part ws s = part-check ws (ceilings-at s) (ceilings-sizes s) (2 * s .entries)
 
 -- 1: "bytes remain: the word past the ceilings"
 unfoldable pub nothing-left : List ℕ → Sizes → Check

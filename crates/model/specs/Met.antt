@@ -12,30 +12,30 @@ use Rattle.model.specs.Index.{count}
 use Rattle.model.specs.Words.{Columns, left, right}
 use Rattle.model.specs.Reader.{first-wrong}
 use Rattle.model.specs.Rows.{Program}
-use Rattle.model.specs.Bads.{Counted, state-of, letter-of, bad, bad-step, bad-row, met}
+use Rattle.model.specs.Bads.{Subject, at-head, of-letter, bad, bad-step, items, met}
 
 -- "(40, class), (41, head) or (42, letter), (43, minimum from 1)": the item whose first row is r, what it counts, and
 -- its minimum
-pub data Item (rows : Columns) (r : ℕ) : Counted → ℕ → Type 0 where
+pub data Item (rows : Columns) (r : ℕ) : Subject → ℕ → Type 0 where
   of-states :
       left rows r ≡ 40 → left rows (r + 1) ≡ 41 → left rows (r + 2) ≡ 43 →
-      Item rows r (state-of (right rows r) (right rows (r + 1))) (right rows (r + 2))
+      Item rows r (at-head (right rows r) (right rows (r + 1))) (right rows (r + 2))
   of-letters :
       left rows r ≡ 40 → left rows (r + 1) ≡ 42 → left rows (r + 2) ≡ 43 →
-      Item rows r (letter-of (right rows r) (right rows (r + 1))) (right rows (r + 2))
+      Item rows r (of-letter (right rows r) (right rows (r + 1))) (right rows (r + 2))
 
 -- "then (44, 0)" closes a bad: a row is of bad number j where so many bads are closed before it
 unfoldable pub closed-before : Columns → ℕ → ℕ
 closed-before rows r = count 0 r (λ q. eqb (left rows q) tag-bad-end)
 
 -- "it is met when every item is, an item when its count is at least its minimum"
-abbrev pub All-met : (Counted → ℕ) → Columns → ℕ → Type 0
+abbrev pub All-met : (Subject → ℕ) → Columns → ℕ → Type 0
 All-met counts rows j =
     (r : ℕ) → r < rows .size → closed-before rows r ≡ j →
-    (k : Counted) (least : ℕ) → Item rows r k least → least ≤ counts k
+    (k : Subject) (least : ℕ) → Item rows r k least → least ≤ counts k
 
 -- The test is that, in bads that are in form.
 abbrev pub Met-exactly : Type 0
 Met-exactly =
     (p : Program) (rows : Columns) (bads : ℕ) → first-wrong (bad-step p) rows (replicate bads bad) ≡ none →
-    (counts : Counted → ℕ) (j : ℕ) → j < bads → (met counts rows (bad-row p rows j) ≡ true) ↔ All-met counts rows j
+    (counts : Subject → ℕ) (j : ℕ) → j < bads → (met counts (items p rows j) ≡ true) ↔ All-met counts rows j

@@ -3,7 +3,7 @@
 -- (Verify.antt says the same as checks.)
 use Prim.Native.Nat.{ℕ, _+_, _-_, _*_, _≤_, _<_}
 use mathlib.Core.Path.{_≡_}
-use mathlib.Core.Bool.{Bool, true}
+use mathlib.Core.Bool.{true}
 use mathlib.Core.Logic.{_↔_, _⊎_}
 use mathlib.Core.List.{List, [], _∷_, _++_, List·Memᴰ}
 use mathlib.Core.Option.{some, none}
@@ -14,14 +14,15 @@ use Rattle.model.specs.declared.Verdict.the-variants.{Safe, Length, Size
 use Rattle.model.specs.declared.Verdict.the-variants.{Counters, Ceiling, Start, Met, Leak, Space, FunctionMailed}
 use Rattle.model.specs.Limits.{Limits}
 use Rattle.model.specs.Words.{Columns, left, right}
+use Rattle.model.specs.Keys.{Key}
 use Rattle.model.specs.Message.{bads-at, tables-at, ceilings-at, end-at, Limited, program-sizes, bads-sizes}
-use Rattle.model.specs.Message.{tables-sizes, ceilings-sizes}
+use Rattle.model.specs.Message.{table-cells, tables-sizes, ceilings-sizes}
 use Rattle.model.specs.Reader.{Grammar, first-wrong}
-use Rattle.model.specs.Rows.{Program, size, tag, num, is-head, is-name, step, whole}
+use Rattle.model.specs.Rows.{Program, size, tag, num, is-name, step, whole}
 use Rattle.model.specs.Scopes.{binds, uses, binds-name, in-scope}
 use Rattle.model.specs.Heads.{is-class}
 use Rattle.model.specs.Bads.{bad-step, bad, bad-row}
-use Rattle.model.specs.Tables.{Tables, is-value}
+use Rattle.model.specs.Tables.{Tables, State, state-at, is-value}
 use Rattle.model.specs.Counters.{counter-count}
 use Rattle.model.specs.Rules.{Rule, rules}
 use Rattle.model.specs.Listing.{system-words}
@@ -30,8 +31,9 @@ use Rattle.model.specs.Ceilings.{Ceilings, ceiling-entries, ceiling-step
 use Rattle.model.specs.Verify.{Message, message, verdict-within}
 use Rattle.model.specs.Wanted.{Present, Wanted-first, Wanted-by, Closed}
 use Rattle.model.specs.Wanted.{Entry as Table-entry}
-use Rattle.model.specs.Demands.{Bytes, Between, Within-limits, Pair-below, Listed, Under, Under-one, Sound}
-use Rattle.model.specs.Demands.{Mails-function, Mails-no-function}
+use Rattle.model.specs.Demands.{Bytes, Between, Within-limits, Under, Under-one, Sound, Mails-function}
+use Rattle.model.specs.Demands.{Mails-no-function, Below, Legal-pair, Legal-state, two-columns, three-columns}
+use Rattle.model.specs.Demands.{Pairs-listed, States-listed}
 use Rattle.model.specs.Demands.{Met as Meets}
 
 -- the first of n that is so
@@ -45,18 +47,22 @@ pub data Behind {A : Type 0} (Good : A → Type 0) : List A → ℕ → A → Ty
   here : (x : A) (xs : List A) → Behind Good (x ∷ xs) 0 x
   there : (y x : A) (xs : List A) (i : ℕ) → Good y → Behind Good xs i x → Behind Good (y ∷ xs) (1 + i) x
 
--- For 1 and 2: a part's first word, its sizes, and how many elements each of its two arrays has
+-- For 1 and 2: a part's first word, its sizes, and how many cells its arrays have
 pub record Message-part : Type 0 where
   pub first : ℕ
   pub sizes : List Limited
-  pub elements : ℕ
+  pub cells : ℕ
 
 abbrev pub parts : Limits → Sizes → List Message-part
 parts most s =
-    record { first = 0; sizes = program-sizes most s; elements = s .rows } ∷
-    record { first = bads-at s; sizes = bads-sizes s; elements = s .badrows } ∷
-    record { first = tables-at s; sizes = tables-sizes most s; elements = s .flows + s .mails + s .states } ∷
-    record { first = ceilings-at s; sizes = ceilings-sizes s; elements = s .entries } ∷ []
+    record { first = 0; sizes = program-sizes most s; cells = 2 * s .rows } ∷
+    record { first = bads-at s; sizes = bads-sizes s; cells = 2 * s .badrows } ∷
+    record {
+      first = tables-at s;
+      sizes = tables-sizes most s;
+      cells = table-cells (s .flows) (s .mails) (s .states);
+    } ∷
+    record { first = ceilings-at s; sizes = ceilings-sizes s; cells = 2 * s .entries } ∷ []
 
 abbrev pub Within : Limited → Type 0
 Within l = Between (l .least) (l .most) (l .size)
@@ -69,7 +75,7 @@ abbrev pub Sizes-whole : List ℕ → Message-part → Type 0
 Sizes-whole ws part = part .first + length (part .sizes) ≤ length ws
 
 abbrev pub Arrays-whole : List ℕ → Message-part → Type 0
-Arrays-whole ws part = part .first + length (part .sizes) + 2 * part .elements ≤ length ws
+Arrays-whole ws part = part .first + length (part .sizes) + part .cells ≤ length ws
 
 -- "sizes within limits, arrays whole"
 abbrev pub Whole : List ℕ → Message-part → Type 0
@@ -109,14 +115,12 @@ pub record Reads-outside (p : Program) (r : ℕ) : Type 0 where
   pub outside : (b : ℕ) → b < size p → binds-name p (num p r) b ≡ true → in-scope p b r ≡ true → ⊥
 
 -- For 7: entry i is in its range, and above the one before
-abbrev pub Placed : (ℕ → Bool) → (ℕ → Bool) → Columns → ℕ → Type 0
-Placed legal-left legal-right c i =
-    ((legal-left (left c i) ≡ true) × (legal-right (right c i) ≡ true)) ×
-    ((i ≡ 0) ⊎ Pair-below (left c (i - 1)) (right c (i - 1)) (left c i) (right c i))
+abbrev pub Placed : (ℕ → Type 0) → (ℕ → Key) → ℕ → Type 0
+Placed In-range key i = In-range i × ((i ≡ 0) ⊎ Below (key (i - 1)) (key i))
 
--- For 8: the state (c, at) wants an entry that is not there
-abbrev pub Lacks : Program → Tables → ℕ → ℕ → Type 0
-Lacks p t c at = (e : Table-entry) × Wanted-by p t c at e × (Present t e → ⊥)
+-- For 8: the state wants an entry that is not there
+abbrev pub Lacks : Program → Tables → State → Type 0
+Lacks p t s = (e : Table-entry) × Wanted-by p t s e × (Present t e → ⊥)
 
 -- For 12: counts under a ceiling meet bad j
 abbrev pub Allowed : Message → ℕ → Type 0
@@ -154,10 +158,10 @@ module _ (most : Limits) (bytes : List ℕ) where
   No-name-again = (r : ℕ) → r < size p → Bound-again p r → ⊥
 
   abbrev Flow-listed : Type 0
-  Flow-listed = Listed (is-name p) (is-value p) (t .flow)
+  Flow-listed = Pairs-listed (is-name p) (is-value p) (t .flow)
 
   abbrev Mail-listed : Type 0
-  Mail-listed = Listed (is-class p) (is-value p) (t .mail)
+  Mail-listed = Pairs-listed (is-class p) (is-value p) (t .mail)
 
   -- "Checked in that order, each over the whole message": what holds before the check with this number
   pub data Passed : ℕ → Type 0 where
@@ -166,8 +170,7 @@ module _ (most : Limits) (bytes : List ℕ) where
     names-passed : Passed 4 → No-name-again → ((n : ℕ) → n < p .names → Bound p n) → Passed 5
     scopes-passed : Passed 5 → ((r : ℕ) → r < size p → Reads-outside p r → ⊥) → Passed 6
     bads-passed : Passed 6 → first-wrong (bad-step p) (m .bads) (replicate (s .bads) bad) ≡ none → Passed 7
-    entries-passed :
-        Passed 7 → Flow-listed → Mail-listed → Listed (is-class p) (λ r. is-head (tag p r)) (t .states) → Passed 8
+    entries-passed : Passed 7 → Flow-listed → Mail-listed → States-listed p t → Passed 8
     closed-passed : Passed 8 → Closed p t → Passed 22
     mailed-passed : Passed 22 → Mails-no-function p t → Passed 9
     counters-passed : Passed 9 → counter-count p t ≤ most .counters → Passed 10
@@ -206,22 +209,25 @@ module _ (most : Limits) (bytes : List ℕ) where
         Refused lent (Bad (bads-at s + 2 + r))
     -- 7 entry: "out of range, or not above the one before in its list: first column's word"
     flow-misplaced :
-        (i : ℕ) → Passed 7 → First-such (t .flow .size) (λ j. Placed (is-name p) (is-value p) (t .flow) j → ⊥) i →
+        (i : ℕ) → Passed 7 →
+        First-such (t .flow .size)
+        (λ j. Placed (Legal-pair (is-name p) (is-value p) (t .flow)) (two-columns (t .flow)) j → ⊥) i →
         Refused lent (Entry (tables-at s + 3 + i))
     mail-misplaced :
         (i : ℕ) → Passed 7 → Flow-listed →
-        First-such (t .mail .size) (λ j. Placed (is-class p) (is-value p) (t .mail) j → ⊥) i →
+        First-such (t .mail .size)
+        (λ j. Placed (Legal-pair (is-class p) (is-value p) (t .mail)) (two-columns (t .mail)) j → ⊥) i →
         Refused lent (Entry (tables-at s + 3 + s .flows + i))
     state-misplaced :
         (i : ℕ) → Passed 7 → Flow-listed → Mail-listed →
-        First-such (t .states .size) (λ j. Placed (is-class p) (λ r. is-head (tag p r)) (t .states) j → ⊥) i →
+        First-such (t .states .size) (λ j. Placed (Legal-state p t) (three-columns t) j → ⊥) i →
         Refused lent (Entry (tables-at s + 3 + s .flows + s .mails + i))
     -- 8 open: "an opening entry missing: size F; else the first state that lacks something, its first column's word"
     opening-missing :
         (e : Table-entry) → Passed 8 → Wanted-first p e → (Present t e → ⊥) → Refused lent (Open (tables-at s))
     state-open :
         (i : ℕ) → Passed 8 → ((e : Table-entry) → Wanted-first p e → Present t e) →
-        First-such (t .states .size) (λ j. Lacks p t (left (t .states) j) (right (t .states) j)) i →
+        First-such (t .states .size) (λ j. Lacks p t (state-at t j)) i →
         Refused lent (Open (tables-at s + 3 + s .flows + s .mails + i))
     -- 22 function mailed, "between 8 and 9": "exactly when a mail value has tag 3 or 11, placed at the first such
     -- entry's first column"

@@ -2,16 +2,15 @@
 use Prim.Native.Nat.{ℕ, _+_}
 use mathlib.Core.Bool.{Bool, true, false, _&&_}
 use mathlib.Core.List.{List, [], _∷_, _++_}
-use mathlib.Core.Option.{some, none}
 use lib.Dec.{eqb}
 use Rattle.model.specs.Index.{gather, only}
 use Rattle.model.specs.Words.{Columns, left, right}
-use Rattle.model.specs.Rows.{Program, size}
-use Rattle.model.specs.Heads.{call-at, head-at, gives, builds, makes, calls, sends, spawns, selfs, cases}
-use Rattle.model.specs.Heads.{receives, no-head, branch-body, is-class, body, takes, innermost}
+use Rattle.model.specs.Rows.{Program}
+use Rattle.model.specs.Heads.{head-at, gives, builds, makes, calls, sends, spawns, selfs, cases, receives}
+use Rattle.model.specs.Heads.{no-head, branch-body, is-class, takes}
 use Rattle.model.specs.Letters.{letters, row-letter}
-use Rattle.model.specs.Tables.{Tables, some-of, State, state, state-at, state-index}
-use Rattle.model.specs.Closed.{may-take, returns-to}
+use Rattle.model.specs.Tables.{Tables, some-of, State, onward, state-at, state-index}
+use Rattle.model.specs.Closed.{may-take, entered, waits-for, resumed, begun}
 use Rattle.model.specs.Counters.{letter-index}
 
 -- "then nothing, (52, letter counter read), (53, letter counter put) or (54, new state)"
@@ -48,39 +47,34 @@ unfoldable pub letter-of-some : Program → Columns → ℕ → (ℕ → Bool) �
 letter-of-some p c a test l = some-of c a (λ v. eqb (row-letter p v) l && test v)
 
 -- The rules of the state s, which has number i: "one rule per case above, repeats from one state dropped. Order: by
--- state; then function, call row or branch; send by class; then letter". Values of one letter, and values that one
--- branch may match, share their rule.
+-- state; then function, call row or branch; send by class; then letter"; document 02, (iv): "in order of b". Values of
+-- one letter, and values that one branch may match, share their rule.
 unfoldable pub state-rules : Program → Tables → ℕ → State → List Rule
 state-rules p t i s =
-    let c : ℕ = s .class in
-    let at : ℕ = s .location in
-    let to : ℕ → Effect → Rule = λ r effect. rule i (state-index t (state c r)) effect in
-    elim (head-at p at) [
-      | gives n ↦
-          elim (innermost p at) [
-            | none ↦ []
-            | some f ↦ gather 0 (t .states .size)
-                (λ j. only (returns-to p t c f j) (to (call-at p (state-at t j .location) .rest) quiet))
-          ]
-      | builds n k ns r ↦ to r quiet ∷ []
-      | makes n r ↦ to r quiet ∷ []
-      | calls call ↦ from-each (t .flow) (call .callee) (λ f. only (takes p f (call .count)) (to (body p f) quiet))
+    let to : State → Effect → Rule = λ s′ effect. rule i (state-index t s′) effect in
+    elim (head-at p (s .location)) [
+      | gives n ↦ gather 0 (t .states .size)
+          (λ j. only (waits-for (state-at t j) s) (to (resumed p (state-at t j)) quiet))
+      | builds n k ns r ↦ to (onward s r) quiet ∷ []
+      | makes n r ↦ to (onward s r) quiet ∷ []
+      | calls call ↦ from-each (t .flow) (call .callee) (λ f. only (takes p f (call .count)) (to (entered p s f) quiet))
       | sends n target message r ↦
           from-each (t .flow) target
           (λ d. elim (is-class p d) [
             | true ↦ from-letters p (letter-of-some p (t .flow) message (λ v. true))
-                (λ l. to r (puts (letter-index p t d l)))
+                (λ l. to (onward s r) (puts (letter-index p t d l)))
             | false ↦ []
           ])
       | spawns n function r ↦
           from-each (t .flow) function
-          (λ f. only (takes p f 0) (to r (starts (state-index t (state at (body p f))))))
-      | selfs n r ↦ to r quiet ∷ []
-      | cases n qs ↦ from-all qs (λ q. only (some-of (t .flow) n (may-take p t q)) (to (branch-body p q) quiet))
+          (λ f. only (takes p f 0) (to (onward s r) (starts (state-index t (begun p s f)))))
+      | selfs n r ↦ to (onward s r) quiet ∷ []
+      | cases n qs ↦ from-all qs
+          (λ q. only (some-of (t .flow) n (may-take p t q)) (to (onward s (branch-body p q)) quiet))
       | receives qs ↦
           from-all qs
-          (λ q. from-letters p (letter-of-some p (t .mail) c (may-take p t q))
-          (λ l. to (branch-body p q) (reads (letter-index p t c l))))
+          (λ q. from-letters p (letter-of-some p (t .mail) (s .class) (may-take p t q))
+          (λ l. to (onward s (branch-body p q)) (reads (letter-index p t (s .class) l))))
       | no-head ↦ []
     ]
 

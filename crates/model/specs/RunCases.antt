@@ -544,13 +544,32 @@ held-functions =
     (25, 4) ∷ (33, 2) ∷ (1, 2) ∷ (31, 0) ∷ (33, 1) ∷ (1, 1) ∷ (31, 0) ∷ (33, 0) ∷ (1, 1) ∷ (30, 3) ∷ (7, 4) ∷ (1, 4) ∷
     [])
 
+-- One routine with two callers, which spawns: a process will return to the call pushed last, and a new one to none.
+--     constructors a/0.
+--     function work() -> work.
+--     function routine(X) ->
+--         P = spawn(work),
+--         same(P).
+--     function same(X) -> X.
+--     start ->
+--         A = a,
+--         routine(A),
+--         routine(A).
+unfoldable pub two-callers : Program
+two-callers =
+    station 10 1 3
+    ((10, 0) ∷ (11, 0) ∷ (22, 0) ∷ (1, 0) ∷ (11, 1) ∷ (22, 1) ∷ (23, 2) ∷ (6, 3) ∷ (21, 0) ∷ (4, 4) ∷ (21, 5) ∷
+    (22, 1) ∷ (21, 3) ∷ (1, 4) ∷ (11, 5) ∷ (22, 1) ∷ (23, 6) ∷ (1, 6) ∷ (2, 7) ∷ (20, 0) ∷ (4, 8) ∷ (21, 1) ∷
+    (22, 1) ∷ (21, 7) ∷ (4, 9) ∷ (21, 1) ∷ (22, 1) ∷ (21, 7) ∷ (1, 9) ∷ [])
+
 unfoldable pub run-stations : List Program
 run-stations =
     (one-message ∷ three-letters ∷ passed-over ∷ any-branch ∷ both-branches ∷ case-branches ∷ half-match ∷
     deep-pattern ∷ fresh-names ∷ yields-message ∷ kept-bindings ∷ global-function ∷ closure-over-closure ∷
     callees-bindings ∷ callers-bindings ∷ arguments-in-order ∷ pushed-calls ∷ calls-itself ∷ endless ∷
     receives-inside ∷ spawned ∷ two-of-one-row ∷ numbers-as-spawned ∷ own-address ∷ function-sent ∷ sent-on ∷ waits ∷
-    no-target ∷ wrong-count ∷ no-spawn ∷ no-match ∷ other-values ∷ arguments-kept ∷ held-names ∷ held-functions ∷ [])
+    no-target ∷ wrong-count ∷ no-spawn ∷ no-match ∷ other-values ∷ arguments-kept ∷ held-names ∷ held-functions ∷
+    two-callers ∷ [])
 
 unfoldable pub run-cases : List Run-case
 run-cases =
@@ -917,6 +936,30 @@ run-cases =
     -- The last branch is taken: neither the box is equal to itself, nor the function in it, nor to one of the front.
     after held-functions ((0, 3) ∷ [])
     ("23@21" ∷ []) ∷
+    -- The first call of the routine is pushed.
+    after two-callers ((0, 2) ∷ [])
+    ("29@7 ^20" ∷ []) ∷
+    -- The new process has nothing pushed, though the call stands behind its spawner.
+    after two-callers ((0, 3) ∷ [])
+    ("29@9 ^20" ∷ "7@3" ∷ []) ∷
+    -- The routine calls another: that call is pushed last.
+    after two-callers ((0, 4) ∷ [])
+    ("29@17 ^9 ^20" ∷ "7@3" ∷ []) ∷
+    -- Giving back leads to the routine, with the first call pushed again.
+    after two-callers ((0, 5) ∷ [])
+    ("29@13 ^20" ∷ "7@3" ∷ []) ∷
+    -- And behind the first call, with nothing pushed.
+    after two-callers ((0, 6) ∷ [])
+    ("29@24" ∷ "7@3" ∷ []) ∷
+    -- The same place as after two steps, with the second call pushed.
+    after two-callers ((0, 7) ∷ [])
+    ("29@7 ^24" ∷ "7@3" ∷ []) ∷
+    -- Behind the second call.
+    after two-callers ((0, 11) ∷ [])
+    ("29@28" ∷ "7@3" ∷ "7@3" ∷ []) ∷
+    -- Giving back with nothing pushed ends the spawned processes, as it ends the start.
+    after two-callers ((0, 11) ∷ (1, 1) ∷ (2, 1) ∷ (0, 1) ∷ [])
+    ("29@28" ∷ "7@3" ∷ "7@3" ∷ []) ∷
     []
 
 -- the definitions above opened at once, for the theorems that compute the table
@@ -925,5 +968,5 @@ unfolding one-message three-letters passed-over any-branch both-branches case-br
     fresh-names yields-message kept-bindings global-function closure-over-closure callees-bindings callers-bindings
     arguments-in-order pushed-calls calls-itself endless receives-inside spawned two-of-one-row numbers-as-spawned
     own-address function-sent sent-on waits no-target wrong-count no-spawn no-match other-values arguments-kept
-    held-names held-functions run-stations run-cases
+    held-names held-functions two-callers run-stations run-cases
 run-cases-opens = tt

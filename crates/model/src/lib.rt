@@ -80,7 +80,11 @@ pub const MAX_WORDS: usize = MAX_PROGRAM + MAX_EVIDENCE + MAX_CEILING_WORDS;
 
 const MAX_PROGRAM: usize = 4 + 2 * MAX_ROWS;
 
-const MAX_EVIDENCE: usize = 2 + 2 * MAX_BAD_ROWS + 3 + 2 * (MAX_FLOWS + MAX_MAILS + MAX_STATES);
+const MAX_EVIDENCE: usize = 2
+    + 2 * MAX_BAD_ROWS
+    + 3
+    + 2 * (MAX_FLOWS + MAX_MAILS + MAX_STATES)
+    + MAX_STATES;
 
 const MAX_CEILING_WORDS: usize = 2 + 2 * MAX_CEILING_ENTRIES;
 

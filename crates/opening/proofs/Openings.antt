@@ -14,7 +14,7 @@ use Rattle.model.specs.Words.{columns}
 use Rattle.model.specs.Rows.{Program, program, size, tag, num, Item, constructor, global, expression, body-form, declarations, step}
 use Rattle.model.specs.Heads.{is-function, body, start}
 use Rattle.model.specs.Tables.{Tables, tables, has, entries, state, state-index, has-state}
-use Rattle.model.specs.Closed.{opening-closed}
+use Rattle.model.specs.Closed.{start-state, opening-closed}
 use Rattle.model.proofs.Index.{all-hit, all-miss, all-end}
 use Rattle.model.proofs.Parse.Spans.{Spans, spans-unique, spans-none, spans-split, spans-first}
 use Rattle.model.proofs.Parse.Grammar.{fits-tag}
@@ -88,7 +88,7 @@ module _ (ws : List ℕ) (s : Sizes) where
   abbrev pub Openings-from : ℕ → Type 0
   Openings-from r =
       opening-closed (program ws s) (tables ws s) ≡
-      all r (s .rows) (opening-row (program ws s) (tables ws s)) && has-state (tables ws s) (state (s .rows) (start (program ws s)))
+      all r (s .rows) (opening-row (program ws s) (tables ws s)) && has-state (tables ws s) (start-state (program ws s))
 
   pub openings-begin : Openings-from 0
   unfolding opening-closed opening-row program columns
@@ -96,11 +96,11 @@ module _ (ws : List ℕ) (s : Sizes) where
 
   module _ (r : ℕ) (x : Bool) (below : r < s .rows) (said : x ≡ opening-row (program ws s) (tables ws s) r) (h : Openings-from r) where
     pub openings-next : x ≡ true → Openings-from (r + 1)
-    openings-next z = h ∙ ap (λ b. b && has-state (tables ws s) (state (s .rows) (start (program ws s)))) (all-hit r (s .rows) (opening-row (program ws s) (tables ws s)) below (sym said ∙ z))
+    openings-next z = h ∙ ap (λ b. b && has-state (tables ws s) (start-state (program ws s))) (all-hit r (s .rows) (opening-row (program ws s) (tables ws s)) below (sym said ∙ z))
 
     pub openings-fail : x ≡ false → false ≡ opening-closed (program ws s) (tables ws s)
     openings-fail z = sym (h ∙ rw (all-miss r (s .rows) (opening-row (program ws s) (tables ws s)) below (sym said ∙ z)))
 
-  pub openings-over : (r q i : ℕ) → s .rows ≤ r → q ≡ start (program ws s) → i ≡ state-index (tables ws s) (state (s .rows) q) → Openings-from r → ltb i (s .states) ≡ opening-closed (program ws s) (tables ws s)
-  unfolding has-state tables entries columns
+  pub openings-over : (r q i : ℕ) → s .rows ≤ r → q ≡ start (program ws s) → i ≡ state-index (tables ws s) (state (s .rows) q (s .rows)) → Openings-from r → ltb i (s .states) ≡ opening-closed (program ws s) (tables ws s)
+  unfolding has-state start-state program tables entries columns
   openings-over r q i l e h k = sym (k ∙ rw (all-end r (s .rows) (opening-row (program ws s) (tables ws s)) l, ← e, ← h))

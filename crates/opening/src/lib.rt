@@ -1,5 +1,5 @@
 // The opening entries: each tag 11 name holds its own row, and the start expression is a state of the starting
-// process.
+// process, with nothing pushed.
 use lists::has_flow;
 use lists::state_index;
 use lists::word;
@@ -59,5 +59,5 @@ pub fn opening_closed(ws: &[u16], s: Sizes, afters: &[u16]) -> bool
         r += 1;
     }
     let first = start(ws, s, afters);
-    state_index(ws, s, s.rows, first) < s.states
+    state_index(ws, s, s.rows, first, s.rows) < s.states
 }

@@ -4,7 +4,7 @@ use native.Mathlib.Decide.{decLt}
 use native.Mathlib.Omega.{arith}
 use mathlib.Core.Path.{_≡_, refl, sym, _∙_, ap}
 use mathlib.Core.Bool.{Bool, true, false, _&&_}
-use mathlib.Core.List.{List}
+use mathlib.Core.List.{List, [], _∷_}
 use lib.Dec.{eqb}
 use lib.ListN.{length}
 use borrow.Author.Tests.{eqb-true, eq-eqb}
@@ -19,9 +19,9 @@ use Rattle.model.proofs.Index.{any-end, any-hit, any-miss, any-intro, any-elim}
 use Rattle.model.proofs.Numbering.Letters.{key-room}
 use Rattle.bits.specs.Bits.{member, Row}
 use Rattle.bits.proofs.Loops.{both}
-use Rattle.lists.specs.Lists.{Ascending, place, range-from, range-to}
+use Rattle.lists.specs.Lists.{Ascending, range-from, range-to}
 use Rattle.lists.specs.Ready.{Ready}
-use Rattle.lists.proofs.Facts.{mail-form}
+use Rattle.lists.proofs.Facts.{mail-rises}
 use Rattle.lists.proofs.Rising.{begins-before, begins-within, begins-behind, begins-order, place-upto}
 use Rattle.values.proofs.Names.{mail-upto}
 use Rattle.values.specs.Values.{width, Flow-sets}
@@ -37,28 +37,28 @@ pub some-intro : (c : Columns) (a j : ℕ) (f : ℕ → Bool) → j < c .size �
 unfolding some-of
 some-intro c a j f l same e = any-intro 0 (c .size) j _ (omega arith) l (and-intro (eqb (left c j) a) (f (right c j)) (eq-eqb (left c j) a same) e)
 
-some-range : (c : Columns) (a : ℕ) (f : ℕ → Bool) → Ascending c → some-of c a f ≡ any (range-from c a) (range-to c a) (λ j. f (right c j))
+some-range : (c : Columns) (a : ℕ) (f : ℕ → Bool) → Ascending c [] → some-of c a f ≡ any (range-from c a) (range-to c a) (λ j. f (right c j))
 unfolding range-from range-to
-some-range c a f rising = both (some-of c a f) (any (place c a 0) (place c (a + 1) 0) (λ j. f (right c j)))
+some-range c a f rising = both (some-of c a f) (any (range-from c a) (range-to c a) (λ j. f (right c j)))
     (λ h. let (j, l, same, z) = some-elim c a f h in
-    elim (decLt j (place c a 0)) [
-      | yes m ↦ absurd (begins-before c a j m same)
-      | no m ↦ elim (decLt j (place c (a + 1) 0)) [
-        | yes k ↦ any-intro (place c a 0) (place c (a + 1) 0) j (λ i. f (right c i)) (omega arith) k z
-        | no k ↦ absurd (begins-behind c a rising j (omega arith) l same)
+    elim (decLt j (range-from c a)) [
+      | yes m ↦ absurd (begins-before c [] a j m same)
+      | no m ↦ elim (decLt j (range-to c a)) [
+        | yes k ↦ any-intro (range-from c a) (range-to c a) j (λ i. f (right c i)) (omega arith) k z
+        | no k ↦ absurd (begins-behind c [] a rising j (omega arith) l same)
       ]
     ])
-    (λ h. let (j, b, z) = any-elim (place c a 0) (place c (a + 1) 0) (λ i. f (right c i)) h in
-    some-intro c a j f (let y = place-upto c (a + 1) 0 in omega (arith, b .1)) (begins-within c a rising j (b .0) (b .1)) z)
+    (λ h. let (j, b, z) = any-elim (range-from c a) (range-to c a) (λ i. f (right c i)) h in
+    some-intro c a j f (let y = place-upto c [] ((a + 1) ∷ 0 ∷ 0 ∷ []) in omega (arith, b .1)) (begins-within c [] a rising j (b .0) (b .1)) z)
 
 -- the mail of a class
 module _ {ws : List ℕ} {s : Sizes} (h : Ready ws s) (c from to : ℕ) (a : from ≡ range-from (tables ws s .mail) c) (b : to ≡ range-to (tables ws s .mail) c) where
   pub mail-range : (f : ℕ → Bool) → some-of (tables ws s .mail) c f ≡ any from to (λ j. f (right (tables ws s .mail) j))
-  mail-range f = rw (a, b) (some-range (tables ws s .mail) c f (mail-form h .ascending))
+  mail-range f = rw (a, b) (some-range (tables ws s .mail) c f (mail-rises h))
 
   pub mail-order : (from ≤ to) × (to ≤ s .mails)
   unfolding range-from range-to tables entries columns
-  mail-order = (omega (arith, begins-order (tables ws s .mail) c (mail-form h .ascending)), omega (arith, place-upto (tables ws s .mail) (c + 1) 0))
+  mail-order = (omega (arith, begins-order (tables ws s .mail) [] c (mail-rises h)), omega (arith, place-upto (tables ws s .mail) [] ((c + 1) ∷ 0 ∷ 0 ∷ [])))
 
   pub mail-low : (j v : ℕ) → j < to → v ≡ right (tables ws s .mail) j → v ≤ s .rows
   unfolding program columns tables entries

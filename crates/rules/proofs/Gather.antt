@@ -4,7 +4,7 @@ use native.Mathlib.Omega.{arith}
 use native.Mathlib.Numerals.{add-one}
 use mathlib.Core.Path.{_≡_, refl, sym, _∙_, ap, ap₂}
 use mathlib.Core.Bool.{Bool, true, false}
-use mathlib.Core.List.{List, [], _++_, append-assoc, append-nil}
+use mathlib.Core.List.{List, [], _∷_, _++_, append-assoc, append-nil}
 use lib.Dec.{eqb}
 use borrow.Author.Tests.{eq-eqb, ne-eqb}
 use Rattle.model.specs.Index.{gatherIn, gather, count}
@@ -14,8 +14,7 @@ use Rattle.model.specs.Heads.{branch-rows}
 use Rattle.model.specs.Rules.{from-each, from-all}
 use Rattle.model.proofs.Logic.{test}
 use Rattle.model.proofs.Index.{gather-end, gather-turn, count-split, count-last, count-last-miss}
-use Rattle.model.proofs.Numbering.States.{Ascending}
-use Rattle.lists.specs.Lists.{place, range-from, range-to}
+use Rattle.lists.specs.Lists.{Ascending, range-from, range-to}
 use Rattle.lists.proofs.Rising.{place-upto, begins-before, begins-within, begins-behind, begins-order}
 use Rattle.positions.specs.Positions.{branch-row}
 
@@ -120,11 +119,11 @@ gather-next n f =
     rw (a, b) (ap (λ xs. f 0 ++ xs) (gatherIn-shift n 0 f))
 
 -- what a list that ascends pairs with a, in its part of the list
-pub each-range : {A : Type 0} (c : Columns) (a : ℕ) (f : ℕ → List A) → Ascending c → from-each c a f ≡ gather (range-from c a) (range-to c a) (λ j. f (right c j))
+pub each-range : {A : Type 0} (c : Columns) (a : ℕ) (f : ℕ → List A) → Ascending c [] → from-each c a f ≡ gather (range-from c a) (range-to c a) (λ j. f (right c j))
 unfolding from-each range-from range-to
 each-range {A} c a f rising =
-    gather-part (place c a 0) (place c (a + 1) 0) (c .size) at (λ j. f (right c j)) (begins-order c a rising) (place-upto c (a + 1) 0)
-    (λ k y. miss k (begins-before c a k y)) (λ k x y. hit k (begins-within c a rising k x y)) (λ k x y. miss k (begins-behind c a rising k x y))
+    gather-part (range-from c a) (range-to c a) (c .size) at (λ j. f (right c j)) (begins-order c [] a rising) (place-upto c [] ((a + 1) ∷ 0 ∷ 0 ∷ []))
+    (λ k y. miss k (begins-before c [] a k y)) (λ k x y. hit k (begins-within c [] a rising k x y)) (λ k x y. miss k (begins-behind c [] a rising k x y))
   where
     at : ℕ → List A
     at i = elim (eqb (left c i) a) [ true ↦ f (right c i) | false ↦ [] ]

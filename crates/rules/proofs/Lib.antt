@@ -1,3 +1,3 @@
-pub mod Classes
+pub mod States
 pub mod Gather
 pub mod Adding

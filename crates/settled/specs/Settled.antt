@@ -1,4 +1,4 @@
--- What a head asks whatever the class, as one number.
+-- What a head asks whatever the state, as one number.
 use Prim.Native.Nat.{ℕ, _+_, _≤_}
 use mathlib.Core.Path.{_≡_}
 use mathlib.Core.Logic.{_⊎_}

@@ -1,4 +1,4 @@
-// What a head asks whatever the class.
+// What a head asks whatever the state.
 use asks::asked;
 use branches::taken_bits;
 use model::Sizes;

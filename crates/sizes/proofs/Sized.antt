@@ -4,9 +4,9 @@ use mathlib.Core.Path.{_≡_}
 use mathlib.Core.List.{List}
 use lib.ListN.{getD}
 use Rattle.model.specs.declared.Sizes.{Sizes}
-use Rattle.model.specs.Message.{sizes}
+use Rattle.model.specs.Message.{table-cells, sizes}
 
-pub sized : (ws : List ℕ) (rows names constructors functions bads badrows flows mails states ceilings entries : ℕ)
+pub sized : (ws : List ℕ) (rows names constructors functions bads badrows flows mails states cells ceilings entries : ℕ)
     → rows ≡ getD ws 0 0
     → names ≡ getD ws 1 0
     → constructors ≡ getD ws 2 0
@@ -16,8 +16,9 @@ pub sized : (ws : List ℕ) (rows names constructors functions bads badrows flow
     → flows ≡ getD ws (4 + 2 * rows + 2 + 2 * badrows) 0
     → mails ≡ getD ws (4 + 2 * rows + 2 + 2 * badrows + 1) 0
     → states ≡ getD ws (4 + 2 * rows + 2 + 2 * badrows + 2) 0
-    → ceilings ≡ getD ws (4 + 2 * rows + 2 + 2 * badrows + 3 + 2 * (flows + mails + states)) 0
-    → entries ≡ getD ws (4 + 2 * rows + 2 + 2 * badrows + 3 + 2 * (flows + mails + states) + 1) 0
+    → cells ≡ table-cells flows mails states
+    → ceilings ≡ getD ws (4 + 2 * rows + 2 + 2 * badrows + 3 + cells) 0
+    → entries ≡ getD ws (4 + 2 * rows + 2 + 2 * badrows + 3 + cells + 1) 0
     → _≡_ {A = Sizes} (record { rows = rows; names = names; constructors = constructors; functions = functions; bads = bads; badrows = badrows; flows = flows; mails = mails; states = states; ceilings = ceilings; entries = entries }) (sizes ws)
 unfolding sizes
-sized ws rows names constructors functions bads badrows flows mails states ceilings entries a b c d e f g h i j k = cc
+sized ws rows names constructors functions bads badrows flows mails states cells ceilings entries a b c d e f g h i t j k = cc

@@ -1,12 +1,12 @@
 // The sizes of the four parts of a message: as they are read, where they say that the parts begin, and the first one
 // outside its limits.
 ghost use mathlib.Core.Path.{_≡_};
-ghost use Prim.Native.Nat.{_<_};
+ghost use Prim.Native.Nat.{_+_, _^_, _<_};
 ghost use lib.ListN.{getD};
 ghost use Rattle.model.specs.Limits.{present};
 ghost use Rattle.model.specs.Words.{words};
 ghost use Rattle.model.specs.Message.{limited, program-sizes, bads-sizes, tables-sizes, ceilings-sizes, sizes, bads-at};
-ghost use Rattle.model.specs.Message.{tables-at, ceilings-at, end-at};
+ghost use Rattle.model.specs.Message.{table-cells, tables-at, ceilings-at, end-at};
 ghost use Rattle.sizes.specs.Sizes.{Placed, inside, first-outside};
 use model::MAX_BAD_ROWS;
 use model::MAX_BADS;
@@ -35,6 +35,14 @@ fn size_at(bytes: &[u8], i: usize) -> usize
     }
 }
 
+// The words of the arrays of the tables: two columns of each list, and the third column of the states.
+pub fn table_cells(flows: usize, mails: usize, states: usize) -> usize
+    requires { ⌜ flows + mails + states < 2 ^ 19 ⌝ }
+    ensures { λ r. ⌜ r ≡ table-cells flows mails states ⌝ }
+{
+    2 * (flows + mails + states) + states
+}
+
 // The sizes of the four parts, each where the sizes before it say that it stands.
 pub fn sizes_of(bytes: &[u8]) -> Sizes
     ensures { λ r. ⌜ r ≡ sizes (words (now (bytes .entry))) ⌝ }
@@ -47,7 +55,8 @@ pub fn sizes_of(bytes: &[u8]) -> Sizes
     let flows = size_at(bytes, tables);
     let mails = size_at(bytes, tables + 1);
     let states = size_at(bytes, tables + 2);
-    let ceilings = tables + 3 + 2 * (flows + mails + states);
+    let cells = table_cells(flows, mails, states);
+    let ceilings = tables + 3 + cells;
     Sizes {
         rows,
         names: size_at(bytes, 1),
@@ -84,7 +93,8 @@ pub fn ceilings_at(s: Sizes) -> usize
     requires { ⌜ Placed s ⌝ }
     ensures { λ r. ⌜ r ≡ ceilings-at s ⌝ }
 {
-    tables_at(s) + 3 + 2 * (s.flows + s.mails + s.states)
+    let cells = table_cells(s.flows, s.mails, s.states);
+    tables_at(s) + 3 + cells
 }
 
 // The word past the ceilings.

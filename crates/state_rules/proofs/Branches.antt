@@ -14,14 +14,14 @@ use Rattle.model.specs.declared.Sizes.{Sizes}
 use Rattle.model.specs.Index.{gather, only}
 use Rattle.model.specs.Limits.{maxBranches}
 use Rattle.model.specs.Words.{left, right, columns}
-use Rattle.model.specs.Rows.{Program, program, size, tag, num, kind, branch, step, expression-step, is-branch-count, past-items, case, receive}
+use Rattle.model.specs.Rows.{Program, program, size, tag, num, kind, branch, step, expression-step, is-branch-count, past-items, case}
 use Rattle.model.specs.Heads.{branch-rows, branch-body, head-at, cases, receives}
 use Rattle.model.specs.Letters.{letters}
-use Rattle.model.specs.Tables.{Tables, tables, entries, some-of, state, state-index}
+use Rattle.model.specs.Tables.{Tables, tables, entries, some-of, state-at, state-index, onward}
 use Rattle.model.specs.Closed.{may-take}
-use Rattle.model.specs.Counters.{letter-key, has-letter, letter-index}
-use Rattle.model.specs.Rules.{quiet, reads, Rule, rule, from-letters, letter-of-some, state-rules}
-use Rattle.model.proofs.Logic.{test, true-false, and-left, and-right}
+use Rattle.model.specs.Counters.{letter-index}
+use Rattle.model.specs.Rules.{quiet, reads, rule, from-letters, letter-of-some, state-rules}
+use Rattle.model.proofs.Logic.{test, true-false, and-right}
 use Rattle.model.proofs.Heads.{head-case, head-receive}
 use Rattle.model.proofs.Numbering.Letters.{key-room}
 use Rattle.model.proofs.Parse.Grammar.{fits-some}
@@ -30,17 +30,16 @@ use Rattle.model.proofs.Parse.Locations.{Location, location-follows}
 use Rattle.lists.specs.Ready.{Ready}
 use Rattle.positions.specs.Positions.{branch-row, Run, Ends}
 use Rattle.positions.specs.Branches.{Branch-bits}
-use Rattle.positions.proofs.Standing.{run-first, run-prefix, run-last, run-body, case-run, receive-run}
+use Rattle.positions.proofs.Standing.{run-first, run-prefix, run-body, case-run, receive-run}
 use Rattle.system_letters.specs.Letters.{Class-letters}
-use Rattle.rules.specs.declared.Class.{Class}
 use Rattle.system_letters.proofs.Pairs.{pairs-told}
-use Rattle.rules.specs.Derived.{Entered, Rule-room}
-use Rattle.rules.proofs.Classes.{class-low}
+use Rattle.rules.specs.Derived.{Rule-room}
+use Rattle.rules.proofs.States.{class-low}
 use Rattle.rules.proofs.Gather.{gather-same, gather-none, rows-range}
 use Rattle.state_rules.specs.Heads.{Pair-room, case-turn, class-turn, receive-turn}
 use Rattle.pattern_letters.specs.Takes.{takes-letter}
 use Rattle.pattern_letters.proofs.Letters.{taken-letter, taken-there, taken-some}
-use Rattle.state_rules.proofs.Heads.{only-both, only-no, skipped, kept, tag-head, here}
+use Rattle.state_rules.proofs.Heads.{only-both, only-no, kept, tag-head, here}
 use Rattle.state_rules.proofs.Letters.{letters-paired}
 
 -- the rows of branches
@@ -130,50 +129,48 @@ module _ {ws : List ℕ} {s : Sizes} (h : Ready ws s) where
     receive-rows = receive-run receive-here (rw e)
 
   -- the rules of a case
-  pub case-gathered : (afters branches : List ℕ) → Ends p afters → Branch-bits p t branches → (x r m : ℕ) (k : Class) (at : List ℕ) (i : ℕ) → Entered p t k at → tag p r ≡ 8 → x < s .states → r ≡ right (t .states) x → m ≡ num p (r + 1) → gather 0 m (case-turn p at (getD branches x 0) (r + 2) i) ≡ state-rules p t i (state (k .number) r)
-  unfolding state-rules kind case-turn tables entries columns
-  case-gathered afters branches ends bits x r m k at i d e low same u =
-      let head : head-at p r ≡ cases (num p r) (branch-rows p m (r + 2)) = head-case p r (rw e) ∙ ap (λ n. cases (num p r) (branch-rows p n (r + 2))) (sym u) in
+  pub case-gathered : (branches : List ℕ) → Branch-bits p t branches → (x r m e : ℕ) → tag p r ≡ 8 → x < s .states → r ≡ right (t .states) x → m ≡ num p (r + 1) → gather 0 m (case-turn p t (state-at t x) (getD branches x 0) (r + 2) e) ≡ state-rules p t e (state-at t x)
+  unfolding state-rules kind case-turn tables entries columns state-at
+  case-gathered branches bits x r m e is low same u =
+      let head : head-at p (right (t .states) x) ≡ cases (num p r) (branch-rows p m (r + 2)) = ap (head-at p) (sym same) ∙ (head-case p r (rw is) ∙ ap (λ n. cases (num p r) (branch-rows p n (r + 2))) (sym u)) in
       rw (head, state-rules)
       (gather-same 0 m _ _ (λ b y z.
-      let run : Run p (branch-row p (r + 2) b) 1 = run-last b (r + 2) (run-prefix (suc b) m (r + 2) (omega arith) (rw u (case-rows r e))) in
-      let bit′ : bit (getD branches x 0) b ≡ some-of (t .flow) (num p r) (may-take p t (branch-row p (r + 2) b)) = bits .case-bit x (num p r) b (branch-rows p m (r + 2)) low (rw (← same) head) (omega (arith, rows-length p m (r + 2))) ∙ ap (λ q. some-of (t .flow) (num p r) (may-take p t q)) (rows-at p m (r + 2) b z) in
-      only-both _ _ _ _ bit′ (λ w. ap (λ q. rule i q quiet) (d .index (branch-body p (branch-row p (r + 2) b)) (run-body p afters (branch-row p (r + 2) b) ends run .2)))) ∙
-      sym (rows-range p m (r + 2) (λ q. only (some-of (t .flow) (num p r) (may-take p t q)) (rule i (state-index t (state (k .number) (branch-body p q))) quiet))))
+      let bit′ : bit (getD branches x 0) b ≡ some-of (t .flow) (num p r) (may-take p t (branch-row p (r + 2) b)) = bits .case-bit x (num p r) b (branch-rows p m (r + 2)) low head (omega (arith, rows-length p m (r + 2))) ∙ ap (λ q. some-of (t .flow) (num p r) (may-take p t q)) (rows-at p m (r + 2) b z) in
+      only-both _ _ _ _ bit′ (λ w. refl)) ∙
+      sym (rows-range p m (r + 2) (λ q. only (some-of (t .flow) (num p r) (may-take p t q)) (rule e (state-index t (onward (state-at t x) (branch-body p q))) quiet))))
 
-  pub case-kept : (branches at : List ℕ) (x q₀ m b q e here i : ℕ) (y : Bool) → Branch-at p q₀ m b q → y ≡ bit (getD branches x 0) b → not y ≡ false → e ≡ branch-body p q → here ≡ getD at e 0 → case-turn p at (getD branches x 0) q₀ i b ≡ rule i here quiet ∷ []
+  pub case-kept : (branches : List ℕ) (x q₀ m b q f here e : ℕ) (y : Bool) → Branch-at p q₀ m b q → y ≡ bit (getD branches x 0) b → not y ≡ false → f ≡ branch-body p q → here ≡ state-index t (onward (state-at t x) f) → case-turn p t (state-at t x) (getD branches x 0) q₀ e b ≡ rule e here quiet ∷ []
   unfolding case-turn
-  case-kept branches at x q₀ m b q e here i y a f n u v = kept y _ _ _ f n (λ z. ap (λ k. rule i k quiet) (ap (λ k. getD at (branch-body p k) 0) (a .at) ∙ (ap (λ k. getD at k 0) (sym u) ∙ sym v)))
+  case-kept branches x q₀ m b q f here e y a g n u v = kept y _ _ _ g n (λ z. ap (λ k. rule e k quiet) (ap (λ k. state-index t (onward (state-at t x) (branch-body p k))) (a .at) ∙ (ap (λ k. state-index t (onward (state-at t x) k)) (sym u) ∙ sym v)))
 
   -- the rules of a receive
-  receive-turned : (starts ls : List ℕ) → Class-letters p t starts ls → (k : Class) (at : List ℕ) (q to i : ℕ) (b : Bool) → k .number ≤ size p → b ≡ some-of (t .mail) (k .number) (may-take p t q) → elim b [ true ↦ class-turn (s .states) starts ls (takes-letter p t (k .number) q) reads to (k .number) i | false ↦ [] ] ≡ from-letters p (letter-of-some p (t .mail) (k .number) (may-take p t q)) (λ l. rule i to (reads (letter-index p t (k .number) l)))
+  receive-turned : (starts ls : List ℕ) → Class-letters p t starts ls → (c q to e : ℕ) (b : Bool) → c ≤ size p → b ≡ some-of (t .mail) c (may-take p t q) → elim b [ true ↦ class-turn (s .states) starts ls (takes-letter p t c q) reads to c e | false ↦ [] ] ≡ from-letters p (letter-of-some p (t .mail) c (may-take p t q)) (λ l. rule e to (reads (letter-index p t c l)))
   unfolding from-letters
-  receive-turned starts ls g k at q to i true low e =
-      sym (letters-paired h starts ls g (k .number) low (letter-of-some p (t .mail) (k .number) (may-take p t q)) (takes-letter p t (k .number) q) reads to i
-      (λ l o w. taken-there h (k .number) q l w)
-      (λ l o w. taken-letter h (k .number) q (sym e) l o w))
-  receive-turned starts ls g k at q to i false low e =
-      sym (gather-none 0 (letters p) _ (λ l x y. only-no _ _ (test (letter-of-some p (t .mail) (k .number) (may-take p t q) l) (λ z. true-false (taken-some h (k .number) q l z) (sym e)) (λ z. z))))
+  receive-turned starts ls g c q to e true low f =
+      sym (letters-paired h starts ls g c low (letter-of-some p (t .mail) c (may-take p t q)) (takes-letter p t c q) reads to e
+      (λ l o w. taken-there h c q l w)
+      (λ l o w. taken-letter h c q (sym f) l o w))
+  receive-turned starts ls g c q to e false low f =
+      sym (gather-none 0 (letters p) _ (λ l x y. only-no _ _ (test (letter-of-some p (t .mail) c (may-take p t q) l) (λ z. true-false (taken-some h c q l z) (sym f)) (λ z. z))))
 
-  pub receive-gathered : (afters bits starts ls : List ℕ) → Ends p afters → Branch-bits p t bits → Class-letters p t starts ls → (x r m : ℕ) (k : Class) (at : List ℕ) (i : ℕ) → Entered p t k at → tag p r ≡ 9 → x < s .states → r ≡ right (t .states) x → k .number ≡ left (t .states) x → k .number ≤ size p → m ≡ num p r → gather 0 m (receive-turn p t at starts ls (k .number) (getD bits x 0) (r + 1) i) ≡ state-rules p t i (state (k .number) r)
-  unfolding state-rules kind receive-turn tables entries columns
-  receive-gathered afters bits starts ls ends g n x r m k at i d e low same class row u =
-      let head : head-at p r ≡ receives (branch-rows p m (r + 1)) = head-receive p r (rw e) ∙ ap (λ n. receives (branch-rows p n (r + 1))) (sym u) in
+  pub receive-gathered : (bits starts ls : List ℕ) → Branch-bits p t bits → Class-letters p t starts ls → (x r m e : ℕ) → tag p r ≡ 9 → x < s .states → r ≡ right (t .states) x → m ≡ num p r → gather 0 m (receive-turn p t (state-at t x) starts ls (getD bits x 0) (r + 1) e) ≡ state-rules p t e (state-at t x)
+  unfolding state-rules kind receive-turn program tables entries columns state-at
+  receive-gathered bits starts ls g n x r m e is low same u =
+      let c = left (t .states) x in
+      let head : head-at p (right (t .states) x) ≡ receives (branch-rows p m (r + 1)) = ap (head-at p) (sym same) ∙ (head-receive p r (rw is) ∙ ap (λ n. receives (branch-rows p n (r + 1))) (sym u)) in
       rw (head, state-rules)
       (gather-same 0 m _ _ (λ b y z.
       let q = branch-row p (r + 1) b in
-      let run : Run p q 1 = run-last b (r + 1) (run-prefix (suc b) m (r + 1) (omega arith) (rw u (receive-rows r e))) in
-      let bit′ : bit (getD bits x 0) b ≡ some-of (t .mail) (k .number) (may-take p t q) = g .receive-bit x b (branch-rows p m (r + 1)) low (rw (← same) head) (omega (arith, rows-length p m (r + 1))) ∙ (ap (λ q. some-of (t .mail) (left (t .states) x) (may-take p t q)) (rows-at p m (r + 1) b z) ∙ ap (λ c. some-of (t .mail) c (may-take p t q)) (sym class)) in
-      ap (λ to. elim (bit (getD bits x 0) b) [ true ↦ class-turn (s .states) starts ls (takes-letter p t (k .number) q) reads to (k .number) i | false ↦ [] ]) (d .index (branch-body p q) (run-body p afters q ends run .2)) ∙
-      receive-turned starts ls n k at q (state-index t (state (k .number) (branch-body p q))) i (bit (getD bits x 0) b) row bit′) ∙
-      sym (rows-range p m (r + 1) (λ q. from-letters p (letter-of-some p (t .mail) (k .number) (may-take p t q)) (λ l. rule i (state-index t (state (k .number) (branch-body p q))) (reads (letter-index p t (k .number) l))))))
+      let bit′ : bit (getD bits x 0) b ≡ some-of (t .mail) c (may-take p t q) = g .receive-bit x b (branch-rows p m (r + 1)) low head (omega (arith, rows-length p m (r + 1))) ∙ ap (λ q. some-of (t .mail) c (may-take p t q)) (rows-at p m (r + 1) b z) in
+      receive-turned starts ls n c q (state-index t (onward (state-at t x) (branch-body p q))) e (bit (getD bits x 0) b) (class-low h x low) bit′) ∙
+      sym (rows-range p m (r + 1) (λ q. from-letters p (letter-of-some p (t .mail) c (may-take p t q)) (λ l. rule e (state-index t (onward (state-at t x) (branch-body p q))) (reads (letter-index p t c l))))))
 
-  module _ (at starts ls bits : List ℕ) (c x q₀ m b q i : ℕ) (y : Bool) (a : Branch-at p q₀ m b q) (f : y ≡ bit (getD bits x 0) b) where
-    pub receive-kept : (e to : ℕ) → not y ≡ false → e ≡ branch-body p q → to ≡ getD at e 0 → class-turn (s .states) starts ls (takes-letter p t c q) reads to c i ≡ receive-turn p t at starts ls c (getD bits x 0) q₀ i b
-    unfolding receive-turn tables entries columns
-    receive-kept e to n u v = rw (sym f ∙ not-false y n, receive-turn, a .at, ← u, ← v)
+  module _ (starts ls bits : List ℕ) (c x q₀ m b q e : ℕ) (y : Bool) (class : c ≡ left (t .states) x) (a : Branch-at p q₀ m b q) (f : y ≡ bit (getD bits x 0) b) where
+    pub receive-kept : (k to : ℕ) → not y ≡ false → k ≡ branch-body p q → to ≡ state-index t (onward (state-at t x) k) → class-turn (s .states) starts ls (takes-letter p t c q) reads to c e ≡ receive-turn p t (state-at t x) starts ls (getD bits x 0) q₀ e b
+    unfolding receive-turn tables entries columns state-at
+    receive-kept k to n u v = rw (sym f ∙ not-false y n, receive-turn, a .at, ← u, ← v, ← class)
 
-    pub receive-skipped : not y ≡ true → receive-turn p t at starts ls c (getD bits x 0) q₀ i b ≡ []
+    pub receive-skipped : not y ≡ true → receive-turn p t (state-at t x) starts ls (getD bits x 0) q₀ e b ≡ []
     unfolding receive-turn
     receive-skipped n = rw (sym f ∙ not-true y n, receive-turn)
 

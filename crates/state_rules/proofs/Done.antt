@@ -1,16 +1,16 @@
 -- The rules of a state from those of its head.
-use Prim.Native.Nat.{ℕ, _≤_, _<_}
+use Prim.Native.Nat.{ℕ, _<_}
 use native.Mathlib.Omega.{arith}
 use mathlib.Core.Path.{_≡_, refl, sym, _∙_, ap}
-use mathlib.Core.Bool.{Bool, true, false, not}
+use mathlib.Core.Bool.{true, not}
 use mathlib.Core.List.{List, []}
 use mathlib.Core.Option.{none}
 use lib.ListN.{length}
 use borrow.Author.Tests.{eqb-true}
 use Rattle.model.specs.declared.Sizes.{Sizes}
-use Rattle.model.specs.Words.{left, right, columns}
-use Rattle.model.specs.Rows.{Program, program, Kind, tag, kind, is-head, give, build, function, call, send, spawn, self, case, receive}
-use Rattle.model.specs.Tables.{Tables, tables, entries, state, state-at}
+use Rattle.model.specs.Words.{right, columns}
+use Rattle.model.specs.Rows.{Program, program, Kind, tag, kind, give, build, function, call, send, spawn, self, case, receive}
+use Rattle.model.specs.Tables.{Tables, tables, entries, state-at}
 use Rattle.model.specs.Closed.{state-closed, open-check}
 use Rattle.model.specs.Rules.{quiet, state-rules}
 use Rattle.model.proofs.Logic.{test, not-passes}
@@ -19,10 +19,9 @@ use Rattle.model.proofs.Heads.{by-kind, tag-is, head-other}
 use Rattle.model.proofs.Exact.Checks.{then-none, unless-none}
 use Rattle.model.proofs.Parse.Locations.{location-known}
 use Rattle.lists.specs.Ready.{Ready}
-use Rattle.lists.proofs.Facts.{states-form}
 use Rattle.rules.specs.Listed.{kind-effect, State-rules}
 use Rattle.rules.specs.Added.{Added}
-use Rattle.rules.proofs.Adding.{added-same, added-alike, state-added, state-quiet}
+use Rattle.rules.proofs.Adding.{added-alike, state-added, state-quiet}
 use Rattle.state_rules.specs.Heads.{Plain}
 use Rattle.state_rules.proofs.Heads.{here}
 
@@ -34,30 +33,22 @@ module _ {ws : List ℕ} {s : Sizes} (h : Ready ws s) where
   t = tables ws s
 
   -- where refusal 8 finds nothing each state is closed
-  pub state-open : (i c r : ℕ) → open-check s p t ≡ none → i < s .states → c ≡ left (t .states) i → r ≡ right (t .states) i → state-closed p t (state c r) ≡ true
-  unfolding open-check tables entries columns state-at
-  state-open i c r e l class row =
+  pub state-open : (i : ℕ) → open-check s p t ≡ none → i < s .states → state-closed p t (state-at t i) ≡ true
+  unfolding open-check tables entries columns
+  state-open i e l =
       let all = eqb-true _ (s .states) (unless-none _ _ .0 (then-none _ _ .0 e .1)) in
-      rw (class, row) (test (state-closed p t (state (left (t .states) i) (right (t .states) i)))
+      test (state-closed p t (state-at t i))
       (λ z. z)
-      (λ z. absurd (omega (arith, first-below 0 (s .states) i (λ k. not (state-closed p t (state-at t k))) (omega arith) l (not-passes _ z)))))
+      (λ z. absurd (omega (arith, first-below 0 (s .states) i (λ k. not (state-closed p t (state-at t k))) (omega arith) l (not-passes _ z))))
 
-  pub state-head : (i r : ℕ) → i < s .states → r ≡ right (t .states) i → is-head (tag p r) ≡ true
-  unfolding tables entries columns
-  state-head i r l e = rw e (states-form h .right-legal i l)
+  module _ (i r m : ℕ) (row : r ≡ right (t .states) i) (tos others tos′ others′ : List ℕ) (alike : length others ≡ length tos) where
+    pub quiet-done : (k : Kind) → kind (tag p r) ≡ k → ((y : ℕ) → kind-effect k y ≡ quiet) → Added k tos [] 0 tos′ [] m (λ e. state-rules p t e (state-at t i)) → length others′ ≡ length others → State-rules p t i tos′ others′ m
+    quiet-done k e q d long = state-quiet p t i m tos others tos′ others′ alike k (ap (λ x. kind (tag p x)) (sym row) ∙ e) q d long
 
-  module _ (i c r m : ℕ) (class : c ≡ left (t .states) i) (row : r ≡ right (t .states) i) (tos others tos′ others′ : List ℕ) (alike : length others ≡ length tos) where
-    same : (e : ℕ) → state-rules p t e (state c r) ≡ state-rules p t e (state-at t i)
-    unfolding state-at
-    same e = rw (class, row)
+    pub loud-done : (k : Kind) → kind (tag p r) ≡ k → Added k tos others 0 tos′ others′ m (λ e. state-rules p t e (state-at t i)) → State-rules p t i tos′ others′ m
+    loud-done k e d = state-added p t i m tos others tos′ others′ alike k (ap (λ x. kind (tag p x)) (sym row) ∙ e) d
 
-    pub quiet-done : (k : Kind) → kind (tag p r) ≡ k → ((y : ℕ) → kind-effect k y ≡ quiet) → Added k tos [] 0 tos′ [] m (λ e. state-rules p t e (state c r)) → length others′ ≡ length others → State-rules p t i tos′ others′ m
-    quiet-done k e q d long = state-quiet p t i m tos others tos′ others′ alike k (ap (λ x. kind (tag p x)) (sym row) ∙ e) q (added-same k tos [] 0 tos′ [] m _ _ d same) long
-
-    pub loud-done : (k : Kind) → kind (tag p r) ≡ k → Added k tos others 0 tos′ others′ m (λ e. state-rules p t e (state c r)) → State-rules p t i tos′ others′ m
-    loud-done k e d = state-added p t i m tos others tos′ others′ alike k (ap (λ x. kind (tag p x)) (sym row) ∙ e) (added-same k tos others 0 tos′ others′ m _ _ d same)
-
-    pub plain-done : Plain p r → Added self tos [] 0 tos′ [] m (λ e. state-rules p t e (state c r)) → length others′ ≡ length others → State-rules p t i tos′ others′ m
+    pub plain-done : Plain p r → Added self tos [] 0 tos′ [] m (λ e. state-rules p t e (state-at t i)) → length others′ ≡ length others → State-rules p t i tos′ others′ m
     unfolding kind-effect
     plain-done g d long =
         by-kind (kind (tag p r))

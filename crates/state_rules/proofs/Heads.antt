@@ -1,47 +1,35 @@
 -- The rules of a head, as its loop gives them turn by turn.
-use Prim.Native.Nat.{ℕ, zero, suc, _+_, _*_, _-_, _≤_, _<_}
+use Prim.Native.Nat.{ℕ, zero, suc, _+_, _-_, _≤_, _<_}
 use native.Mathlib.Omega.{arith}
 use mathlib.Core.Path.{_≡_, refl, sym, _∙_, ap}
-use mathlib.Core.Bool.{Bool, true, false, not, _&&_}
+use mathlib.Core.Bool.{Bool, true, false, not}
 use mathlib.Core.List.{List, [], _∷_}
-use mathlib.Core.Option.{some, none}
 use mathlib.Core.Logic.{⊎-elim}
-use lib.ListN.{length, getD}
+use lib.ListN.{getD}
 use lib.Dec.{eqb}
-use borrow.Author.Tests.{eqb-true, eq-eqb, ne-eqb, le-leb, not-true, not-false}
-use Rattle.bits.specs.Bits.{member, Row}
+use borrow.Author.Tests.{eqb-true, eq-eqb, le-leb, not-true, not-false}
 use Rattle.model.specs.declared.Sizes.{Sizes}
 use Rattle.model.specs.Index.{gather, only}
 use Rattle.model.specs.Words.{left, right, columns}
-use Rattle.model.specs.Rows.{Program, program, size, tag, num, kind, is-head, is-name, give, build, function, call, send, spawn, self, case, receive, other}
+use Rattle.model.specs.Rows.{Program, program, size, tag, num, kind, is-head, give, call, send, spawn, case, receive, other}
 use Rattle.model.specs.Scopes.{rest}
-use Rattle.model.specs.Heads.{call-at, is-function, is-class, innermost, body, takes}
-use Rattle.model.specs.Tables.{Tables, tables, entries, is-value, has, state, state-at, state-index}
-use Rattle.model.specs.Closed.{may-call, returns-to}
-use Rattle.model.specs.Rules.{quiet, starts, Rule, rule, from-each, state-rules}
+use Rattle.model.specs.Heads.{call-at, is-function, body, takes, head-at, gives, calls, spawns}
+use Rattle.model.specs.Tables.{Tables, tables, entries, is-value, state, state-at, state-index, onward}
+use Rattle.model.specs.Closed.{entered, begun, waits-for, resumed}
+use Rattle.model.specs.Rules.{quiet, starts, rule, state-rules}
 use Rattle.model.proofs.Logic.{test, and-left, and-right}
-use Rattle.model.proofs.Heads.{by-kind, tag-is, head-give, head-build, head-function, head-call, head-send, head-spawn, head-self, head-other}
-use Rattle.model.proofs.Reader.{by-option}
-use Rattle.model.proofs.Index.{last-elim}
-use Rattle.model.proofs.Numbering.Letters.{key-room}
+use Rattle.model.proofs.Heads.{by-kind, tag-is, head-give, head-build, head-function, head-call, head-spawn, head-self, head-other}
 use Rattle.model.proofs.Numbering.Counters.{class-at-most, tag-inside}
 use Rattle.model.proofs.Parse.Locations.{Location, head-range, location-known}
 use Rattle.model.proofs.Parse.Lengths.{row-location, row-within}
-use Rattle.program.specs.Layout.{owner}
-use Rattle.lists.specs.Lists.{Ascending, place, range-from, range-to, Starts}
+use Rattle.lists.specs.Lists.{range-from, range-to, head-from, head-to, Starts}
 use Rattle.lists.specs.Ready.{Ready}
-use Rattle.lists.proofs.Facts.{rows-fit, columns-whole, flow-form, states-form}
-use Rattle.lists.proofs.Rising.{begins-within, begins-order, place-upto}
-use Rattle.positions.proofs.Placed.{row-low, rows-most}
-use Rattle.positions.proofs.Standing.{lead-stands, rest-build, rest-call, rest-send, rest-spawn, rest-function, body-row, call-name, spawn-name, send-names}
-use Rattle.positions.specs.Positions.{Ends, Owners}
-use Rattle.rules.specs.declared.Class.{Class}
-use Rattle.values.specs.Values.{width, Flow-sets}
-use Rattle.values.proofs.Gathered.{width-above}
-use Rattle.rules.specs.Derived.{Entered}
-use Rattle.rules.proofs.Gather.{gather-same, gather-part, each-range}
-use Rattle.pattern_letters.proofs.Entries.{set-room}
-use Rattle.state_rules.specs.Heads.{Led, Plain, give-turn, call-turn, spawn-turn}
+use Rattle.lists.proofs.Facts.{rows-fit, columns-whole, flow-form, flow-rises, states-rise}
+use Rattle.lists.proofs.Rising.{begins-within, begins-order, heads-before, heads-within, heads-behind, heads-order, place-upto}
+use Rattle.positions.proofs.Standing.{body-row, call-name, spawn-name, send-names}
+use Rattle.rules.proofs.Gather.{gather-none, gather-part, each-range}
+use Rattle.rules.proofs.States.{location-low}
+use Rattle.state_rules.specs.Heads.{Plain, give-turn, call-turn, spawn-turn}
 
 -- a rule that is there only where the test passes
 pub only-same : {A : Type 0} (b : Bool) (x y : A) → (b ≡ true → x ≡ y) → only b x ≡ only b y
@@ -59,14 +47,6 @@ only-yes b x e = rw e
 pub only-no : {A : Type 0} (b : Bool) (x : A) → b ≡ false → only b x ≡ []
 unfolding only
 only-no b x e = rw e
-
-and-true : (b : Bool) → (b && true) ≡ b
-and-true true = refl
-and-true false = refl
-
-and-false : (b : Bool) → (b && false) ≡ false
-and-false true = refl
-and-false false = refl
 
 -- a rule by the flag that the code tested, the other way round
 pub skipped : {A : Type 0} (b c : Bool) (x : A) → b ≡ c → not b ≡ true → only c x ≡ []
@@ -103,47 +83,14 @@ module _ {ws : List ℕ} {s : Sizes} (h : Ready ws s) where
     known : kind (tag p r) ≡ other → ⊥
     known e = location-known here (head-other p r e)
 
-  -- heads with a rest
-  pub led-call : (r : ℕ) → tag p r ≡ 4 → Led p r
-  unfolding kind
-  led-call r e = record { head = tag-head (tag p r) 4 e (omega arith) (omega arith); low = rest-call (here r (tag-head (tag p r) 4 e (omega arith) (omega arith))) (rw e) .1 }
-
-  pub led-send : (r : ℕ) → tag p r ≡ 5 → Led p r
-  unfolding kind
-  led-send r e = record { head = tag-head (tag p r) 5 e (omega arith) (omega arith); low = rest-send (here r (tag-head (tag p r) 5 e (omega arith) (omega arith))) (rw e) .1 }
-
-  pub led-spawn : (r : ℕ) → tag p r ≡ 6 → Led p r
-  unfolding kind
-  led-spawn r e = record { head = tag-head (tag p r) 6 e (omega arith) (omega arith); low = rest-spawn (here r (tag-head (tag p r) 6 e (omega arith) (omega arith))) (rw e) .1 }
-
-  pub led-plain : (afters : List ℕ) → Ends p afters → (r : ℕ) → Plain p r → Led p r
-  led-plain afters ends r g =
-      record {
-        head = g .head;
-        low = by-kind (kind (tag p r))
-            (λ e. absurd (g .not-give (tag-is _ give e)))
-            (λ e. rest-build (here r (g .head)) e .1)
-            (λ e. rest-function (rows-fit h) (columns-whole h) afters ends (here r (g .head)) e .1)
-            (λ e. absurd (g .not-call (tag-is _ call e)))
-            (λ e. absurd (g .not-send (tag-is _ send e)))
-            (λ e. absurd (g .not-spawn (tag-is _ spawn e)))
-            (λ e. lead-stands self (here r (g .head)) e refl .1)
-            (λ e. absurd (g .not-case (tag-is _ case e)))
-            (λ e. absurd (g .not-receive (tag-is _ receive e)))
-            (λ e. absurd (known r (g .head) e));
-      }
-
   -- a name's entries in the flow list
   pub name-starts : (flow-at : List ℕ) (a from to : ℕ) → Starts (t .flow) (s .names) flow-at → a < s .names → from ≡ getD flow-at a 0 → to ≡ getD flow-at (a + 1) 0 → (from ≡ range-from (t .flow) a) × (to ≡ range-to (t .flow) a)
   unfolding range-from range-to
   name-starts flow-at a from to g l e f = (e ∙ g .start a (omega arith), f ∙ g .start (a + 1) (omega arith))
 
-  pub rising : Ascending (t .flow)
-  rising = flow-form h .ascending
-
   pub flow-order : (a from to : ℕ) → from ≡ range-from (t .flow) a → to ≡ range-to (t .flow) a → (from ≤ to) × (to ≤ s .flows)
   unfolding range-from range-to tables entries columns
-  flow-order a from to e f = (omega (arith, begins-order (t .flow) a rising), omega (arith, place-upto (t .flow) (a + 1) 0))
+  flow-order a from to e f = (omega (arith, begins-order (t .flow) [] a (flow-rises h)), omega (arith, place-upto (t .flow) [] ((a + 1) ∷ 0 ∷ 0 ∷ [])))
 
   -- a value is at most R
   value-low : (v : ℕ) → is-value p v ≡ true → v ≤ s .rows
@@ -159,89 +106,34 @@ module _ {ws : List ℕ} {s : Sizes} (h : Ready ws s) where
   pub value-from : (a from j : ℕ) → from ≡ range-from (t .flow) a → from ≤ j → j < range-to (t .flow) a → (j - from ≤ right (t .flow) j) × (right (t .flow) j ≤ s .rows)
   unfolding range-from range-to tables entries columns
   value-from a from j e l m =
-      let upto = place-upto (t .flow) (a + 1) 0 in
-      (climbs (j - from) j refl l m, value-low (right (t .flow) j) (flow-form h .right-legal j (omega arith)))
+      let upto = place-upto (t .flow) [] ((a + 1) ∷ 0 ∷ 0 ∷ []) in
+      (climbs (j - from) j refl l m, value-low (right (t .flow) j) (flow-form h .in-range j (omega arith) .1))
     where
-      climbs : (n j : ℕ) → n ≡ j - from → from ≤ j → j < place (t .flow) (a + 1) 0 → n ≤ right (t .flow) j
+      climbs : (n j : ℕ) → n ≡ j - from → from ≤ j → j < range-to (t .flow) a → n ≤ right (t .flow) j
       climbs zero j x y z = omega arith
       climbs (suc n) j x y z =
-          let upto = place-upto (t .flow) (a + 1) 0 in
+          let upto = place-upto (t .flow) [] ((a + 1) ∷ 0 ∷ 0 ∷ []) in
           let below = climbs n (j - 1) (omega arith) (omega arith) (omega arith) in
-          ⊎-elim (λ u. absurd (omega (arith, begins-within (t .flow) a rising (j - 1) (omega arith) (omega arith), begins-within (t .flow) a rising j (omega arith) z)))
-          (λ u. omega arith)
-          (rising (j - 1) j (omega arith) (omega arith))
-
-  pub body-low : (f n : ℕ) → takes p f n ≡ true → body p f < s .rows
-  unfolding program columns
-  body-low f n e = body-row (rows-fit h) (columns-whole h) f (takes-function p f n e) .1
-
-  -- calls of a function
-  module _ (f j r x : ℕ) (same : r ≡ right (t .states) j) (read : x ≡ tag p r) where
-    pub returns-other : (x ≡ 4 → ⊥) → false ≡ returns-to p t (left (t .states) j) f j
-    unfolding returns-to state-at
-    returns-other ne = rw (eq-eqb (left (t .states) j) (left (t .states) j) refl, ne-eqb (tag p (right (t .states) j)) 4 (λ z. ne (read ∙ (ap (tag p) same ∙ z))))
-
-    returns-call : x ≡ 4 → returns-to p t (left (t .states) j) f j ≡ may-call p t (call-at p r) f
-    unfolding returns-to state-at
-    returns-call e = rw (eq-eqb (left (t .states) j) (left (t .states) j) refl, ← same, eq-eqb (tag p r) 4 (sym read ∙ e))
-
-    module _ (a n : ℕ) (d : Bool) (e : x ≡ 4) (u : a ≡ num p (r + 1)) (v : n ≡ num p (r + 2)) (w : d ≡ takes p f n) where
-      pub returns-takes : (b : Bool) → b ≡ has (t .flow) a f → d ≡ true → b ≡ returns-to p t (left (t .states) j) f j
-      unfolding may-call call-at
-      returns-takes b k g = rw (returns-call e, ← v, ← u, ← w, g) (k ∙ sym (and-true (has (t .flow) a f)))
-
-      pub returns-not : d ≡ false → false ≡ returns-to p t (left (t .states) j) f j
-      unfolding may-call call-at
-      returns-not g = rw (returns-call e, ← v, ← u, ← w, g) (sym (and-false (has (t .flow) a f)))
-
-  -- the sets of the names
-  pub set-held : (w : ℕ) (flows : List ℕ) (r x a f : ℕ) → (w ≡ width (s .rows)) × Flow-sets p t flows → x ≡ tag p r → x ≡ 4 → a ≡ num p (r + 1) → f < s .rows → (f < 64 * w) × Row flows w a
-  unfolding kind program columns
-  set-held w flows r x a f (same, g) read e u l =
-      let z : tag p r ≡ 4 = sym read ∙ e in
-      let low = call-name (here r (tag-head (tag p r) 4 z (omega arith) (omega arith))) (rw z) in
-      rw same (width-above (s .rows) f (omega arith), g .of-name a (omega arith) .row)
-
-  pub set-told : (w : ℕ) (flows : List ℕ) (r x a f : ℕ) (b : Bool) → (w ≡ width (s .rows)) × Flow-sets p t flows → x ≡ tag p r → x ≡ 4 → a ≡ num p (r + 1) → f < s .rows → b ≡ member flows w a f → b ≡ has (t .flow) a f
-  unfolding kind program columns
-  set-told w flows r x a f b (same, g) read e u l told =
-      let z : tag p r ≡ 4 = sym read ∙ e in
-      let low = call-name (here r (tag-head (tag p r) 4 z (omega arith) (omega arith))) (rw z) in
-      told ∙ rw same (g .of-name a (omega arith) .holds f (width-above (s .rows) f (omega arith)))
-
-  -- giving back leads behind a call
-  returns-tag : (c g j : ℕ) → returns-to p t c g j ≡ true → tag p (right (t .states) j) ≡ 4
-  unfolding returns-to state-at
-  returns-tag c g j z = eqb-true (tag p (right (t .states) j)) 4 (and-left (eqb (tag p (right (t .states) j)) 4) _ (and-right (eqb (left (t .states) j) c) _ z))
-
-  pub give-led : (c f j q : ℕ) (b : Bool) → b ≡ returns-to p t c f j → not b ≡ false → q ≡ right (t .states) j → Led p q
-  give-led c f j q b e n same = led-call q (ap (tag p) same ∙ returns-tag c f j (sym e ∙ not-false b n))
+          ⊎-elim (λ u. absurd (omega (arith, begins-within (t .flow) [] a (flow-rises h) (j - 1) (omega arith) (omega arith), begins-within (t .flow) [] a (flow-rises h) j (omega arith) z)))
+          (λ u. ⊎-elim (λ v. omega arith) (λ v. absurd (v .1)) (u .1))
+          (flow-form h .ascending (j - 1) j (omega arith) (omega arith))
 
   -- the turns
-  pub give-kept : (at : List ℕ) (f j q x i : ℕ) (b : Bool) → b ≡ returns-to p t (left (t .states) j) f j → not b ≡ false → q ≡ right (t .states) j → x ≡ getD at (rest p q) 0 → give-turn p t at f i j ≡ rule i x quiet ∷ []
-  unfolding give-turn
-  give-kept at f j q x i b e n same u = kept b _ _ _ e n (λ z. ap (λ y. rule i y quiet) (ap (λ y. getD at (rest p y) 0) (sym same) ∙ sym u))
+  pub call-kept : (x n j f q y e : ℕ) (b : Bool) → f ≡ right (t .flow) j → b ≡ takes p f n → not b ≡ false → q ≡ body p f → y ≡ state-index t (state (left (t .states) x) q (right (t .states) x)) → call-turn p t (state-at t x) n e j ≡ rule e y quiet ∷ []
+  unfolding call-turn entered state-at
+  call-kept x n j f q y e b same u m v w = rw (← same) (kept b _ _ _ u m (λ z. ap (λ k. rule e k quiet) (ap (λ k. state-index t (state (left (t .states) x) k (right (t .states) x))) (sym v) ∙ sym w)))
 
-  pub call-kept : (at : List ℕ) (n j f q x i : ℕ) (b : Bool) → f ≡ right (t .flow) j → b ≡ takes p f n → not b ≡ false → q ≡ body p f → x ≡ getD at q 0 → call-turn p t at n i j ≡ rule i x quiet ∷ []
+  pub call-skipped : (x n j f e : ℕ) (b : Bool) → f ≡ right (t .flow) j → b ≡ takes p f n → not b ≡ true → call-turn p t (state-at t x) n e j ≡ []
   unfolding call-turn
-  call-kept at n j f q x i b same e m u v = rw (← same) (kept b _ _ _ e m (λ z. ap (λ y. rule i y quiet) (ap (λ y. getD at y 0) (sym u) ∙ sym v)))
+  call-skipped x n j f e b same u m = rw (← same) (skipped b _ _ u m)
 
-  pub call-skipped : (at : List ℕ) (n j f i : ℕ) (b : Bool) → f ≡ right (t .flow) j → b ≡ takes p f n → not b ≡ true → call-turn p t at n i j ≡ []
-  unfolding call-turn
-  call-skipped at n j f i b same e m = rw (← same) (skipped b _ _ e m)
+  pub spawn-kept : (x next r j f q y e : ℕ) (b : Bool) → r ≡ right (t .states) x → f ≡ right (t .flow) j → b ≡ takes p f 0 → not b ≡ false → q ≡ body p f → y ≡ state-index t (state r q (s .rows)) → spawn-turn p t (state-at t x) next e j ≡ rule e next (starts y) ∷ []
+  unfolding spawn-turn begun state-at program columns
+  spawn-kept x next r j f q y e b row same u m v w = rw (← same) (kept b _ _ _ u m (λ z. ap (λ k. rule e next (starts k)) (ap (λ k. state-index t (state (right (t .states) x) k (s .rows))) (sym v) ∙ (ap (λ k. state-index t (state k q (s .rows))) (sym row) ∙ sym w))))
 
-  pub spawn-kept : (next r j f q x i : ℕ) (b : Bool) → f ≡ right (t .flow) j → b ≡ takes p f 0 → not b ≡ false → q ≡ body p f → x ≡ state-index t (state r q) → spawn-turn p t next r i j ≡ rule i next (starts x) ∷ []
+  pub spawn-skipped : (x next j f e : ℕ) (b : Bool) → f ≡ right (t .flow) j → b ≡ takes p f 0 → not b ≡ true → spawn-turn p t (state-at t x) next e j ≡ []
   unfolding spawn-turn
-  spawn-kept next r j f q x i b same e m u v = rw (← same) (kept b _ _ _ e m (λ z. ap (λ y. rule i next (starts y)) (ap (λ y. state-index t (state r y)) (sym u) ∙ sym v)))
-
-  pub spawn-skipped : (next r j f i : ℕ) (b : Bool) → f ≡ right (t .flow) j → b ≡ takes p f 0 → not b ≡ true → spawn-turn p t next r i j ≡ []
-  unfolding spawn-turn
-  spawn-skipped next r j f i b same e m = rw (← same) (skipped b _ _ e m)
-
-  -- a give back's function
-  pub owner-told : (r f : ℕ) (inners : List ℕ) → Owners p inners → tag p r ≡ 1 → f ≡ getD inners r 0 → f ≡ owner p r
-  unfolding program columns
-  owner-told r f inners o e same = same ∙ o .inner r (here-low r (tag-head (tag p r) 1 e (omega arith) (omega arith)))
+  spawn-skipped x next j f e b same u m = rw (← same) (skipped b _ _ u m)
 
   -- the names at a head
   pub call-low : (r a : ℕ) → tag p r ≡ 4 → a ≡ num p (r + 1) → a < s .names
@@ -256,73 +148,76 @@ module _ {ws : List ℕ} {s : Sizes} (h : Ready ws s) where
   unfolding kind program
   send-low r a m e u v = let (y, z) = send-names (here r (tag-head (tag p r) 5 e (omega arith) (omega arith))) (rw e) in (omega arith, omega arith)
 
-  -- the rules of a give back
-  module _ (r f : ℕ) (e : tag p r ≡ 1) (o : f ≡ owner p r) where
-    pub give-head : is-head (tag p r) ≡ true
-    give-head = tag-head (tag p r) 1 e (omega arith) (omega arith)
+  -- the rules of a give back from state x, of class c, which returns to row b
+  module _ (x b c : ℕ) (same : tag p (right (t .states) x) ≡ 1) (return : b ≡ getD (t .returns) x 0) (class : c ≡ left (t .states) x) where
+    give-rules : (e : ℕ) → state-rules p t e (state-at t x) ≡ gather 0 (t .states .size) (λ j. only (waits-for (state-at t j) (state-at t x)) (rule e (state-index t (resumed p (state-at t j))) quiet))
+    unfolding state-rules state-at kind
+    give-rules e = let head : head-at p (right (t .states) x) ≡ gives (num p (right (t .states) x)) = head-give p (right (t .states) x) (rw same) in rw (head, state-rules)
 
-    owner-none : innermost p r ≡ none → owner p r ≡ size p
-    unfolding owner
-    owner-none z = rw (z, owner)
+    waits : (j : ℕ) → left (t .states) j ≡ c → right (t .states) j ≡ b → waits-for (state-at t j) (state-at t x) ≡ true
+    unfolding waits-for state-at
+    waits j u v = rw (eq-eqb (left (t .states) j) (left (t .states) x) (u ∙ class), eq-eqb (right (t .states) j) (getD (t .returns) x 0) (v ∙ return))
 
-    owner-some : (g : ℕ) → innermost p r ≡ some g → (owner p r ≡ g) × (g < r)
-    unfolding innermost owner
-    owner-some g z = (rw (z, owner), last-elim r g _ z .below)
+    waits-not : (j : ℕ) → (left (t .states) j ≡ c → right (t .states) j ≡ b → ⊥) → waits-for (state-at t j) (state-at t x) ≡ false
+    unfolding waits-for state-at
+    waits-not j n = test (waits-for (state-at t j) (state-at t x))
+        (λ z. absurd (n (eqb-true (left (t .states) j) (left (t .states) x) (and-left (eqb (left (t .states) j) (left (t .states) x)) _ z) ∙ sym class) (eqb-true (right (t .states) j) (getD (t .returns) x 0) (and-right (eqb (left (t .states) j) (left (t .states) x)) _ z) ∙ sym return)))
+        (λ z. z)
 
-    pub give-nothing : (c i : ℕ) → s .rows ≤ f → [] ≡ state-rules p t i (state c r)
-    unfolding state-rules kind program columns
-    give-nothing c i l =
-        by-option (innermost p r)
-        (λ n. rw (head-give p r (rw e), state-rules, n))
-        (λ g n. let (u, v) = owner-some g n in let z = here-low r (tag-head (tag p r) 1 e (omega arith) (omega arith)) in absurd (omega arith))
+    -- nothing is pushed: no state stands at R
+    pub give-nothing : b ≡ s .rows → (e : ℕ) → [] ≡ state-rules p t e (state-at t x)
+    unfolding tables entries columns
+    give-nothing end e = sym (give-rules e ∙ gather-none 0 (t .states .size) _ (λ j a l. only-no _ _ (waits-not j (λ u v. omega (arith, location-low h j l)))))
 
-    give-turned : (k : Class) (at : List ℕ) (g i j : ℕ) → Entered p t k at → g ≡ f → left (t .states) j ≡ k .number → only (returns-to p t (k .number) g j) (rule i (state-index t (state (k .number) (call-at p (state-at t j .location) .rest))) quiet) ≡ give-turn p t at f i j
-    unfolding give-turn call-at state-at
-    give-turned k at g i j d u v =
-        only-both _ _ _ _ (rw (u, v))
-        (λ z. ap (λ x. rule i x quiet) (sym (d .index (rest p (right (t .states) j)) (led-call (right (t .states) j) (returns-tag (k .number) g j z) .low))))
+    module _ (from to : ℕ) (begin : from ≡ head-from t c b) (end : to ≡ head-to t c b) where
+      pub give-range : (from ≤ to) × (to ≤ s .states)
+      unfolding head-from head-to tables entries columns
+      give-range = (omega (arith, heads-order (t .states) (t .returns) c b (states-rise h)), omega (arith, place-upto (t .states) (t .returns) (c ∷ (b + 1) ∷ 0 ∷ [])))
 
-    pub give-gathered : (k : Class) (at : List ℕ) (i : ℕ) → Entered p t k at → f < s .rows → gather (k .from) (k .to) (give-turn p t at f i) ≡ state-rules p t i (state (k .number) r)
-    unfolding state-rules kind program columns returns-to state-at
-    give-gathered k at i d l =
-        by-option (innermost p r)
-        (λ n. absurd (omega (arith, owner-none n)))
-        (λ g n. let (u, v) = owner-some g n in
-        rw (head-give p r (rw e), state-rules, n)
-        (sym (gather-part (k .from) (k .to) (t .states .size) _ _ (d .range .order) (d .range .upto)
-        (λ j x. only-no _ _ (rw (ne-eqb (left (t .states) j) (k .number) (d .range .before j x))))
-        (λ j x y. give-turned k at g i j d (sym u ∙ sym o) (d .range .inside j x y))
-        (λ j x y. only-no _ _ (rw (ne-eqb (left (t .states) j) (k .number) (d .range .behind j x y)))))))
+      pub give-gathered : (e : ℕ) → gather from to (give-turn p t e) ≡ state-rules p t e (state-at t x)
+      unfolding head-from head-to give-turn
+      give-gathered e =
+          rw (begin, end) (sym (give-rules e ∙ gather-part (head-from t c b) (head-to t c b) (t .states .size) _ _
+          (heads-order (t .states) (t .returns) c b (states-rise h)) (place-upto (t .states) (t .returns) (c ∷ (b + 1) ∷ 0 ∷ []))
+          (λ j l. only-no _ _ (waits-not j (heads-before (t .states) (t .returns) c b j l)))
+          (λ j l m. let (u, v) = heads-within (t .states) (t .returns) c b (states-rise h) j l m in only-yes _ _ (waits j u v))
+          (λ j l m. only-no _ _ (waits-not j (heads-behind (t .states) (t .returns) c b (states-rise h) j l m)))))
+
+      pub give-kept : (e j q y : ℕ) → from ≤ j → j < to → q ≡ rest p b → y ≡ state-index t (onward (state-at t j) q) → give-turn p t e j ≡ rule e y quiet ∷ []
+      unfolding head-from head-to give-turn resumed call-at state-at
+      give-kept e j q y l m u v =
+          let (w, z) = heads-within (t .states) (t .returns) c b (states-rise h) j (omega arith) (omega arith) in
+          ap (λ k. rule e k quiet ∷ []) (ap (λ k. state-index t (onward (state-at t j) (rest p k))) z ∙ (ap (λ k. state-index t (onward (state-at t j) k)) (sym u) ∙ sym v))
 
   -- the rules of a call
-  pub call-gathered : (r c n a from to : ℕ) (k : Class) (at : List ℕ) (i : ℕ) → Entered p t k at → tag p r ≡ 4 → a ≡ num p (r + 1) → n ≡ num p (r + 2) → from ≡ range-from (t .flow) a → to ≡ range-to (t .flow) a → gather from to (call-turn p t at n i) ≡ state-rules p t i (state (k .number) r)
-  unfolding state-rules kind call-at call-turn program columns
-  call-gathered r c n a from to k at i d e u v x y =
-      rw (head-call p r (rw e), state-rules, ← u, ← v, x, y)
-      (gather-same _ _ _ _ (λ j l m. only-same _ _ _ (λ z. ap (λ q. rule i q quiet) (d .index (body p (right (t .flow) j)) (body-low (right (t .flow) j) n z)))) ∙
-      sym (each-range (t .flow) a (λ f. only (takes p f n) (rule i (state-index t (state (k .number) (body p f))) quiet)) rising))
+  pub call-gathered : (x r n a from to e : ℕ) → r ≡ right (t .states) x → tag p r ≡ 4 → a ≡ num p (r + 1) → n ≡ num p (r + 2) → from ≡ range-from (t .flow) a → to ≡ range-to (t .flow) a → gather from to (call-turn p t (state-at t x) n e) ≡ state-rules p t e (state-at t x)
+  unfolding state-rules kind call-at call-turn state-at
+  call-gathered x r n a from to e same is u v begin end =
+      let head : head-at p (right (t .states) x) ≡ calls (call-at p r) = ap (head-at p) (sym same) ∙ head-call p r (rw is) in
+      rw (head, state-rules, ← u, ← v, begin, end)
+      (sym (each-range (t .flow) a (λ f. only (takes p f n) (rule e (state-index t (entered p (state-at t x) f)) quiet)) (flow-rises h)))
 
   -- the rules of a spawn
-  pub spawn-gathered : (r a next from to : ℕ) (k : Class) (at : List ℕ) (i : ℕ) → Entered p t k at → tag p r ≡ 6 → a ≡ num p (r + 1) → next ≡ getD at (rest p r) 0 → from ≡ range-from (t .flow) a → to ≡ range-to (t .flow) a → gather from to (spawn-turn p t next r i) ≡ state-rules p t i (state (k .number) r)
-  unfolding state-rules kind spawn-turn
-  spawn-gathered r a next from to k at i d e u q x y =
-      let z : next ≡ state-index t (state (k .number) (rest p r)) = q ∙ d .index (rest p r) (led-spawn r e .low) in
-      rw (head-spawn p r (rw e), state-rules, ← u, z, x, y)
-      (sym (each-range (t .flow) a (λ f. only (takes p f 0) (rule i (state-index t (state (k .number) (rest p r))) (starts (state-index t (state r (body p f)))))) rising))
+  pub spawn-gathered : (x r a next from to e : ℕ) → r ≡ right (t .states) x → tag p r ≡ 6 → a ≡ num p (r + 1) → next ≡ state-index t (onward (state-at t x) (rest p r)) → from ≡ range-from (t .flow) a → to ≡ range-to (t .flow) a → gather from to (spawn-turn p t (state-at t x) next e) ≡ state-rules p t e (state-at t x)
+  unfolding state-rules kind spawn-turn state-at
+  spawn-gathered x r a next from to e same is u on begin end =
+      let head : head-at p (right (t .states) x) ≡ spawns (num p r) (num p (r + 1)) (rest p r) = ap (head-at p) (sym same) ∙ head-spawn p r (rw is) in
+      rw (head, state-rules, ← u, on, begin, end)
+      (sym (each-range (t .flow) a (λ f. only (takes p f 0) (rule e (state-index t (onward (state-at t x) (rest p r))) (starts (state-index t (begun p (state-at t x) f))))) (flow-rises h)))
 
   -- the rule of a build, a function or self
-  pub plain-gathered : (afters : List ℕ) → Ends p afters → (r next : ℕ) (k : Class) (at : List ℕ) (i : ℕ) → Entered p t k at → Plain p r → next ≡ getD at (rest p r) 0 → rule i next quiet ∷ [] ≡ state-rules p t i (state (k .number) r)
-  unfolding state-rules
-  plain-gathered afters ends r next k at i d g q =
-      let z : next ≡ state-index t (state (k .number) (rest p r)) = q ∙ d .index (rest p r) (led-plain afters ends r g .low) in
+  pub plain-gathered : (x r next e : ℕ) → r ≡ right (t .states) x → Plain p r → next ≡ state-index t (onward (state-at t x) (rest p r)) → rule e next quiet ∷ [] ≡ state-rules p t e (state-at t x)
+  unfolding state-rules state-at
+  plain-gathered x r next e same g on =
+      let row : head-at p (right (t .states) x) ≡ head-at p r = ap (head-at p) (sym same) in
       by-kind (kind (tag p r))
-      (λ e. absurd (g .not-give (tag-is _ give e)))
-      (λ e. rw (head-build p r e, state-rules, z))
-      (λ e. rw (head-function p r e, state-rules, z))
-      (λ e. absurd (g .not-call (tag-is _ call e)))
-      (λ e. absurd (g .not-send (tag-is _ send e)))
-      (λ e. absurd (g .not-spawn (tag-is _ spawn e)))
-      (λ e. rw (head-self p r e, state-rules, z))
-      (λ e. absurd (g .not-case (tag-is _ case e)))
-      (λ e. absurd (g .not-receive (tag-is _ receive e)))
-      (λ e. absurd (known r (g .head) e))
+      (λ k. absurd (g .not-give (tag-is _ give k)))
+      (λ k. rw (row ∙ head-build p r k, state-rules, on))
+      (λ k. rw (row ∙ head-function p r k, state-rules, on))
+      (λ k. absurd (g .not-call (tag-is _ call k)))
+      (λ k. absurd (g .not-send (tag-is _ send k)))
+      (λ k. absurd (g .not-spawn (tag-is _ spawn k)))
+      (λ k. rw (row ∙ head-self p r k, state-rules, on))
+      (λ k. absurd (g .not-case (tag-is _ case k)))
+      (λ k. absurd (g .not-receive (tag-is _ receive k)))
+      (λ k. absurd (known r (g .head) k))

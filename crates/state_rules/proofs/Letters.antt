@@ -1,47 +1,40 @@
 -- The rules that go by letters: what the pairs of a class give is what the model's letters give.
 use Prim.Native.Nat.{ℕ, _+_, _*_, _-_, _≤_, _<_}
-use native.Mathlib.Decide.{ℕ-discrete}
 use native.Mathlib.Omega.{arith}
 use mathlib.Core.Path.{_≡_, refl, sym, _∙_, ap}
-use mathlib.Core.Bool.{Bool, true, false, not, _&&_}
+use mathlib.Core.Bool.{Bool, true, false, not}
 use mathlib.Core.List.{List, [], _∷_}
-use mathlib.Core.Option.{none}
 use mathlib.Core.Logic.{⊎-elim}
-use lib.ListN.{length, getD}
+use lib.ListN.{getD}
 use lib.Dec.{eqb}
-use borrow.Author.Tests.{eqb-true, eq-eqb, ne-eqb, not-true, not-false}
+use borrow.Author.Tests.{eqb-true, eq-eqb}
 use Rattle.bits.specs.Bits.{member, Row}
 use Rattle.model.specs.declared.Sizes.{Sizes}
-use Rattle.model.specs.Index.{gather, only, any, count, implies}
-use Rattle.model.specs.Limits.{maxCounters, maxDepth}
+use Rattle.model.specs.Index.{gather, only, count, implies}
 use Rattle.model.specs.Words.{Columns, left, right, columns}
-use Rattle.model.specs.Rows.{Program, program, size, tag, num, kind, send}
+use Rattle.model.specs.Rows.{Program, program, size, tag, num, kind}
 use Rattle.model.specs.Scopes.{rest}
-use Rattle.model.specs.Heads.{is-class}
-use Rattle.model.specs.Letters.{letters, letter, row-shape, row-letter}
-use Rattle.model.specs.Tables.{Tables, tables, entries, some-of, each, has, state, state-index, has-state}
-use Rattle.model.specs.Closed.{same-constructor, may-match, may-take, send-closed, state-closed}
-use Rattle.model.specs.Counters.{letter-key, has-letter, letter-count, counter-count, letter-index}
-use Rattle.model.specs.Rules.{Effect, puts, reads, Rule, rule, from-each, from-letters, letter-of-some, state-rules}
-use Rattle.model.proofs.Logic.{test, true-false, and-left, and-right, and-intro}
-use Rattle.model.proofs.Index.{any-intro, any-elim, all-elim}
+use Rattle.model.specs.Heads.{is-class, head-at, sends}
+use Rattle.model.specs.Letters.{letters, letter, row-letter}
+use Rattle.model.specs.Tables.{Tables, tables, entries, each, has, state-at, state-index, onward}
+use Rattle.model.specs.Closed.{send-closed, state-closed}
+use Rattle.model.specs.Counters.{letter-key, has-letter, letter-index}
+use Rattle.model.specs.Rules.{Effect, puts, Rule, rule, from-letters, letter-of-some, state-rules}
+use Rattle.model.proofs.Logic.{test, true-false, and-left, and-right}
+use Rattle.model.proofs.Index.{any-elim, all-elim}
 use Rattle.model.proofs.Heads.{head-send}
-use Rattle.bits.proofs.Loops.{both}
-use Rattle.model.proofs.Numbering.Letters.{letter-entry, letter-key-injective}
 use Rattle.model.proofs.Numbering.Counters.{class-at-most, tag-inside}
-use Rattle.lists.specs.Lists.{place, range-from, range-to}
+use Rattle.lists.specs.Lists.{range-from, range-to}
+use Rattle.lists.proofs.Facts.{flow-form, flow-rises}
 use Rattle.lists.proofs.Rising.{begins-within, place-upto}
 use Rattle.lists.specs.Ready.{Ready}
-use Rattle.positions.specs.Positions.{Ends}
 use Rattle.system_letters.specs.Letters.{letters-before, Class-letters, Name-letters}
-use Rattle.system_letters.proofs.Pairs.{next-key, letter-low, start-order, start-later}
-use Rattle.rules.specs.declared.Class.{Class}
-use Rattle.rules.specs.Derived.{Entered}
+use Rattle.system_letters.proofs.Pairs.{next-key, start-order, start-later}
 use Rattle.rules.proofs.Gather.{gather-same, gather-counted, gather-from, each-range}
 use Rattle.pattern_letters.proofs.Entries.{set-room, some-elim}
 use Rattle.pattern_letters.proofs.Letters.{mail-letter}
 use Rattle.state_rules.specs.Heads.{letter-turn, class-turn, send-turn}
-use Rattle.state_rules.proofs.Heads.{only-same, only-no, only-both, led-send, rising, skipped, kept, value-from}
+use Rattle.state_rules.proofs.Heads.{only-no, only-both, skipped, kept, value-from}
 
 module _ {ws : List ℕ} {s : Sizes} (h : Ready ws s) where
   abbrev p : Program
@@ -104,11 +97,12 @@ module _ {ws : List ℕ} {s : Sizes} (h : Ready ws s) where
   each-elim c a j f e l same = implies-elim (eqb (left c j) a) (f (right c j)) (all-elim 0 (c .size) j _ e (omega arith) l) (eq-eqb (left c j) a same)
 
   -- "mail (d, v)": the letters of a message are letters of each class that the target may be
-  pub send-there : (c r j l : ℕ) → state-closed (p h) (t h) (state c r) ≡ true → tag (p h) r ≡ 5 → j < t h .flow .size → left (t h .flow) j ≡ num (p h) (r + 1) → is-class (p h) (right (t h .flow) j) ≡ true → letter-of-some (p h) (t h .flow) (num (p h) (r + 2)) (λ v. true) l ≡ true → has-letter (p h) (t h) (letter-key (p h) (right (t h .flow) j) l) ≡ true
-  unfolding state-closed send-closed kind letter-of-some has
-  send-there c r j l closed e b target class some =
+  pub send-there : (x r j l : ℕ) → r ≡ right (t h .states) x → state-closed (p h) (t h) (state-at (t h) x) ≡ true → tag (p h) r ≡ 5 → j < t h .flow .size → left (t h .flow) j ≡ num (p h) (r + 1) → is-class (p h) (right (t h .flow) j) ≡ true → letter-of-some (p h) (t h .flow) (num (p h) (r + 2)) (λ v. true) l ≡ true → has-letter (p h) (t h) (letter-key (p h) (right (t h .flow) j) l) ≡ true
+  unfolding state-closed send-closed kind letter-of-some has state-at
+  send-there x r j l row closed e b target class some =
       let (i, m, u, v) = some-elim (t h .flow) (num (p h) (r + 2)) _ some in
-      let all : send-closed (p h) (t h) c (num (p h) r) (num (p h) (r + 1)) (num (p h) (r + 2)) (rest (p h) r) ≡ true = rw (head-send (p h) r (rw e), state-closed) at closed in
+      let head : head-at (p h) (right (t h .states) x) ≡ sends (num (p h) r) (num (p h) (r + 1)) (num (p h) (r + 2)) (rest (p h) r) = ap (head-at (p h)) (sym row) ∙ head-send (p h) r (rw e) in
+      let all : send-closed (p h) (t h) (state-at (t h) x) (num (p h) r) (num (p h) (r + 1)) (num (p h) (r + 2)) (rest (p h) r) ≡ true = rw (head, state-closed) at closed in
       let one = each-elim (t h .flow) (num (p h) (r + 1)) j _ all b target in
       let two = implies-elim (is-class (p h) (right (t h .flow) j)) _ one class in
       let three = and-left (has (t h .mail) (right (t h .flow) j) (right (t h .flow) i)) _ (each-elim (t h .flow) (num (p h) (r + 2)) i _ two m u) in
@@ -123,29 +117,29 @@ module _ {ws : List ℕ} {s : Sizes} (h : Ready ws s) where
   -- an entry of a name
   pub entry-in : (a j : ℕ) → range-from (t h .flow) a ≤ j → j < range-to (t h .flow) a → (left (t h .flow) j ≡ a) × (j < t h .flow .size)
   unfolding range-from range-to
-  entry-in a j b c = let upto = place-upto (t h .flow) (a + 1) 0 in (begins-within (t h .flow) a (rising h) j b c, omega arith)
+  entry-in a j b c = let upto = place-upto (t h .flow) [] ((a + 1) ∷ 0 ∷ 0 ∷ []) in (begins-within (t h .flow) [] a (flow-rises h) j b c, omega arith)
 
-  send-turned : (names starts ls : List ℕ) → Name-letters (p h) (t h) names → Class-letters (p h) (t h) starts ls → (r a m next : ℕ) (k : Class) (i : ℕ) → tag (p h) r ≡ 5 → state-closed (p h) (t h) (state (k .number) r) ≡ true → a ≡ num (p h) (r + 1) → m ≡ num (p h) (r + 2) → m < s .names → (j : ℕ) → range-from (t h .flow) a ≤ j → j < range-to (t h .flow) a → send-turn (p h) (t h) names starts ls m next i j ≡ elim (is-class (p h) (right (t h .flow) j)) [ true ↦ from-letters (p h) (letter-of-some (p h) (t h .flow) m (λ v. true)) (λ l. rule i next (puts (letter-index (p h) (t h) (right (t h .flow) j) l))) | false ↦ [] ]
+  send-turned : (names starts ls : List ℕ) → Name-letters (p h) (t h) names → Class-letters (p h) (t h) starts ls → (x r a m next i : ℕ) → r ≡ right (t h .states) x → tag (p h) r ≡ 5 → state-closed (p h) (t h) (state-at (t h) x) ≡ true → a ≡ num (p h) (r + 1) → m ≡ num (p h) (r + 2) → m < s .names → (j : ℕ) → range-from (t h .flow) a ≤ j → j < range-to (t h .flow) a → send-turn (p h) (t h) names starts ls m next i j ≡ elim (is-class (p h) (right (t h .flow) j)) [ true ↦ from-letters (p h) (letter-of-some (p h) (t h .flow) m (λ v. true)) (λ l. rule i next (puts (letter-index (p h) (t h) (right (t h .flow) j) l))) | false ↦ [] ]
   unfolding send-turn program tables entries columns
-  send-turned names starts ls n g r a m next k i e closed u v low j b c =
+  send-turned names starts ls n g x r a m next i row e closed u v low j b c =
       let (same, inside) = entry-in a j b c in
       test (is-class (p h) (right (t h .flow) j))
       (λ f. rw (f, send-turn) (sym (letters-paired h starts ls g (right (t h .flow) j) (class-rows (right (t h .flow) j) f) (letter-of-some (p h) (t h .flow) m (λ v. true)) (member names 2 m) puts next i
-      (λ l o w. send-there (k .number) r j l closed e inside (same ∙ u) f (rw v at w))
+      (λ l o w. send-there x r j l row closed e inside (same ∙ u) f (rw v at w))
       (λ l o w. sym (n .has m l low o)))))
       (λ f. rw (f, send-turn))
 
   -- the rules of a send
-  pub send-gathered : (names starts ls : List ℕ) → Name-letters (p h) (t h) names → Class-letters (p h) (t h) starts ls → (r a m next from to : ℕ) (k : Class) (at : List ℕ) (i : ℕ) → Entered (p h) (t h) k at → tag (p h) r ≡ 5 → state-closed (p h) (t h) (state (k .number) r) ≡ true → a ≡ num (p h) (r + 1) → m ≡ num (p h) (r + 2) → m < s .names → next ≡ getD at (rest (p h) r) 0 → from ≡ range-from (t h .flow) a → to ≡ range-to (t h .flow) a → gather from to (send-turn (p h) (t h) names starts ls m next i) ≡ state-rules (p h) (t h) i (state (k .number) r)
-  unfolding state-rules kind
-  send-gathered names starts ls n g r a m next from to k at i d e closed u v low q x y =
-      let z : next ≡ state-index (t h) (state (k .number) (rest (p h) r)) = q ∙ d .index (rest (p h) r) (led-send h r e .low) in
+  pub send-gathered : (names starts ls : List ℕ) → Name-letters (p h) (t h) names → Class-letters (p h) (t h) starts ls → (x r a m next from to i : ℕ) → r ≡ right (t h .states) x → tag (p h) r ≡ 5 → state-closed (p h) (t h) (state-at (t h) x) ≡ true → a ≡ num (p h) (r + 1) → m ≡ num (p h) (r + 2) → m < s .names → next ≡ state-index (t h) (onward (state-at (t h) x) (rest (p h) r)) → from ≡ range-from (t h .flow) a → to ≡ range-to (t h .flow) a → gather from to (send-turn (p h) (t h) names starts ls m next i) ≡ state-rules (p h) (t h) i (state-at (t h) x)
+  unfolding state-rules kind state-at
+  send-gathered names starts ls n g x r a m next from to i row e closed u v low z begin end =
       let a′ = num (p h) (r + 1) in
       let m′ = num (p h) (r + 2) in
-      let next′ = state-index (t h) (state (k .number) (rest (p h) r)) in
-      rw (head-send (p h) r (rw e), state-rules, x, y, z, u, v)
-      (gather-same (range-from (t h .flow) a′) (range-to (t h .flow) a′) _ _ (λ j b c. send-turned names starts ls n g r a′ m′ next′ k i e closed refl refl (omega arith) j b c) ∙
-      sym (each-range (t h .flow) a′ (λ f. elim (is-class (p h) f) [ true ↦ from-letters (p h) (letter-of-some (p h) (t h .flow) m′ (λ v. true)) (λ l. rule i next′ (puts (letter-index (p h) (t h) f l))) | false ↦ [] ]) (rising h)))
+      let next′ = state-index (t h) (onward (state-at (t h) x) (rest (p h) r)) in
+      let head : head-at (p h) (right (t h .states) x) ≡ sends (num (p h) r) a′ m′ (rest (p h) r) = ap (head-at (p h)) (sym row) ∙ head-send (p h) r (rw e) in
+      rw (head, state-rules, begin, end, z, u, v)
+      (gather-same (range-from (t h .flow) a′) (range-to (t h .flow) a′) _ _ (λ j b c. send-turned names starts ls n g x r a′ m′ next′ i row e closed refl refl (omega arith) j b c) ∙
+      sym (each-range (t h .flow) a′ (λ f. elim (is-class (p h) f) [ true ↦ from-letters (p h) (letter-of-some (p h) (t h .flow) m′ (λ v. true)) (λ l. rule i next′ (puts (letter-index (p h) (t h) f l))) | false ↦ [] ]) (flow-rises h)))
 
   -- later entries of a name have later classes
   pub later-value : (starts ls : List ℕ) → Class-letters (p h) (t h) starts ls → (a j : ℕ) → range-from (t h .flow) a ≤ j → j + 1 < range-to (t h .flow) a → (getD starts (right (t h .flow) j + 1) 0 ≤ getD starts (right (t h .flow) (j + 1)) 0) × (getD starts (right (t h .flow) j) 0 ≤ getD starts (right (t h .flow) (j + 1)) 0)
@@ -154,7 +148,7 @@ module _ {ws : List ℕ} {s : Sizes} (h : Ready ws s) where
       let (u, v) = entry-in a j b (omega arith) in
       let (x, y) = entry-in a (j + 1) (omega arith) c in
       let low = value-from h a (range-from (t h .flow) a) (j + 1) refl (omega arith) c .1 in
-      let up : right (t h .flow) j < right (t h .flow) (j + 1) = ⊎-elim (λ z. absurd (omega arith)) (λ z. z .1) (rising h j (j + 1) (omega arith) y) in
+      let up : right (t h .flow) j < right (t h .flow) (j + 1) = ⊎-elim (λ z. absurd (omega arith)) (λ z. ⊎-elim (λ w. w) (λ w. absurd (w .1)) (z .1)) (flow-form h .ascending j (j + 1) (omega arith) y) in
       let one = start-later h starts ls g (right (t h .flow) j) (right (t h .flow) (j + 1)) up low in
       let two = start-order h starts ls g (right (t h .flow) j) (omega arith) in
       (one, omega (arith, two .0))

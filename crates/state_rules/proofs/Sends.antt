@@ -1,7 +1,7 @@
 -- The turns of a send, and the room for them.
-use Prim.Native.Nat.{ℕ, _+_, _≤_, _<_}
+use Prim.Native.Nat.{ℕ, _≤_}
 use native.Mathlib.Omega.{arith}
-use mathlib.Core.Path.{_≡_, refl, sym, _∙_, ap}
+use mathlib.Core.Path.{_≡_, sym, _∙_, ap}
 use mathlib.Core.Bool.{Bool, true, false, not}
 use mathlib.Core.List.{List, []}
 use lib.ListN.{length, getD}
@@ -9,14 +9,13 @@ use borrow.Author.Tests.{not-true, not-false}
 use Rattle.bits.specs.Bits.{member}
 use Rattle.model.specs.declared.Sizes.{Sizes}
 use Rattle.model.specs.Limits.{maxCounters}
-use Rattle.model.specs.Words.{left, right, columns}
-use Rattle.model.specs.Rows.{Program, program, size}
+use Rattle.model.specs.Words.{right, columns}
+use Rattle.model.specs.Rows.{Program, program}
 use Rattle.model.specs.Heads.{is-class}
 use Rattle.model.specs.Tables.{Tables, tables, entries}
-use Rattle.model.specs.Counters.{letter-count, counter-count}
-use Rattle.model.specs.Rules.{puts, Rule}
+use Rattle.model.specs.Counters.{counter-count}
+use Rattle.model.specs.Rules.{puts}
 use Rattle.model.proofs.Numbering.Counters.{class-at-most, tag-inside}
-use Rattle.lists.specs.Lists.{range-from, range-to}
 use Rattle.lists.specs.Ready.{Ready}
 use Rattle.system_letters.specs.Letters.{Class-letters}
 use Rattle.system_letters.proofs.Pairs.{start-order}

@@ -1,7 +1,11 @@
 // The rules of a state, all at once: where they lead, and the other counter. All rules of a state are of one kind.
 use lists::flow_value;
+use lists::heads_from;
+use lists::heads_to;
+use lists::state_class;
 use lists::state_index;
 use lists::state_location;
+use lists::state_return;
 use lists::word;
 use model::Sizes;
 use model::TAG_CALL;
@@ -10,6 +14,8 @@ use model::TAG_GIVE;
 use model::TAG_RECEIVE;
 use model::TAG_SEND;
 use model::TAG_SPAWN;
+use onward::called;
+use onward::onward;
 use pattern_letters::takes_letter;
 use positions::body;
 use positions::branch_body;
@@ -18,104 +24,97 @@ use positions::rest;
 use positions::takes;
 use program::rows::num;
 use program::rows::tag;
-use rules::Class;
 use sets::holds;
 ghost use mathlib.Core.Path.{_≡_};
 ghost use mathlib.Core.Bool.{true};
 ghost use mathlib.Core.List.{[]};
-ghost use Prim.Native.Nat.{ℕ, _+_, _≤_, _<_};
+ghost use Prim.Native.Nat.{_+_, _≤_, _<_};
 ghost use lib.ListN.{length, getD};
 ghost use Rattle.bits.specs.Bits.{bit, member};
-ghost use Rattle.model.specs.Index.{gather};
 ghost use Rattle.model.specs.Words.{left, right};
-ghost use Rattle.model.specs.Rows.{program, tag, num, give, call, send, spawn, self, case, receive};
+ghost use Rattle.model.specs.Rows.{program, tag, is-head, give, call, send, spawn, self, case, receive};
 ghost use Rattle.model.specs.Scopes.{rest};
-ghost use Rattle.model.specs.Tables.{tables, state};
+ghost use Rattle.model.specs.Tables.{tables, state, onward, state-at, state-index};
 ghost use Rattle.model.specs.Limits.{maxBranches, maxCounters};
-ghost use Rattle.model.specs.Closed.{returns-to, state-closed};
+ghost use Rattle.model.specs.Closed.{state-closed};
 ghost use Rattle.model.specs.Counters.{counter-count};
-ghost use Rattle.program.specs.Rows.{Whole};
 ghost use Rattle.positions.specs.Branches.{Branch-bits};
 ghost use Rattle.model.specs.Rules.{puts, reads, state-rules};
-ghost use Rattle.positions.specs.Positions.{Ends, Owners};
+ghost use Rattle.positions.specs.Positions.{Ends};
 ghost use Rattle.rules.specs.Listed.{State-rules};
 ghost use Rattle.rules.specs.Added.{Added};
 ghost use Rattle.values.specs.Values.{width, Flow-sets};
-ghost use Rattle.rules.specs.Derived.{Entered, Rule-room, Rule-tables};
+ghost use Rattle.rules.specs.Derived.{Rule-room, Rule-tables};
 ghost use Rattle.lists.specs.Lists.{Starts};
 ghost use Rattle.system_letters.specs.Letters.{Name-letters, Class-letters};
 ghost use Rattle.lists.specs.Ready.{Ready};
-ghost use Rattle.state_rules.specs.Heads.{Led, Plain, Pair-room, class-turn};
+ghost use Rattle.state_rules.specs.Heads.{Plain, Pair-room, class-turn};
 ghost use Rattle.pattern_letters.specs.Takes.{takes-letter};
 
-// Does giving back from the function f lead to state j, of its class?
-fn returns_to(ws: &[u16], s: Sizes, w: usize, flows: &[u64], f: usize, j: usize) -> bool
+// The state at row r with the class and the return of state i.
+fn onto(ws: &[u16], s: Sizes, at: &[u16], i: usize, r: usize) -> u16
     requires { ⌜ Ready (now ws) s ⌝ }
-    requires { ⌜ (w ≡ width (s .rows)) × Flow-sets (program (now ws) s) (tables (now ws) s) (now flows) ⌝ }
-    requires { ⌜ (f < s .rows) × (j < s .states) ⌝ }
-    ensures { λ b. ⌜ b ≡
-        returns-to (program (now (ws .entry)) s) (tables (now (ws .entry)) s)
-        (left (tables (now (ws .entry)) s .states) j) f j ⌝ }
+    requires { ⌜ i < s .states ⌝ }
+    ensures { λ x. ⌜ x ≡
+        state-index (tables (now (ws .entry)) s) (onward (state-at (tables (now (ws .entry)) s) i) r) ⌝ }
 {
-    let r = state_location(ws, s, j);
-    if tag(ws, s, r) != TAG_CALL {
-        return false;
-    }
-    let callee = num(ws, s, r + 1);
-    let count = num(ws, s, r + 2);
-    if takes(ws, s, f, count) {
-        holds(flows, w, callee, f)
-    } else {
-        false
-    }
+    let x = onward(ws, s, at, i, r);
+    x as u16
 }
 
-// The state of the class at the rest of the head at row r.
-fn behind(ws: &[u16], s: Sizes, afters: &[u16], at: &[u16], r: usize) -> u16
+// The state at row r, the body that the call of state i enters: it returns to the call.
+fn into(ws: &[u16], s: Sizes, at: &[u16], i: usize, r: usize) -> u16
+    requires { ⌜ Ready (now ws) s ⌝ }
+    requires { ⌜ i < s .states ⌝ }
+    ensures { λ x. ⌜ x ≡ state-index (tables (now (ws .entry)) s)
+        (state (left (tables (now (ws .entry)) s .states) i) r (right (tables (now (ws .entry)) s .states) i)) ⌝ }
+{
+    let x = called(ws, s, at, i, r);
+    x as u16
+}
+
+// The state in which a process begins at row e that the spawn at row r starts: it returns to nothing.
+fn begun(ws: &[u16], s: Sizes, r: usize, e: usize) -> usize
+    requires { ⌜ Ready (now ws) s ⌝ }
+    ensures { λ x. ⌜ x ≡ state-index (tables (now (ws .entry)) s) (state r e (s .rows)) ⌝ }
+{
+    state_index(ws, s, r, e, s.rows)
+}
+
+// The state behind the head at row r, with the class and the return of state i.
+fn behind(ws: &[u16], s: Sizes, afters: &[u16], at: &[u16], i: usize, r: usize) -> u16
     requires { ⌜ Ready (now ws) s ⌝ }
     requires { ⌜ Ends (program (now ws) s) (now afters) ⌝ }
-    requires { ⌜ Led (program (now ws) s) r ⌝ }
-    requires { ⌜ s .rows ≤ length (now at) ⌝ }
-    ensures { λ x. ⌜ x ≡ getD (now (at .entry)) (rest (program (now (ws .entry)) s) r) 0 ⌝ }
+    requires { ⌜ (i < s .states) × (is-head (tag (program (now ws) s) r) ≡ true) ⌝ }
+    ensures { λ x. ⌜ x ≡ state-index (tables (now (ws .entry)) s)
+        (onward (state-at (tables (now (ws .entry)) s) i) (rest (program (now (ws .entry)) s) r)) ⌝ }
 {
     let e = rest(ws, s, afters, r);
-    at[e]
+    onto(ws, s, at, i, e)
 }
 
-// A give back: each call of its function, and nothing in the start expression.
-fn give_rules(
-    ws: &[u16],
-    s: Sizes,
-    afters: &[u16],
-    inners: &[u16],
-    w: usize,
-    flows: &[u64],
-    k: Class,
-    at: &[u16],
-    r: usize,
-    tos: &mut [u16],
-) -> usize
+// A give back: each state at the call that state i returns to goes on behind it; nothing where nothing is pushed.
+fn give_rules(ws: &[u16], s: Sizes, afters: &[u16], at: &[u16], i: usize, tos: &mut [u16]) -> usize
     requires { ⌜ Ready (now ws) s ⌝ }
     requires { ⌜ Ends (program (now ws) s) (now afters) ⌝ }
-    requires { ⌜ Owners (program (now ws) s) (now inners) ⌝ }
-    requires { ⌜ (w ≡ width (s .rows)) × Flow-sets (program (now ws) s) (tables (now ws) s) (now flows) ⌝ }
-    requires { ⌜ Entered (program (now ws) s) (tables (now ws) s) k (now at) ⌝ }
-    requires { ⌜ tag (program (now ws) s) r ≡ 1 ⌝ }
+    requires { ⌜ i < s .states ⌝ }
+    requires { ⌜ tag (program (now ws) s) (right (tables (now ws) s .states) i) ≡ 1 ⌝ }
     requires { ⌜ s .states ≤ length (now tos) ⌝ }
     ensures { λ n. ⌜ Added give (now (tos .entry)) [] 0 (now (tos .exit)) [] n
-        (λ i. state-rules (program (now (ws .entry)) s) (tables (now (ws .entry)) s) i (state (k .number) r)) ⌝ }
+        (λ e. state-rules (program (now (ws .entry)) s) (tables (now (ws .entry)) s) e
+        (state-at (tables (now (ws .entry)) s) i)) ⌝ }
 {
-    let f = word(inners, r);
-    if f >= s.rows {
+    let b = state_return(ws, s, i);
+    if b == s.rows {
         return 0;
     }
+    let c = state_class(ws, s, i);
+    let from = heads_from(ws, s, c, b);
+    let to = heads_to(ws, s, c, b);
+    let e = rest(ws, s, afters, b);
     let mut n = 0;
-    for j in k.from..k.to {
-        if !returns_to(ws, s, w, flows, f, j) {
-            continue;
-        }
-        let q = state_location(ws, s, j);
-        tos[n] = behind(ws, s, afters, at, q);
+    for j in from..to {
+        tos[n] = onto(ws, s, at, j, e);
         n += 1;
     }
     n
@@ -126,18 +125,19 @@ fn call_rules(
     ws: &[u16],
     s: Sizes,
     flow_at: &[u16],
-    k: Class,
     at: &[u16],
+    i: usize,
     r: usize,
     tos: &mut [u16],
 ) -> usize
     requires { ⌜ Ready (now ws) s ⌝ }
     requires { ⌜ Starts (tables (now ws) s .flow) (s .names) (now «flow_at») ⌝ }
-    requires { ⌜ Entered (program (now ws) s) (tables (now ws) s) k (now at) ⌝ }
+    requires { ⌜ (i < s .states) × (r ≡ right (tables (now ws) s .states) i) ⌝ }
     requires { ⌜ tag (program (now ws) s) r ≡ 4 ⌝ }
     requires { ⌜ s .rows < length (now tos) ⌝ }
     ensures { λ n. ⌜ Added call (now (tos .entry)) [] 0 (now (tos .exit)) [] n
-        (λ i. state-rules (program (now (ws .entry)) s) (tables (now (ws .entry)) s) i (state (k .number) r)) ⌝ }
+        (λ e. state-rules (program (now (ws .entry)) s) (tables (now (ws .entry)) s) e
+        (state-at (tables (now (ws .entry)) s) i)) ⌝ }
 {
     let callee = num(ws, s, r + 1);
     let count = num(ws, s, r + 2);
@@ -150,7 +150,7 @@ fn call_rules(
             continue;
         }
         let e = body(ws, s, f);
-        tos[n] = at[e];
+        tos[n] = into(ws, s, at, i, e);
         n += 1;
     }
     n
@@ -162,8 +162,8 @@ fn spawn_rules(
     s: Sizes,
     afters: &[u16],
     flow_at: &[u16],
-    k: Class,
     at: &[u16],
+    i: usize,
     r: usize,
     tos: &mut [u16],
     others: &mut [u16],
@@ -171,14 +171,15 @@ fn spawn_rules(
     requires { ⌜ Ready (now ws) s ⌝ }
     requires { ⌜ Ends (program (now ws) s) (now afters) ⌝ }
     requires { ⌜ Starts (tables (now ws) s .flow) (s .names) (now «flow_at») ⌝ }
-    requires { ⌜ Entered (program (now ws) s) (tables (now ws) s) k (now at) ⌝ }
+    requires { ⌜ (i < s .states) × (r ≡ right (tables (now ws) s .states) i) ⌝ }
     requires { ⌜ tag (program (now ws) s) r ≡ 6 ⌝ }
     requires { ⌜ Rule-room s (now tos) (now others) ⌝ }
     ensures { λ n. ⌜ Added spawn (now (tos .entry)) (now (others .entry)) 0 (now (tos .exit)) (now (others .exit)) n
-        (λ i. state-rules (program (now (ws .entry)) s) (tables (now (ws .entry)) s) i (state (k .number) r)) ⌝ }
+        (λ e. state-rules (program (now (ws .entry)) s) (tables (now (ws .entry)) s) e
+        (state-at (tables (now (ws .entry)) s) i)) ⌝ }
 {
     let name = num(ws, s, r + 1);
-    let next = behind(ws, s, afters, at, r);
+    let next = behind(ws, s, afters, at, i, r);
     let from = word(flow_at, name);
     let to = word(flow_at, name + 1);
     let mut n = 0;
@@ -187,7 +188,7 @@ fn spawn_rules(
         if !takes(ws, s, f, 0) {
             continue;
         }
-        let x = state_index(ws, s, r, body(ws, s, f));
+        let x = begun(ws, s, r, body(ws, s, f));
         tos[n] = next;
         others[n] = x as u16;
         n += 1;
@@ -200,20 +201,21 @@ fn rest_rules(
     ws: &[u16],
     s: Sizes,
     afters: &[u16],
-    k: Class,
     at: &[u16],
+    i: usize,
     r: usize,
     tos: &mut [u16],
 ) -> usize
     requires { ⌜ Ready (now ws) s ⌝ }
     requires { ⌜ Ends (program (now ws) s) (now afters) ⌝ }
-    requires { ⌜ Entered (program (now ws) s) (tables (now ws) s) k (now at) ⌝ }
+    requires { ⌜ (i < s .states) × (r ≡ right (tables (now ws) s .states) i) ⌝ }
     requires { ⌜ Plain (program (now ws) s) r ⌝ }
     requires { ⌜ 0 < length (now tos) ⌝ }
     ensures { λ n. ⌜ Added self (now (tos .entry)) [] 0 (now (tos .exit)) [] n
-        (λ i. state-rules (program (now (ws .entry)) s) (tables (now (ws .entry)) s) i (state (k .number) r)) ⌝ }
+        (λ e. state-rules (program (now (ws .entry)) s) (tables (now (ws .entry)) s) e
+        (state-at (tables (now (ws .entry)) s) i)) ⌝ }
 {
-    tos[0] = behind(ws, s, afters, at, r);
+    tos[0] = behind(ws, s, afters, at, i, r);
     1
 }
 
@@ -266,8 +268,8 @@ fn send_rules(
     names: &[u64],
     letter_at: &[u16],
     letters: &[u16],
-    k: Class,
     at: &[u16],
+    i: usize,
     r: usize,
     tos: &mut [u16],
     others: &mut [u16],
@@ -277,17 +279,18 @@ fn send_rules(
     requires { ⌜ Starts (tables (now ws) s .flow) (s .names) (now «flow_at») ⌝ }
     requires { ⌜ Name-letters (program (now ws) s) (tables (now ws) s) (now names) ⌝ }
     requires { ⌜ Class-letters (program (now ws) s) (tables (now ws) s) (now «letter_at») (now letters) ⌝ }
-    requires { ⌜ Entered (program (now ws) s) (tables (now ws) s) k (now at) ⌝ }
+    requires { ⌜ (i < s .states) × (r ≡ right (tables (now ws) s .states) i) ⌝ }
     requires { ⌜ tag (program (now ws) s) r ≡ 5 ⌝ }
-    requires { ⌜ state-closed (program (now ws) s) (tables (now ws) s) (state (k .number) r) ≡ true ⌝ }
+    requires { ⌜ state-closed (program (now ws) s) (tables (now ws) s) (state-at (tables (now ws) s) i) ≡ true ⌝ }
     requires { ⌜ counter-count (program (now ws) s) (tables (now ws) s) ≤ maxCounters ⌝ }
     requires { ⌜ Rule-room s (now tos) (now others) ⌝ }
     ensures { λ n. ⌜ Added send (now (tos .entry)) (now (others .entry)) 0 (now (tos .exit)) (now (others .exit)) n
-        (λ i. state-rules (program (now (ws .entry)) s) (tables (now (ws .entry)) s) i (state (k .number) r)) ⌝ }
+        (λ e. state-rules (program (now (ws .entry)) s) (tables (now (ws .entry)) s) e
+        (state-at (tables (now (ws .entry)) s) i)) ⌝ }
 {
     let target = num(ws, s, r + 1);
     let message = num(ws, s, r + 2);
-    let next = behind(ws, s, afters, at, r);
+    let next = behind(ws, s, afters, at, i, r);
     let from = word(flow_at, target);
     let to = word(flow_at, target + 1);
     let mut n = 0;
@@ -328,28 +331,27 @@ fn case_rules(
     s: Sizes,
     afters: &[u16],
     branches: &[u16],
-    i: usize,
-    k: Class,
     at: &[u16],
+    i: usize,
     r: usize,
     tos: &mut [u16],
 ) -> usize
     requires { ⌜ Ready (now ws) s ⌝ }
     requires { ⌜ Ends (program (now ws) s) (now afters) ⌝ }
-    requires { ⌜ Entered (program (now ws) s) (tables (now ws) s) k (now at) ⌝ }
     requires { ⌜ Branch-bits (program (now ws) s) (tables (now ws) s) (now branches) ⌝ }
     requires { ⌜ tag (program (now ws) s) r ≡ 8 ⌝ }
     requires { ⌜ (i < s .states) × (r ≡ right (tables (now ws) s .states) i) ⌝ }
     requires { ⌜ maxBranches ≤ length (now tos) ⌝ }
     ensures { λ n. ⌜ Added case (now (tos .entry)) [] 0 (now (tos .exit)) [] n
-        (λ e. state-rules (program (now (ws .entry)) s) (tables (now (ws .entry)) s) e (state (k .number) r)) ⌝ }
+        (λ e. state-rules (program (now (ws .entry)) s) (tables (now (ws .entry)) s) e
+        (state-at (tables (now (ws .entry)) s) i)) ⌝ }
 {
     let m = num(ws, s, r + 1);
     let mut q = r + 2;
     let mut n = 0;
     for b in 0..m {
         let e = branch_body(ws, s, afters, q);
-        let here = at[e];
+        let here = onto(ws, s, at, i, e);
         q = word(afters, e);
         if !may_match(branches, i, b) {
             continue;
@@ -414,9 +416,8 @@ fn receive_rules(
     letter_at: &[u16],
     letters: &[u16],
     branches: &[u16],
-    i: usize,
-    k: Class,
     at: &[u16],
+    i: usize,
     r: usize,
     tos: &mut [u16],
     others: &mut [u16],
@@ -424,24 +425,24 @@ fn receive_rules(
     requires { ⌜ Ready (now ws) s ⌝ }
     requires { ⌜ Ends (program (now ws) s) (now afters) ⌝ }
     requires { ⌜ Class-letters (program (now ws) s) (tables (now ws) s) (now «letter_at») (now letters) ⌝ }
-    requires { ⌜ Entered (program (now ws) s) (tables (now ws) s) k (now at) ⌝ }
     requires { ⌜ Branch-bits (program (now ws) s) (tables (now ws) s) (now branches) ⌝ }
     requires { ⌜ tag (program (now ws) s) r ≡ 9 ⌝ }
-    requires { ⌜ (i < s .states) × (r ≡ right (tables (now ws) s .states) i) ×
-        (k .number ≡ left (tables (now ws) s .states) i) ⌝ }
+    requires { ⌜ (i < s .states) × (r ≡ right (tables (now ws) s .states) i) ⌝ }
     requires { ⌜ Rule-room s (now tos) (now others) ⌝ }
     requires { ⌜ (w ≡ width (s .rows)) × Flow-sets (program (now ws) s) (tables (now ws) s) (now flows) ⌝ }
     requires { ⌜ Name-letters (program (now ws) s) (tables (now ws) s) (now names) ⌝ }
     ensures { λ n. ⌜ Added receive (now (tos .entry)) (now (others .entry)) 0 (now (tos .exit)) (now (others .exit)) n
-        (λ e. state-rules (program (now (ws .entry)) s) (tables (now (ws .entry)) s) e (state (k .number) r)) ⌝ }
+        (λ e. state-rules (program (now (ws .entry)) s) (tables (now (ws .entry)) s) e
+        (state-at (tables (now (ws .entry)) s) i)) ⌝ }
 {
+    let c = state_class(ws, s, i);
     let m = num(ws, s, r);
     let mut q = r + 1;
     let mut n = 0;
     for b in 0..m {
         let row = q;
         let e = branch_body(ws, s, afters, row);
-        let here = at[e];
+        let here = onto(ws, s, at, i, e);
         q = word(afters, e);
         if !may_match(branches, i, b) {
             continue;
@@ -455,7 +456,7 @@ fn receive_rules(
             letter_at,
             letters,
             row,
-            k.number,
+            c,
             here,
             n,
             tos,
@@ -465,12 +466,12 @@ fn receive_rules(
     n
 }
 
-// The rules of state i, of the class entered: how many there are.
+// The rules of state i: how many there are. The states that they lead to are guessed by the table `at`, of which
+// nothing is asked.
 pub fn state_rules(
     ws: &[u16],
     s: Sizes,
     afters: &[u16],
-    inners: &[u16],
     flow_at: &[u16],
     w: usize,
     flows: &[u64],
@@ -478,24 +479,22 @@ pub fn state_rules(
     letter_at: &[u16],
     letters: &[u16],
     branches: &[u16],
-    k: Class,
     at: &[u16],
     i: usize,
     tos: &mut [u16],
     others: &mut [u16],
 ) -> usize
-    requires { ⌜ Rule-tables (now ws) s (now afters) (now inners) (now «flow_at») w (now flows) (now names)
-        (now «letter_at») (now letters) (now branches) ⌝ }
-    requires { ⌜ Entered (program (now ws) s) (tables (now ws) s) k (now at) ⌝ }
-    requires { ⌜ (i < s .states) × (k .number ≡ left (tables (now ws) s .states) i) ⌝ }
+    requires { ⌜ Rule-tables (now ws) s (now afters) (now «flow_at») w (now flows) (now names) (now «letter_at»)
+        (now letters) (now branches) ⌝ }
+    requires { ⌜ i < s .states ⌝ }
     requires { ⌜ Rule-room s (now tos) (now others) ⌝ }
     ensures { λ n. ⌜ State-rules (program (now (ws .entry)) s) (tables (now (ws .entry)) s) i (now (tos .exit))
         (now (others .exit)) n ⌝ }
 {
     let r = state_location(ws, s, i);
     match tag(ws, s, r) {
-        TAG_GIVE => give_rules(ws, s, afters, inners, w, flows, k, at, r, tos),
-        TAG_CALL => call_rules(ws, s, flow_at, k, at, r, tos),
+        TAG_GIVE => give_rules(ws, s, afters, at, i, tos),
+        TAG_CALL => call_rules(ws, s, flow_at, at, i, r, tos),
         TAG_SEND => send_rules(
             ws,
             s,
@@ -504,14 +503,14 @@ pub fn state_rules(
             names,
             letter_at,
             letters,
-            k,
             at,
+            i,
             r,
             tos,
             others,
         ),
-        TAG_SPAWN => spawn_rules(ws, s, afters, flow_at, k, at, r, tos, others),
-        TAG_CASE => case_rules(ws, s, afters, branches, i, k, at, r, tos),
+        TAG_SPAWN => spawn_rules(ws, s, afters, flow_at, at, i, r, tos, others),
+        TAG_CASE => case_rules(ws, s, afters, branches, at, i, r, tos),
         TAG_RECEIVE => receive_rules(
             ws,
             s,
@@ -522,14 +521,13 @@ pub fn state_rules(
             letter_at,
             letters,
             branches,
-            i,
-            k,
             at,
+            i,
             r,
             tos,
             others,
         ),
         // build, function and self
-        _ => rest_rules(ws, s, afters, k, at, r, tos),
+        _ => rest_rules(ws, s, afters, at, i, r, tos),
     }
 }

@@ -1,2 +1,2 @@
-pub mod Classes
 pub mod Dispatch
+pub mod Giving

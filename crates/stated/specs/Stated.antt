@@ -1,37 +1,31 @@
--- What is asked of one state, with the states of its class at hand.
+-- What is asked of one state.
 use Prim.Native.Nat.{ℕ, _+_, _^_, _≤_, _<_}
 use mathlib.Core.Path.{_≡_}
 use mathlib.Core.Bool.{Bool, true, false}
 use mathlib.Core.List.{List}
 use lib.ListN.{length, getD}
 use Rattle.model.specs.Index.{implies}
-use Rattle.model.specs.Words.{Columns, left}
+use Rattle.model.specs.Words.{Columns}
 use Rattle.model.specs.Rows.{Program, tag, num}
-use Rattle.model.specs.Heads.{call-at, branch-rows, body, takes}
-use Rattle.model.specs.Tables.{Tables, each, some-of, state, state-at, has-state}
-use Rattle.model.specs.Closed.{may-take, returns-to, return-closed, state-closed}
+use Rattle.model.specs.Heads.{branch-rows, takes}
+use Rattle.model.specs.Tables.{Tables, each, some-of, State, state-at, has-state, onward}
+use Rattle.model.specs.Closed.{may-take, entered, state-closed}
 use Rattle.bits.specs.Bits.{bit}
 use Rattle.branches.specs.Taken.{lacks, bodies-closed}
 
--- the entries that begin with c stand from here
-pub record Begins (l : Columns) (c from : ℕ) : Type 0 where
-  pub inside : from < l .size
-  pub first : left l from ≡ c
-  pub before : (k : ℕ) → k < from → left l k ≡ c → ⊥
+-- of the call at row r in the state s: it enters the functions that the callee may be
+unfoldable pub callees-here : Program → Tables → State → ℕ → Bool
+callees-here p t s r = each (t .flow) (num p (r + 1))
+    (λ f. implies (takes p f (num p (r + 2))) (has-state t (entered p s f)))
 
--- of a call in class c: the bodies of the functions that the callee may be are states
-unfoldable pub callees-here : Program → Tables → ℕ → ℕ → Bool
-callees-here p t c r = each (t .flow) (num p (r + 1))
-    (λ f. implies (takes p f (num p (r + 2))) (has-state t (state c (body p f))))
+-- state j goes on at row r
+unfoldable pub goes-on : Tables → ℕ → ℕ → Bool
+goes-on t r j = has-state t (onward (state-at t j) r)
 
--- of giving back n from f: state i
-unfoldable pub give-state : Program → Tables → ℕ → ℕ → ℕ → ℕ → Bool
-give-state p t c n f i = implies (returns-to p t c f i) (return-closed p t c n (call-at p (state-at t i .location)))
-
--- x is k where the expressions of the branches whose bits k has set are states of the class c, else `lacks`
-pub record Here (p : Program) (t : Tables) (c : ℕ) (qs : List ℕ) (k x : ℕ) : Type 0 where
-  pub kept : (x ≡ lacks → ⊥) → (x ≡ k) × (bodies-closed p t c k qs ≡ true)
-  pub lost : x ≡ lacks → (k ≡ lacks → ⊥) → bodies-closed p t c k qs ≡ false
+-- x is k where the state s goes on at the expressions of the branches whose bits k has set, else `lacks`
+pub record Here (p : Program) (t : Tables) (s : State) (qs : List ℕ) (k x : ℕ) : Type 0 where
+  pub kept : (x ≡ lacks → ⊥) → (x ≡ k) × (bodies-closed p t s k qs ≡ true)
+  pub lost : x ≡ lacks → (k ≡ lacks → ⊥) → bodies-closed p t s k qs ≡ false
 
 -- x is 0 where it is so, `lacks` where not
 pub record Flagged (b : Bool) (x : ℕ) : Type 0 where
@@ -43,12 +37,16 @@ pub record Bits-of (p : Program) (t : Tables) (l : Columns) (a : ℕ) (qs : List
   pub bits : (b : ℕ) → b < length qs → bit k b ≡ some-of l a (may-take p t (getD qs b 0))
   pub end : k < 2 ^ length qs
 
--- k is `lacks` where something that state (c, r) asks for is missing; else it has the bits of its branches, and is 0
+-- k is `lacks` where something that the state s asks for is missing; else it has the bits of its branches, and is 0
 -- where it has none
-pub record Stated (p : Program) (t : Tables) (c r k : ℕ) : Type 0 where
+pub record Stated (p : Program) (t : Tables) (s : State) (k : ℕ) : Type 0 where
   pub most : k ≤ lacks
-  pub missing : k ≡ lacks → state-closed p t (state c r) ≡ false
-  pub closed : (k ≡ lacks → ⊥) → state-closed p t (state c r) ≡ true
+  pub missing : k ≡ lacks → state-closed p t s ≡ false
+  pub closed : (k ≡ lacks → ⊥) → state-closed p t s ≡ true
   pub case-bits :
-      (k ≡ lacks → ⊥) → tag p r ≡ 8 → Bits-of p t (t .flow) (num p r) (branch-rows p (num p (r + 1)) (r + 2)) k
-  pub receive-bits : (k ≡ lacks → ⊥) → tag p r ≡ 9 → Bits-of p t (t .mail) c (branch-rows p (num p r) (r + 1)) k
+      (k ≡ lacks → ⊥) → tag p (s .location) ≡ 8 →
+      Bits-of p t (t .flow) (num p (s .location))
+      (branch-rows p (num p (s .location + 1)) (s .location + 2)) k
+  pub receive-bits :
+      (k ≡ lacks → ⊥) → tag p (s .location) ≡ 9 →
+      Bits-of p t (t .mail) (s .class) (branch-rows p (num p (s .location)) (s .location + 1)) k

@@ -1,4 +1,4 @@
-// What is asked of one state, with the states of its class at hand as a set of rows.
+// What is asked of one state.
 pub mod calls;
 pub mod gives;
 pub mod states;

@@ -4,12 +4,14 @@ use crate::gives::give_closed;
 use branches::LACKS;
 use branches::bodies_closed;
 use branches::taken_bits;
+use lists::state_class;
 use model::Sizes;
 use model::TAG_CALL;
 use model::TAG_CASE;
 use model::TAG_GIVE;
 use model::TAG_RECEIVE;
 use model::TAG_SELF;
+use onward::onward;
 use positions::rest;
 use program::rows::num;
 use program::rows::tag;
@@ -17,39 +19,41 @@ use sets::holds;
 use values::mail_set;
 use values::width;
 ghost use mathlib.Core.Path.{_≡_};
-ghost use mathlib.Core.Bool.{true, _&&_};
-ghost use Prim.Native.Nat.{_+_, _≤_};
+ghost use mathlib.Core.Bool.{_&&_};
+ghost use Prim.Native.Nat.{_≤_, _<_};
+ghost use Rattle.model.specs.Words.{right};
 ghost use Rattle.model.specs.Rows.{program, tag, num};
 ghost use Rattle.model.specs.Scopes.{rest};
-ghost use Rattle.model.specs.Heads.{call-at, branch-rows, is-class};
-ghost use Rattle.model.specs.Tables.{tables, has, state, has-state};
+ghost use Rattle.model.specs.Heads.{call-at, branch-rows};
+ghost use Rattle.model.specs.Tables.{tables, has, onward, state-at, has-state};
 ghost use Rattle.model.specs.Closed.{call-closed};
 ghost use Rattle.lists.specs.Lists.{Starts};
 ghost use Rattle.lists.specs.Ready.{Ready};
-ghost use Rattle.positions.specs.Positions.{Run, Ends, Owners};
-ghost use Rattle.values.specs.Values.{width, Values, Flow-sets, Mail-sets};
+ghost use Rattle.positions.specs.Positions.{Run, Ends};
+ghost use Rattle.values.specs.Values.{Flow-sets, Mail-sets};
 ghost use Rattle.matching.specs.Patterns.{Matches};
 ghost use Rattle.branches.specs.Taken.{code-closed};
 ghost use Rattle.asks.specs.Asks.{Asked};
 ghost use Rattle.settled.specs.Settled.{Settled};
-ghost use Rattle.stated.specs.Stated.{Begins, Here, Flagged, Stated};
+ghost use Rattle.stated.specs.Stated.{Here, Flagged, Stated};
 
-// What a head with this code asks in class c: nothing, its rest as a state, or something lacks.
+// What the head at row r with this code asks in state i: nothing, to go on at its rest, or something lacks.
 fn rest_closed(
     ws: &[u16],
     s: Sizes,
     afters: &[u16],
-    here: &[u64],
-    c: usize,
+    at: &[u16],
+    i: usize,
     r: usize,
     k: usize,
 ) -> bool
     requires { ⌜ Ready (now ws) s ⌝ }
     requires { ⌜ Ends (program (now ws) s) (now afters) ⌝ }
-    requires { ⌜ Values (tables (now ws) s .states) c (width (s .rows)) 0 (now here) ⌝ }
+    requires { ⌜ i < s .states ⌝ }
     requires { ⌜ (2 ≤ tag (program (now ws) s) r) × (tag (program (now ws) s) r ≤ 7) ⌝ }
     ensures { λ b. ⌜ b ≡
-        code-closed k (has-state (tables (now (ws .entry)) s) (state c (rest (program (now (ws .entry)) s) r))) ⌝ }
+        code-closed k (has-state (tables (now (ws .entry)) s)
+        (onward (state-at (tables (now (ws .entry)) s) i) (rest (program (now (ws .entry)) s) r))) ⌝ }
 {
     if k == 0 {
         return true;
@@ -58,83 +62,84 @@ fn rest_closed(
         return false;
     }
     let next = rest(ws, s, afters, r);
-    holds(here, width(s), 0, next)
+    onward(ws, s, at, i, next) < s.states
 }
 
-// What the call at row r with this code asks in class c.
+// What the call at row r with this code asks in state i.
 fn call_closed(
     ws: &[u16],
     s: Sizes,
     starts: &[u16],
-    here: &[u64],
-    c: usize,
+    at: &[u16],
+    i: usize,
     r: usize,
     k: usize,
 ) -> bool
     requires { ⌜ Ready (now ws) s ⌝ }
     requires { ⌜ Starts (tables (now ws) s .flow) (s .names) (now starts) ⌝ }
-    requires { ⌜ Values (tables (now ws) s .states) c (width (s .rows)) 0 (now here) ⌝ }
     requires { ⌜ tag (program (now ws) s) r ≡ 4 ⌝ }
     requires { ⌜ Asked (program (now ws) s) (tables (now ws) s) r k ⌝ }
     ensures { λ b. ⌜ b ≡
-        call-closed (program (now (ws .entry)) s) (tables (now (ws .entry)) s) c
-        (call-at (program (now (ws .entry)) s) r) ⌝ }
+        call-closed (program (now (ws .entry)) s) (tables (now (ws .entry)) s)
+        (state-at (tables (now (ws .entry)) s) i) (call-at (program (now (ws .entry)) s) r) ⌝ }
 {
     if k >= 2 {
         return false;
     }
-    callees_here(ws, s, starts, here, c, r)
+    callees_here(ws, s, starts, at, i, r)
 }
 
-// What self at row r asks in class c.
+// What self at row r asks in state i.
 fn self_closed(
     ws: &[u16],
     s: Sizes,
     afters: &[u16],
     flow: &[u64],
-    here: &[u64],
-    c: usize,
+    at: &[u16],
+    i: usize,
     r: usize,
 ) -> bool
     requires { ⌜ Ready (now ws) s ⌝ }
     requires { ⌜ Ends (program (now ws) s) (now afters) ⌝ }
     requires { ⌜ Flow-sets (program (now ws) s) (tables (now ws) s) (now flow) ⌝ }
-    requires { ⌜ Values (tables (now ws) s .states) c (width (s .rows)) 0 (now here) ⌝ }
+    requires { ⌜ i < s .states ⌝ }
     requires { ⌜ tag (program (now ws) s) r ≡ 7 ⌝ }
-    requires { ⌜ is-class (program (now ws) s) c ≡ true ⌝ }
     ensures { λ b. ⌜ b ≡
-        (has (tables (now (ws .entry)) s .flow) (num (program (now (ws .entry)) s) r) c &&
-        has-state (tables (now (ws .entry)) s) (state c (rest (program (now (ws .entry)) s) r))) ⌝ }
+        (has (tables (now (ws .entry)) s .flow) (num (program (now (ws .entry)) s) r)
+        (state-at (tables (now (ws .entry)) s) i .class) &&
+        has-state (tables (now (ws .entry)) s)
+        (onward (state-at (tables (now (ws .entry)) s) i) (rest (program (now (ws .entry)) s) r))) ⌝ }
 {
+    let c = state_class(ws, s, i);
     let name = num(ws, s, r);
     if !holds(flow, width(s), name, c) {
         return false;
     }
-    rest_closed(ws, s, afters, here, c, r, 1)
+    rest_closed(ws, s, afters, at, i, r, 1)
 }
 
-// The bits k of the branches from row q on, or LACKS where one of them is no state of the class c.
+// The bits k of the branches from row q on, or LACKS where state i does not go on at one of them.
 fn branches_here(
     ws: &[u16],
     s: Sizes,
     afters: &[u16],
-    here: &[u64],
-    c: usize,
+    at: &[u16],
+    i: usize,
     q: usize,
     count: usize,
     k: usize,
 ) -> usize
     requires { ⌜ Ready (now ws) s ⌝ }
     requires { ⌜ Ends (program (now ws) s) (now afters) ⌝ }
-    requires { ⌜ Values (tables (now ws) s .states) c (width (s .rows)) 0 (now here) ⌝ }
+    requires { ⌜ i < s .states ⌝ }
     requires { ⌜ Run (program (now ws) s) q count ⌝ }
-    ensures { λ x. ⌜ Here (program (now (ws .entry)) s) (tables (now (ws .entry)) s) c
-        (branch-rows (program (now (ws .entry)) s) count q) k x ⌝ }
+    ensures { λ x. ⌜ Here (program (now (ws .entry)) s) (tables (now (ws .entry)) s)
+        (state-at (tables (now (ws .entry)) s) i) (branch-rows (program (now (ws .entry)) s) count q) k x ⌝ }
 {
     if k == LACKS {
         return LACKS;
     }
-    if bodies_closed(ws, s, afters, here, c, q, count, k) {
+    if bodies_closed(ws, s, afters, at, i, q, count, k) {
         k
     } else {
         LACKS
@@ -148,52 +153,48 @@ fn unless(b: bool) -> usize
     if b { 0 } else { LACKS }
 }
 
-// State (c, r), whose head asks k whatever the class: LACKS where something that it asks for is missing, else the bits
-// of its branches.
+// State i, whose head at row r asks k whatever the state: LACKS where something that it asks for is missing, else the
+// bits of its branches.
 pub fn state_bits(
     ws: &[u16],
     s: Sizes,
     afters: &[u16],
-    inners: &[u16],
     starts: &[u16],
     flow: &[u64],
     mail: &[u64],
     may: &[u64],
     held: &[u64],
-    here: &[u64],
-    c: usize,
-    from: usize,
+    at: &[u16],
+    i: usize,
     r: usize,
     k: usize,
 ) -> usize
     requires { ⌜ Ready (now ws) s ⌝ }
     requires { ⌜ Ends (program (now ws) s) (now afters) ⌝ }
-    requires { ⌜ Owners (program (now ws) s) (now inners) ⌝ }
     requires { ⌜ Starts (tables (now ws) s .flow) (s .names) (now starts) ⌝ }
     requires { ⌜ Flow-sets (program (now ws) s) (tables (now ws) s) (now flow) ⌝ }
     requires { ⌜ Mail-sets (program (now ws) s) (tables (now ws) s) (now mail) ⌝ }
     requires { ⌜ Matches (program (now ws) s) (tables (now ws) s) (now may) (now held) 0 ⌝ }
-    requires { ⌜ Values (tables (now ws) s .states) c (width (s .rows)) 0 (now here) ⌝ }
-    requires { ⌜ Begins (tables (now ws) s .states) c from ⌝ }
-    requires { ⌜ (is-class (program (now ws) s) c ≡ true) ×
-        ((1 ≤ tag (program (now ws) s) r) × (tag (program (now ws) s) r ≤ 9)) ⌝ }
+    requires { ⌜ (i < s .states) × (r ≡ right (tables (now ws) s .states) i) ⌝ }
     requires { ⌜ Settled (program (now ws) s) (tables (now ws) s) r k ⌝ }
-    ensures { λ x. ⌜ Stated (program (now (ws .entry)) s) (tables (now (ws .entry)) s) c r x ⌝ }
+    ensures { λ x. ⌜ Stated (program (now (ws .entry)) s) (tables (now (ws .entry)) s)
+        (state-at (tables (now (ws .entry)) s) i) x ⌝ }
 {
     match tag(ws, s, r) {
-        TAG_GIVE => unless(give_closed(ws, s, inners, flow, here, c, from, r)),
-        TAG_CALL => unless(call_closed(ws, s, starts, here, c, r, k)),
-        TAG_SELF => unless(self_closed(ws, s, afters, flow, here, c, r)),
+        TAG_GIVE => unless(give_closed(ws, s, flow, at, i, r)),
+        TAG_CALL => unless(call_closed(ws, s, starts, at, i, r, k)),
+        TAG_SELF => unless(self_closed(ws, s, afters, flow, at, i, r)),
         TAG_CASE => {
             let count = num(ws, s, r + 1);
-            branches_here(ws, s, afters, here, c, r + 2, count, k)
+            branches_here(ws, s, afters, at, i, r + 2, count, k)
         }
         TAG_RECEIVE => {
             let number = num(ws, s, r);
+            let c = state_class(ws, s, i);
             let set = mail_set(ws, s, c);
             let bits = taken_bits(ws, s, afters, flow, may, held, mail, set, r + 1, number);
-            branches_here(ws, s, afters, here, c, r + 1, number, bits)
+            branches_here(ws, s, afters, at, i, r + 1, number, bits)
         }
-        _ => unless(rest_closed(ws, s, afters, here, c, r, k)),
+        _ => unless(rest_closed(ws, s, afters, at, i, r, k)),
     }
 }

@@ -1,4 +1,4 @@
--- The number of a state's, a letter's and an item's counter, by the code's values.
+-- The counters of a head, of a letter and of an item, by the code's values.
 use Prim.Native.Nat.{ℕ, _+_, _≤_, _<_}
 use native.Mathlib.Decide.{decLt}
 use native.Mathlib.Omega.{arith}
@@ -13,50 +13,48 @@ use Rattle.model.specs.Index.{first}
 use Rattle.model.specs.Words.{Columns, left, right, columns}
 use Rattle.model.specs.Rows.{Program, program, size}
 use Rattle.model.specs.Letters.{letters}
-use Rattle.model.specs.Tables.{Tables, tables, entries, state, state-index, has-state}
-use Rattle.model.specs.Bads.{state-of, letter-of, counted}
+use Rattle.model.specs.Tables.{Tables, tables, entries}
+use Rattle.model.specs.Bads.{at-head, of-letter, subject-at}
 use Rattle.model.specs.Counters.{letter-key, letter-keys, has-letter, letter-index, counter-of}
 use Rattle.model.proofs.Logic.{test, true-false}
 use Rattle.model.proofs.Index.{first-end, first-hit, first-miss, first-is}
 use Rattle.model.proofs.Numbering.Letters.{Keys, key-room}
-use Rattle.model.proofs.Numbering.Counters.{state-counter, letter-counter}
+use Rattle.model.proofs.Numbering.Counters.{letter-counter}
 use Rattle.lists.specs.Ready.{Ready}
+use Rattle.lists.specs.Lists.{head-from, head-to}
 use Rattle.system_letters.specs.Letters.{letters-before, Class-letters}
 use Rattle.system_letters.proofs.Pairs.{keys-low, pair-known, pair-inside}
-use Rattle.system_items.specs.Numbers.{number-of}
+use Rattle.system_items.specs.declared.Stretch.{Stretch}
+use Rattle.system_items.specs.Stretches.{stretch, alone, counters-of}
 
 -- what an item asks for, by the tag of its second row
-counted-state : (rows : Columns) (r : ℕ) → left rows (r + 1) ≡ 41 → counted rows r ≡ state-of (right rows r) (right rows (r + 1))
-unfolding counted
-counted-state rows r h = rw (eq-eqb (left rows (r + 1)) 41 h, counted)
+subject-head : (rows : Columns) (r : ℕ) → left rows (r + 1) ≡ 41 → subject-at rows r ≡ at-head (right rows r) (right rows (r + 1))
+unfolding subject-at
+subject-head rows r h = rw (eq-eqb (left rows (r + 1)) 41 h, subject-at)
 
-counted-letter : (rows : Columns) (r : ℕ) → (left rows (r + 1) ≡ 41 → ⊥) → counted rows r ≡ letter-of (right rows r) (right rows (r + 1))
-unfolding counted
-counted-letter rows r h = rw (ne-eqb (left rows (r + 1)) 41 h, counted)
+subject-letter : (rows : Columns) (r : ℕ) → (left rows (r + 1) ≡ 41 → ⊥) → subject-at rows r ≡ of-letter (right rows r) (right rows (r + 1))
+unfolding subject-at
+subject-letter rows r h = rw (ne-eqb (left rows (r + 1)) 41 h, subject-at)
 
 module _ (p : Program) (t : Tables) where
-  -- what has no counter
-  no-state : (c r : ℕ) → has-state t (state c r) ≡ false → 65535 ≡ number-of (counter-of p t (state-of c r))
-  unfolding counter-of number-of
-  no-state c r h = rw (h, counter-of)
-
-  no-letter : (c l : ℕ) → (ltb l (letters p) && has-letter p t (letter-key p c l)) ≡ false → 65535 ≡ number-of (counter-of p t (letter-of c l))
-  unfolding counter-of number-of
+  -- a letter without a counter
+  no-letter : (c l : ℕ) → (ltb l (letters p) && has-letter p t (letter-key p c l)) ≡ false → stretch 0 0 ≡ counters-of p t (of-letter c l)
+  unfolding counters-of counter-of alone
   no-letter c l h = rw (h, counter-of)
 
-  -- what has one
-  letter-known : (c l x : ℕ) → l < letters p → true ≡ has-letter p t (letter-key p c l) → x ≡ letter-index p t c l → x ≡ number-of (counter-of p t (letter-of c l))
-  unfolding number-of
-  letter-known c l x b h e = e ∙ sym (ap number-of (letter-counter p t c l b (sym h)))
+  -- one that has one
+  letter-known : (c l x : ℕ) → l < letters p → true ≡ has-letter p t (letter-key p c l) → x ≡ letter-index p t c l → stretch x (x + 1) ≡ counters-of p t (of-letter c l)
+  unfolding counters-of alone
+  letter-known c l x b h e = ap (λ y. stretch y (y + 1)) e ∙ sym (ap alone (letter-counter p t c l b (sym h)))
 
-  letter-missed : (c l : ℕ) → l < letters p → false ≡ has-letter p t (letter-key p c l) → 65535 ≡ number-of (counter-of p t (letter-of c l))
+  letter-missed : (c l : ℕ) → l < letters p → false ≡ has-letter p t (letter-key p c l) → stretch 0 0 ≡ counters-of p t (of-letter c l)
   letter-missed c l b h = no-letter c l (rw (lt-ltb l (letters p) b, ← h))
 
-  letter-above : (c l : ℕ) → letters p ≤ l → 65535 ≡ number-of (counter-of p t (letter-of c l))
+  letter-above : (c l : ℕ) → letters p ≤ l → stretch 0 0 ≡ counters-of p t (of-letter c l)
   letter-above c l b = no-letter c l (rw (le-ltb l (letters p) b))
 
   -- no letter of a class above R is in mail
-  class-above : Keys p t → (c l : ℕ) → size p < c → 65535 ≡ number-of (counter-of p t (letter-of c l))
+  class-above : Keys p t → (c l : ℕ) → size p < c → stretch 0 0 ≡ counters-of p t (of-letter c l)
   unfolding letter-key letter-keys
   class-above keys c l b =
       test (has-letter p t (letter-key p c l))
@@ -64,22 +62,13 @@ module _ (p : Program) (t : Tables) where
       (λ h. no-letter c l (test (ltb l (letters p)) (λ e. rw (e, h)) (λ e. rw e)))
 
   -- the item at row r, by the tag behind it
-  module _ (rows : Columns) (r tag class subject x : ℕ) (tag-is : tag ≡ left rows (r + 1)) (class-is : class ≡ right rows r) (subject-is : subject ≡ right rows (r + 1)) where
-    pub item-state : tag ≡ 41 → x ≡ number-of (counter-of p t (state-of class subject)) → x ≡ number-of (counter-of p t (counted rows r))
-    item-state h e = rw (counted-state rows r (sym tag-is ∙ h), ← class-is, ← subject-is) e
+  module _ (rows : Columns) (r tag class subject : ℕ) (x : Stretch) (tag-is : tag ≡ left rows (r + 1)) (class-is : class ≡ right rows r) (subject-is : subject ≡ right rows (r + 1)) where
+    pub item-head : tag ≡ 41 → x .from ≡ head-from t class subject → x .to ≡ head-to t class subject → x ≡ counters-of p t (subject-at rows r)
+    unfolding counters-of
+    item-head h e f = rw (subject-head rows r (sym tag-is ∙ h), ← class-is, ← subject-is) (λ i. stretch (e i) (f i))
 
-    pub item-letter : (tag ≡ 41 → ⊥) → x ≡ number-of (counter-of p t (letter-of class subject)) → x ≡ number-of (counter-of p t (counted rows r))
-    item-letter h e = rw (counted-letter rows r (λ z. h (tag-is ∙ z)), ← class-is, ← subject-is) e
-
-module _ (ws : List ℕ) (s : Sizes) where
-  pub state-known : (c r x : ℕ) → x ≡ state-index (tables ws s) (state c r) → x < s .states → x ≡ number-of (counter-of (program ws s) (tables ws s) (state-of c r))
-  unfolding number-of has-state tables entries columns
-  state-known c r x e h =
-      e ∙ sym (ap number-of (state-counter (program ws s) (tables ws s) c r (lt-ltb (state-index (tables ws s) (state c r)) (s .states) (omega arith))))
-
-  pub state-missed : (c r x : ℕ) → x ≡ state-index (tables ws s) (state c r) → s .states ≤ x → 65535 ≡ number-of (counter-of (program ws s) (tables ws s) (state-of c r))
-  unfolding has-state tables entries columns
-  state-missed c r x e h = no-state (program ws s) (tables ws s) c r (le-ltb (state-index (tables ws s) (state c r)) (s .states) (omega arith))
+    pub item-letter : (tag ≡ 41 → ⊥) → x ≡ counters-of p t (of-letter class subject) → x ≡ counters-of p t (subject-at rows r)
+    item-letter h e = rw (subject-letter rows r (λ z. h (tag-is ∙ z)), ← class-is, ← subject-is) e
 
 -- the counter of a letter, by its place among the pairs of its class
 module _ {ws : List ℕ} {s : Sizes} (h : Ready ws s) (starts ls : List ℕ) (g : Class-letters (program ws s) (tables ws s) starts ls) where
@@ -90,13 +79,13 @@ module _ {ws : List ℕ} {s : Sizes} (h : Ready ws s) (starts ls : List ℕ) (g 
   t = tables ws s
 
   -- no letter of a class above R
-  pub class-missed : (c l : ℕ) → s .rows < c → 65535 ≡ number-of (counter-of p t (letter-of c l))
+  pub class-missed : (c l : ℕ) → s .rows < c → stretch 0 0 ≡ counters-of p t (of-letter c l)
   unfolding program columns
   class-missed c l b = class-above p t (keys-low h) c l b
 
   module _ (c l from to y : ℕ) (class : c ≤ s .rows) (from-is : from ≡ getD starts c 0) (to-is : to ≡ getD starts (c + 1) 0) (order : from ≤ to)
       (y-is : y ≡ first from to (λ k. eqb (getD ls k 0) l)) where
-    pub letter-found : y < to → s .states + y ≡ number-of (counter-of p t (letter-of c l))
+    pub letter-found : y < to → stretch (s .states + y) (s .states + y + 1) ≡ counters-of p t (of-letter c l)
     unfolding program columns tables entries letter-index letters-before
     letter-found b =
         let w = first-is from to (λ k. eqb (getD ls k 0) l) order in
@@ -104,7 +93,7 @@ module _ {ws : List ℕ} {s : Sizes} (h : Ready ws s) (starts ls : List ℕ) (g 
         let (low, has, at) = pair-known h starts ls g c l y class (omega (arith, w .from)) (omega arith) same in
         letter-known p t c l (s .states + y) low (sym has) (omega arith)
 
-    pub letter-lost : to ≤ y → 65535 ≡ number-of (counter-of p t (letter-of c l))
+    pub letter-lost : to ≤ y → stretch 0 0 ≡ counters-of p t (of-letter c l)
     unfolding program columns
     letter-lost b =
         let f : ℕ → Bool = λ k. eqb (getD ls k 0) l in

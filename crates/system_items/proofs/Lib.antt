@@ -1,2 +1,3 @@
 pub mod Counters
+pub mod Ranges
 pub mod Table

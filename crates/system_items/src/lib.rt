@@ -1,36 +1,43 @@
-// The table of the items' counters, as the check of bads under the ceilings is handed it (refusal 12).
+// The tables of the items' counters, as the check of bads under the ceilings is handed them (refusal 12).
 use ceilings_met::bad_number;
 use ceilings_met::bad_tag;
-use lists::state_index;
+use lists::heads_from;
+use lists::heads_to;
 use lists::word;
 use model::Sizes;
 use model::TAG_HEAD;
 ghost use mathlib.Core.Path.{_≡_};
-ghost use Prim.Native.Nat.{_≤_};
+ghost use Prim.Native.Nat.{_≤_, _<_};
 ghost use lib.ListN.{length, getD};
 ghost use lib.Dec.{eqb};
 ghost use Rattle.model.specs.Index.{first};
 ghost use Rattle.model.specs.Limits.{maxCounters};
 ghost use Rattle.model.specs.Rows.{program};
 ghost use Rattle.model.specs.Tables.{tables};
-ghost use Rattle.model.specs.Bads.{bad-rows, counted, state-of, letter-of};
-ghost use Rattle.model.specs.Counters.{counter-count, counter-of};
+ghost use Rattle.model.specs.Bads.{bad-rows, subject-at, of-letter};
+ghost use Rattle.model.specs.Counters.{counter-count};
+ghost use Rattle.lists.specs.Lists.{head-from, head-to};
 ghost use Rattle.lists.specs.Ready.{Ready};
 ghost use Rattle.system_letters.specs.Letters.{Class-letters};
 ghost use Rattle.ceilings_met.specs.Items.{Items-counted};
-ghost use Rattle.system_items.specs.Numbers.{number-of};
+ghost use Rattle.system_items.specs.Stretches.{counters-of};
 
-// The number that no counter has.
-const NO_COUNTER: usize = 65535;
+// Counters that stand together: those from `from` below `to`.
+pub struct Stretch {
+    pub from: usize,
+    pub to: usize,
+}
 
-// The counter of a state.
-fn state_number(ws: &[u16], s: Sizes, c: usize, r: usize) -> usize
+// The counters of the states of class c at row r, whatever they return to.
+fn head_counters(ws: &[u16], s: Sizes, c: usize, r: usize) -> Stretch
     requires { ⌜ Ready (now ws) s ⌝ }
-    ensures { λ x. ⌜ x ≡ number-of
-        (counter-of (program (now (ws .entry)) s) (tables (now (ws .entry)) s) (state-of c r)) ⌝ }
+    requires { ⌜ r < 65536 ⌝ }
+    ensures { λ x. ⌜ x .from ≡ head-from (tables (now (ws .entry)) s) c r ⌝ }
+    ensures { λ x. ⌜ x .to ≡ head-to (tables (now (ws .entry)) s) c r ⌝ }
 {
-    let x = state_index(ws, s, c, r);
-    if x < s.states { x } else { NO_COUNTER }
+    let from = heads_from(ws, s, c, r);
+    let to = heads_to(ws, s, c, r);
+    Stretch { from, to }
 }
 
 // The first of the pairs from..to that has this letter, or to.
@@ -47,57 +54,69 @@ fn pair_with(letters: &[u16], from: usize, to: usize, l: usize) -> usize
 }
 
 // The counter of a (class, letter): none has a class above R, or a letter that the class's mail has not.
-fn letter_number(
+fn letter_counters(
     ws: &[u16],
     s: Sizes,
     letter_at: &[u16],
     letters: &[u16],
     c: usize,
     l: usize,
-) -> usize
+) -> Stretch
     requires { ⌜ Ready (now ws) s ⌝ }
     requires { ⌜ Class-letters (program (now ws) s) (tables (now ws) s) (now «letter_at») (now letters) ⌝ }
-    ensures { λ x. ⌜ x ≡ number-of
-        (counter-of (program (now (ws .entry)) s) (tables (now (ws .entry)) s) (letter-of c l)) ⌝ }
+    ensures { λ x. ⌜ x ≡ counters-of (program (now (ws .entry)) s) (tables (now (ws .entry)) s) (of-letter c l) ⌝ }
 {
     if c > s.rows {
-        return NO_COUNTER;
+        return Stretch { from: 0, to: 0 };
     }
     let from = word(letter_at, c);
     let to = word(letter_at, c + 1);
     let y = pair_with(letters, from, to, l);
-    if y < to { s.states + y } else { NO_COUNTER }
+    if y < to {
+        let x = s.states + y;
+        let next = x + 1;
+        Stretch { from: x, to: next }
+    } else {
+        Stretch { from: 0, to: 0 }
+    }
 }
 
-// The counter of the item at row r of the bads, whether or not one stands there.
-fn item_number(ws: &[u16], s: Sizes, letter_at: &[u16], letters: &[u16], r: usize) -> usize
+// The counters of the item at row r of the bads, whether or not one stands there.
+fn item_counters(ws: &[u16], s: Sizes, letter_at: &[u16], letters: &[u16], r: usize) -> Stretch
     requires { ⌜ Ready (now ws) s ⌝ }
     requires { ⌜ Class-letters (program (now ws) s) (tables (now ws) s) (now «letter_at») (now letters) ⌝ }
     requires { ⌜ r ≤ s .badrows ⌝ }
-    ensures { λ x. ⌜ x ≡ number-of (counter-of (program (now (ws .entry)) s) (tables (now (ws .entry)) s)
-        (counted (bad-rows (now (ws .entry)) s) r)) ⌝ }
+    ensures { λ x. ⌜ x ≡ counters-of (program (now (ws .entry)) s) (tables (now (ws .entry)) s)
+        (subject-at (bad-rows (now (ws .entry)) s) r) ⌝ }
 {
     let class = bad_number(ws, s, r);
     let subject = bad_number(ws, s, r + 1);
     if bad_tag(ws, s, r + 1) == TAG_HEAD {
-        state_number(ws, s, class, subject)
+        head_counters(ws, s, class, subject)
     } else {
-        letter_number(ws, s, letter_at, letters, class, subject)
+        letter_counters(ws, s, letter_at, letters, class, subject)
     }
 }
 
-// The counter of each item, at the item's first row.
-pub fn fill_items(ws: &[u16], s: Sizes, letter_at: &[u16], letters: &[u16], items: &mut [u16])
+// The counters of each item, at the item's first row.
+pub fn fill_items(
+    ws: &[u16],
+    s: Sizes,
+    letter_at: &[u16],
+    letters: &[u16],
+    froms: &mut [u16],
+    tos: &mut [u16],
+)
     requires { ⌜ Ready (now ws) s ⌝ }
     requires { ⌜ Class-letters (program (now ws) s) (tables (now ws) s) (now «letter_at») (now letters) ⌝ }
     requires { ⌜ counter-count (program (now ws) s) (tables (now ws) s) ≤ maxCounters ⌝ }
-    requires { ⌜ s .badrows ≤ length (now items) ⌝ }
+    requires { ⌜ (s .badrows ≤ length (now froms)) × (s .badrows ≤ length (now tos)) ⌝ }
     ensures { λ _. ⌜ Items-counted (program (now (ws .entry)) s) (tables (now (ws .entry)) s)
-        (bad-rows (now (ws .entry)) s)
-        (counter-count (program (now (ws .entry)) s) (tables (now (ws .entry)) s)) (now (items .exit)) ⌝ }
+        (bad-rows (now (ws .entry)) s) (now (froms .exit)) (now (tos .exit)) ⌝ }
 {
     for r in 0..s.badrows {
-        let x = item_number(ws, s, letter_at, letters, r);
-        items[r] = x as u16;
+        let own = item_counters(ws, s, letter_at, letters, r);
+        froms[r] = own.from as u16;
+        tos[r] = own.to as u16;
     }
 }

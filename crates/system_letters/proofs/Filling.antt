@@ -5,11 +5,11 @@ use native.Mathlib.Nat.{suc-mul}
 use native.Mathlib.Omega.{arith}
 use mathlib.Core.Path.{_≡_, refl, sym, _∙_, ap}
 use mathlib.Core.Bool.{Bool, true, false, _||_}
-use mathlib.Core.List.{List}
+use mathlib.Core.List.{List, [], _∷_}
 use lib.ListN.{length, getD, set, length-set}
 use lib.Seq.{getD-set-same, getD-set-other}
 use lib.Dec.{eqb}
-use borrow.Author.Tests.{eqb-true, eq-eqb, ne-eqb}
+use borrow.Author.Tests.{eqb-true, eq-eqb, ne-eqb, le-ltb}
 use Rattle.bits.proofs.Loops.{both, any-split}
 use Rattle.model.specs.declared.Sizes.{Sizes}
 use Rattle.model.specs.Index.{any, count, first}
@@ -24,8 +24,8 @@ use Rattle.model.proofs.Numbering.Letters.{letter-entry, letter-key-injective, 
 use Rattle.lists.specs.declared.Span.{Span}
 use Rattle.lists.specs.Lists.{Ascending, mail-span, listed, place, range-from}
 use Rattle.lists.specs.Ready.{Ready}
-use Rattle.lists.proofs.Facts.{mail-listed, mail-form}
-use Rattle.lists.proofs.Rising.{place-upto, place-before, under-elim, begins-before, begins-within, begins-behind, begins-order}
+use Rattle.lists.proofs.Facts.{mail-listed, mail-rises}
+use Rattle.lists.proofs.Rising.{place-upto, place-before, begins-before, begins-within, begins-behind, begins-order, first-told}
 use Rattle.system_letters.specs.Letters.{letters-before, mail-letter, Written, Class-letters}
 use Rattle.system_letters.proofs.Counts.{count-same}
 use Rattle.system_letters.proofs.Pairs.{count-most, letters-few, letter-low}
@@ -138,23 +138,23 @@ module _ (p : Program) (t : Tables) where
   letter-more from i l a b e = ap (λ x. mail-letter p t from i l || eqb l x) e ∙ sym (any-turned from i _ b)
 
   -- in a list that ascends the entries of a class tell its letters
-  pub class-letter : Ascending (t .mail) → ((v : ℕ) → row-letter p v < letters p) → (c l : ℕ) → l < letters p →
+  pub class-letter : Ascending (t .mail) [] → ((v : ℕ) → row-letter p v < letters p) → (c l : ℕ) → l < letters p →
       mail-letter p t (range-from (t .mail) c) (range-from (t .mail) (c + 1)) l ≡ has-letter p t (letter-key p c l)
   unfolding mail-letter has-letter range-from
   class-letter rising low c l b = both _ _
       (λ h. let (i, w, e) = any-elim _ _ _ h in
-      let same = begins-within (t .mail) c rising i (w .0) (w .1) in
-      any-intro 0 (t .mail .size) i (λ j. eqb (letter-key p (left (t .mail) j) (row-letter p (right (t .mail) j))) (letter-key p c l)) (omega arith) (omega (arith, w .1, place-upto (t .mail) (c + 1) 0))
+      let same = begins-within (t .mail) [] c rising i (w .0) (w .1) in
+      any-intro 0 (t .mail .size) i (λ j. eqb (letter-key p (left (t .mail) j) (row-letter p (right (t .mail) j))) (letter-key p c l)) (omega arith) (omega (arith, w .1, place-upto (t .mail) [] ((c + 1) ∷ 0 ∷ 0 ∷ [])))
       (eq-eqb _ _ (ap (λ d. letter-key p d (row-letter p (right (t .mail) i))) same ∙ ap (letter-key p c) (sym (eqb-true l _ e)))))
       (λ h. let (i, m, e) = letter-entry p t (letter-key p c l) h in
       let (x, y) = letter-key-injective p _ _ c l (low (right (t .mail) i)) b e in
       any-intro _ _ i _ (inside-from i x) (inside-to i m x) (eq-eqb l _ (sym y)))
     where
-      inside-from : (i : ℕ) → left (t .mail) i ≡ c → place (t .mail) c 0 ≤ i
-      inside-from i x = elim (decLt i (place (t .mail) c 0)) [ yes z ↦ absurd (begins-before (t .mail) c i z x) | no z ↦ omega arith ]
+      inside-from : (i : ℕ) → left (t .mail) i ≡ c → place (t .mail) [] (c ∷ 0 ∷ 0 ∷ []) ≤ i
+      inside-from i x = elim (decLt i (place (t .mail) [] (c ∷ 0 ∷ 0 ∷ []))) [ yes z ↦ absurd (begins-before (t .mail) [] c i z x) | no z ↦ omega arith ]
 
-      inside-to : (i : ℕ) → i < t .mail .size → left (t .mail) i ≡ c → i < place (t .mail) (c + 1) 0
-      inside-to i m x = elim (decLt i (place (t .mail) (c + 1) 0)) [ yes z ↦ z | no z ↦ absurd (begins-behind (t .mail) c rising i (omega arith) m x) ]
+      inside-to : (i : ℕ) → i < t .mail .size → left (t .mail) i ≡ c → i < place (t .mail) [] ((c + 1) ∷ 0 ∷ 0 ∷ [])
+      inside-to i m x = elim (decLt i (place (t .mail) [] ((c + 1) ∷ 0 ∷ 0 ∷ []))) [ yes z ↦ z | no z ↦ absurd (begins-behind (t .mail) [] c rising i (omega arith) m x) ]
 
 -- The pairs of the classes before c: e mail entries, n pairs.
 pub record Numbered (p : Program) (t : Tables) (c e n : ℕ) (starts ls : List ℕ) : Type 0 where
@@ -179,9 +179,11 @@ module _ {ws : List ℕ} {s : Sizes} (h : Ready ws s) where
     letter = λ k l b. absurd (omega arith);
   }
     where
-      nothing-before : 0 ≡ place (t .mail) 0 0
-      nothing-before = elim (decLt 0 (place (t .mail) 0 0)) [
-        | yes z ↦ let (u, v) = under-elim (t .mail) 0 0 0 (place-before (t .mail) 0 0 0 z) in let w = v (omega arith) in absurd (omega arith)
+      nothing-before : 0 ≡ place (t .mail) [] (0 ∷ 0 ∷ 0 ∷ [])
+      nothing-before = elim (decLt 0 (place (t .mail) [] (0 ∷ 0 ∷ 0 ∷ []))) [
+        | yes z ↦ true-false
+            (place-before (t .mail) [] (0 ∷ 0 ∷ 0 ∷ []) 0 z)
+            (sym (first-told (t .mail) [] 0 0 0 0 (left (t .mail) 0) 0 0 refl (begins-before (t .mail) [] 0 0 z)) ∙ le-ltb (left (t .mail) 0) 0 (omega arith))
         | no z ↦ omega arith
       ]
 
@@ -193,7 +195,7 @@ module _ {ws : List ℕ} {s : Sizes} (h : Ready ws s) where
       let a = c * letters p in
       let z : a + 0 ≡ a = omega arith in
       let moved = count-moved (has-letter p t) a l in
-      let same = count-same l (mail-letter p t e to) (λ k. has-letter p t (a + k)) (λ k m. ap (λ i. mail-letter p t i to k) x ∙ (ap (λ i. mail-letter p t (range-from (t .mail) c) i k) y ∙ class-letter p t (mail-form h .ascending) (letter-low h) c k (omega arith))) in
+      let same = count-same l (mail-letter p t e to) (λ k. has-letter p t (a + k)) (λ k m. ap (λ i. mail-letter p t i to k) x ∙ (ap (λ i. mail-letter p t (range-from (t .mail) c) i k) y ∙ class-letter p t (mail-rises h) (letter-low h) c k (omega arith))) in
       rw z (omega arith)
 
   few : (l : ℕ) → l < letters p → l < 256
@@ -226,7 +228,7 @@ module _ {ws : List ℕ} {s : Sizes} (h : Ready ws s) where
   -- the entries of a class lie in the list
   pub class-entries : (c e to : ℕ) → e ≡ range-from (t .mail) c → to ≡ range-from (t .mail) (c + 1) → (e ≤ to) × (to ≤ s .mails)
   unfolding range-from tables entries columns
-  class-entries c e to x y = (omega (arith, begins-order (t .mail) c (mail-form h .ascending)), omega (arith, place-upto (t .mail) (c + 1) 0))
+  class-entries c e to x y = (omega (arith, begins-order (t .mail) [] c (mail-rises h)), omega (arith, place-upto (t .mail) [] ((c + 1) ∷ 0 ∷ 0 ∷ [])))
 
   pub pairs-small : (c e n : ℕ) (starts ls : List ℕ) → Numbered p t c e n starts ls → n < 65536
   unfolding letters-before
@@ -257,7 +259,7 @@ module _ {ws : List ℕ} {s : Sizes} (h : Ready ws s) where
   }
     where
       here : (l : ℕ) → l < letters p → has-letter p t (letter-key p c l) ≡ true → getD ls′ (letters-before p t c l) 0 ≡ l
-      here l q z = ap (λ i. getD ls′ i 0) (before-told c l e to (omega arith) (g .entry) y ∙ ap (λ i. i + count 0 l (mail-letter p t e to)) (sym (g .pairs))) ∙ w .new l (few l q) (ap (λ i. mail-letter p t i to l) (g .entry) ∙ (ap (λ i. mail-letter p t (range-from (t .mail) c) i l) y ∙ (class-letter p t (mail-form h .ascending) (letter-low h) c l q ∙ z)))
+      here l q z = ap (λ i. getD ls′ i 0) (before-told c l e to (omega arith) (g .entry) y ∙ ap (λ i. i + count 0 l (mail-letter p t e to)) (sym (g .pairs))) ∙ w .new l (few l q) (ap (λ i. mail-letter p t i to l) (g .entry) ∙ (ap (λ i. mail-letter p t (range-from (t .mail) c) i l) y ∙ (class-letter p t (mail-rises h) (letter-low h) c l q ∙ z)))
 
   pub numbered-all : (c e n : ℕ) (starts ls : List ℕ) → Numbered p t c e n starts ls → c ≡ s .rows + 1 → s .rows + 1 < length starts → s .mails ≤ length ls → Class-letters p t (set starts (s .rows + 1) n) ls
   unfolding letter-count program columns
@@ -275,4 +277,7 @@ module _ {ws : List ℕ} {s : Sizes} (h : Ready ws s) where
   end-told l a to e same = same ∙ rw (e, mail-listed ws s)
 
   pub entry-next : (l : Span) (c e n : ℕ) (starts ls : List ℕ) → l ≡ mail-span s → Numbered p t c e n starts ls → e ≤ range-from (listed ws l) (c + 1)
-  entry-next l c e n starts ls same g = rw (same, mail-listed ws s) (start-next (t .mail) (mail-form h .ascending) c e (g .entry))
+  entry-next l c e n starts ls same g = rw (same, mail-listed ws s) (start-next (t .mail) (mail-rises h) c e (g .entry))
+
+  pub mail-ascends : (l : Span) → l ≡ mail-span s → Ascending (listed ws l) []
+  mail-ascends l e = rw (e, mail-listed ws s) (mail-rises h)

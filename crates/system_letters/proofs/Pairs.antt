@@ -60,7 +60,7 @@ module _ {ws : List ℕ} {s : Sizes} (h : Ready ws s) where
   letter-low = row-letter-low p built-low
 
   pub class-low : (i : ℕ) → i < t .mail .size → left (t .mail) i ≤ size p
-  class-low i l = class-at-most p (λ r u. tag-inside ws s r (omega arith)) (left (t .mail) i) (mail-form h .left-legal i l)
+  class-low i l = class-at-most p (λ r u. tag-inside ws s r (omega arith)) (left (t .mail) i) (mail-form h .in-range i l .0)
 
   pub keys-low : Keys p t
   keys-low = low-keys p t class-low (λ i l. letter-low (right (t .mail) i))

@@ -4,12 +4,12 @@ use native.Mathlib.Decide.{ℕ-discrete, decLt}
 use native.Mathlib.Omega.{arith}
 use mathlib.Core.Path.{_≡_, refl, sym, _∙_, ap}
 use mathlib.Core.Bool.{Bool, true, false, _&&_, _||_}
-use mathlib.Core.List.{List}
+use mathlib.Core.List.{List, [], _∷_}
 use mathlib.Core.Logic.{_⊎_, inl, inr}
 use lib.ListN.{length, getD, set, length-set}
 use lib.Seq.{getD-set-same, getD-set-other}
 use lib.Dec.{eqb}
-use borrow.Author.Tests.{eqb-true, eq-eqb, ne-eqb, le-leb, lt-leb, ltb-true}
+use borrow.Author.Tests.{eqb-true, eq-eqb, ne-eqb, le-leb, lt-leb, le-ltb, lt-ltb, ltb-true}
 use Rattle.bits.specs.Bits.{member, Row, Put}
 use Rattle.bits.proofs.Bits.{bit-zero}
 use Rattle.bits.proofs.Loops.{both, any-split}
@@ -30,10 +30,10 @@ use Rattle.model.specs.Verify.{answer}
 use Rattle.model.proofs.Logic.{test, true-false}
 use Rattle.model.proofs.Index.{any-end, any-hit, any-miss}
 use Rattle.lists.specs.declared.Span.{Span}
-use Rattle.lists.specs.Lists.{Ascending, flow-span, listed, under, place, range-from}
+use Rattle.lists.specs.Lists.{Ascending, flow-span, listed, place, range-from}
 use Rattle.lists.proofs.Facts.{flow-listed, flow-form}
 use Rattle.lists.specs.Ready.{Ready}
-use Rattle.lists.proofs.Rising.{under-intro, under-elim, over-elim, place-before, place-behind, place-upto, begins-order}
+use Rattle.lists.proofs.Rising.{place-before, place-behind, place-upto, begins-before, begins-order, first-told}
 use Rattle.system_letters.specs.Letters.{letters-before, Name-letters, Class-letters}
 use Rattle.system_letters.proofs.Pairs.{letters-few, letter-low}
 
@@ -55,31 +55,35 @@ module _ (p : Program) (v x : ℕ) (same : x ≡ tag p v) where
       (rw (ne-eqb (tag p v) 3 (λ e. b (inl (same ∙ e))), ne-eqb (tag p v) 11 (λ e. b (inr (same ∙ e)))))
 
 -- where the entries of a number begin, one entry after the other
-module _ (c : Columns) (rising : Ascending c) (a j : ℕ) (before : j ≤ range-from c a) where
+module _ (c : Columns) (rising : Ascending c []) (a j : ℕ) (before : j ≤ range-from c a) where
   pub start-later : (x : ℕ) → j < c .size → x ≡ left c j → x < a → j + 1 ≤ range-from c a
   unfolding range-from
-  start-later x l same low = elim (decLt j (place c a 0)) [
+  start-later x l same low = elim (decLt j (place c [] (a ∷ 0 ∷ 0 ∷ []))) [
     | yes z ↦ omega arith
-    | no z ↦ absurd (omega (arith, over-elim c a 0 j (place-behind c a 0 rising j (omega arith) l) .0))
+    | no z ↦ true-false
+        (sym (first-told c [] a 0 0 j x 0 0 same (λ e. omega arith)) ∙ lt-ltb x a low)
+        (place-behind c [] (a ∷ 0 ∷ 0 ∷ []) rising j (omega arith) l)
   ]
 
   pub start-here : (x : ℕ) → j < c .size → x ≡ left c j → a ≤ x → j ≡ range-from c a
   unfolding range-from
-  start-here x l same high = elim (decLt j (place c a 0)) [
-    | yes z ↦ let (u, v) = under-elim c a 0 j (place-before c a 0 j z) in elim (ℕ-discrete (left c j) a) [ yes e ↦ let w = v e in absurd (omega arith) | no e ↦ absurd (omega arith) ]
+  start-here x l same high = elim (decLt j (place c [] (a ∷ 0 ∷ 0 ∷ []))) [
+    | yes z ↦ true-false
+        (place-before c [] (a ∷ 0 ∷ 0 ∷ []) j z)
+        (sym (first-told c [] a 0 0 j x 0 0 same (λ e. begins-before c [] a j z (sym same ∙ e))) ∙ le-ltb x a high)
     | no z ↦ omega arith
   ]
 
   pub start-end : c .size ≤ j → j ≡ range-from c a
   unfolding range-from
-  start-end l = omega (arith, place-upto c a 0)
+  start-end l = omega (arith, place-upto c [] (a ∷ 0 ∷ 0 ∷ []))
 
 pub start-first : (c : Columns) → 0 ≤ range-from c 0
 start-first c = omega arith
 
-pub start-next : (c : Columns) → Ascending c → (a j : ℕ) → j ≡ range-from c a → j ≤ range-from c (a + 1)
+pub start-next : (c : Columns) → Ascending c [] → (a j : ℕ) → j ≡ range-from c a → j ≤ range-from c (a + 1)
 unfolding range-from
-start-next c rising a j e = omega (arith, begins-order c a rising)
+start-next c rising a j e = omega (arith, begins-order c [] a rising)
 
 -- the number of counters
 module _ {ws : List ℕ} {s : Sizes} (h : Ready ws s) (starts ls : List ℕ) (g : Class-letters (program ws s) (tables ws s) starts ls) where
@@ -128,7 +132,7 @@ module _ {ws : List ℕ} {s : Sizes} (h : Ready ws s) where
   unfolding is-name program tables entries columns
   flow-name l i n e b same =
       let z : n ≡ left (tables ws s .flow) i = same ∙ rw (e, flow-listed ws s) in
-      let low = ltb-true (left (tables ws s .flow) i) (s .names) (flow-form h .left-legal i b) in
+      let low = ltb-true (left (tables ws s .flow) i) (s .names) (flow-form h .in-range i b .0) in
       (z, omega arith)
 
   pub letter-small : (v l : ℕ) → l ≡ row-letter (program ws s) v → l < s .constructors + 2

@@ -22,6 +22,7 @@ use program::rows::num;
 use program::rows::tag;
 use sets::put;
 ghost use mathlib.Core.Path.{_≡_};
+ghost use mathlib.Core.List.{[]};
 ghost use Prim.Native.Nat.{ℕ, _+_, _*_, _≤_, _<_};
 ghost use lib.ListN.{length, getD};
 ghost use Rattle.model.specs.Limits.{present};
@@ -52,7 +53,7 @@ pub fn row_letter(ws: &[u16], s: Sizes, v: usize) -> usize
 // Where the entries that begin with a stand, from entry j on, before which none does.
 fn start_from(ws: &[u16], l: Span, a: usize, j: usize) -> usize
     requires { ⌜ Held (now ws) l ⌝ }
-    requires { ⌜ Ascending (listed (now ws) l) ⌝ }
+    requires { ⌜ Ascending (listed (now ws) l) [] ⌝ }
     requires { ⌜ j ≤ range-from (listed (now ws) l) a ⌝ }
     ensures { λ e. ⌜ e ≡ range-from (listed (now (ws .entry)) l) a ⌝ }
 {

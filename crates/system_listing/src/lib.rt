@@ -3,8 +3,7 @@ use lists::word;
 use model::Sizes;
 use model::TAG_FROM;
 use model::TAG_TO;
-use rules::no_class;
-use rules::turn_to;
+use onward::guess_class;
 use state_rules::state_rules;
 use system_letters::counter_count;
 use system_totals::Totals;
@@ -95,7 +94,6 @@ fn write_rules(
     ws: &[u16],
     s: Sizes,
     afters: &[u16],
-    inners: &[u16],
     flow_at: &[u16],
     w: usize,
     flows: &[u64],
@@ -107,24 +105,21 @@ fn write_rules(
     tos: &mut [u16],
     others: &mut [u16],
 ) -> usize
-    requires { ⌜ Rule-tables (now ws) s (now afters) (now inners) (now «flow_at») w (now flows) (now names)
-        (now «letter_at») (now letters) (now branches) ⌝ }
-    requires { ⌜ s .rows ≤ length (now at) ⌝ }
+    requires { ⌜ Rule-tables (now ws) s (now afters) (now «flow_at») w (now flows) (now names) (now «letter_at»)
+        (now letters) (now branches) ⌝ }
     requires { ⌜ Rule-room s (now tos) (now others) ⌝ }
     requires { ⌜ Room (now out) n 0 (lines (rules (program (now ws) s) (tables (now ws) s))) ⌝ }
     ensures { λ e. ⌜ Put (now (out .entry)) (now (out .exit)) n 0 e
         (lines (rules (program (now (ws .entry)) s) (tables (now (ws .entry)) s))) ⌝ }
 {
     let mut e = 0;
-    let mut k = no_class(ws, s, at);
     let mut i = 0;
     while i < s.states {
-        k = turn_to(ws, s, k, at, i);
+        guess_class(ws, s, at, i);
         let m = state_rules(
             ws,
             s,
             afters,
-            inners,
             flow_at,
             w,
             flows,
@@ -132,7 +127,6 @@ fn write_rules(
             letter_at,
             letters,
             branches,
-            k,
             at,
             i,
             tos,
@@ -165,7 +159,6 @@ pub fn write_listing(
     ws: &[u16],
     s: Sizes,
     afters: &[u16],
-    inners: &[u16],
     flow_at: &[u16],
     w: usize,
     flows: &[u64],
@@ -177,9 +170,8 @@ pub fn write_listing(
     tos: &mut [u16],
     others: &mut [u16],
 )
-    requires { ⌜ Rule-tables (now ws) s (now afters) (now inners) (now «flow_at») w (now flows) (now names)
-        (now «letter_at») (now letters) (now branches) ⌝ }
-    requires { ⌜ s .rows ≤ length (now at) ⌝ }
+    requires { ⌜ Rule-tables (now ws) s (now afters) (now «flow_at») w (now flows) (now names) (now «letter_at»)
+        (now letters) (now branches) ⌝ }
     requires { ⌜ Rule-room s (now tos) (now others) ⌝ }
     requires { ⌜ n ≡ counted (rules (program (now ws) s) (tables (now ws) s)) ⌝ }
     requires { ⌜ (n .rules < 4294967296) × (n .rows < 4294967296) ⌝ }
@@ -196,7 +188,6 @@ pub fn write_listing(
         ws,
         s,
         afters,
-        inners,
         flow_at,
         w,
         flows,

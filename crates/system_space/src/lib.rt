@@ -4,7 +4,6 @@ use model::Verdict;
 use system_listing::write_listing;
 use system_totals::Totals;
 ghost use mathlib.Core.Path.{_≡_};
-ghost use Prim.Native.Nat.{_≤_};
 ghost use lib.ListN.{length};
 ghost use Rattle.model.specs.Rows.{program};
 ghost use Rattle.model.specs.Tables.{tables};
@@ -19,7 +18,6 @@ pub fn space_verdict(
     ws: &[u16],
     s: Sizes,
     afters: &[u16],
-    inners: &[u16],
     flow_at: &[u16],
     w: usize,
     flows: &[u64],
@@ -33,9 +31,8 @@ pub fn space_verdict(
     others: &mut [u16],
     lent: &mut [u32],
 ) -> Verdict
-    requires { ⌜ Rule-tables (now ws) s (now afters) (now inners) (now «flow_at») w (now flows) (now names)
-        (now «letter_at») (now letters) (now branches) ⌝ }
-    requires { ⌜ s .rows ≤ length (now at) ⌝ }
+    requires { ⌜ Rule-tables (now ws) s (now afters) (now «flow_at») w (now flows) (now names) (now «letter_at»)
+        (now letters) (now branches) ⌝ }
     requires { ⌜ Rule-room s (now tos) (now others) ⌝ }
     requires { ⌜ Totalled (program (now ws) s) (tables (now ws) s) n ⌝ }
     ensures { λ v. ⌜ v ≡
@@ -52,7 +49,6 @@ pub fn space_verdict(
         ws,
         s,
         afters,
-        inners,
         flow_at,
         w,
         flows,

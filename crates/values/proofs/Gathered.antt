@@ -95,7 +95,7 @@ module _ {ws : List ℕ} {s : Sizes} (h : Ready ws s) where
       let a : c ≡ left (tables ws s .mail) i = ec ∙ rw (el, mail-listed ws s) in
       let b : v ≡ right (tables ws s .mail) i = ev ∙ rw (el, mail-listed ws s) in
       let x = mail-upto h i less in
-      let y = mail-set-below h (left (tables ws s .mail) i) (mail-form h .left-legal i less) in
+      let y = mail-set-below h (left (tables ws s .mail) i) (mail-form h .in-range i less .0) in
       let z : n ≡ mail-set (program ws s) (left (tables ws s .mail) i) = en ∙ ap (mail-set (program ws s)) a in
       (rw ew (width-above (s .rows) v (omega arith)), omega arith)
 
@@ -105,5 +105,5 @@ module _ {ws : List ℕ} {s : Sizes} (h : Ready ws s) where
     of-class = λ c class. gathered-values (tables ws s .mail) (mail-set (program ws s)) (width (s .rows)) t i c (mail-set (program ws s) c) e
         (rw (← ew, ← mail-listed ws s, ← el) g)
         (room-row (width (s .rows)) (width (s .rows)) (s .names + 1) (mail-set (program ws s) c) u t refl room same (mail-set-below h c class))
-        refl (λ k b z. mail-set-once h (left (tables ws s .mail) k) c (mail-form h .left-legal k b) class z);
+        refl (λ k b z. mail-set-once h (left (tables ws s .mail) k) c (mail-form h .in-range k b .0) class z);
   }

@@ -118,10 +118,10 @@ module _ {ws : List ℕ} {s : Sizes} (h : Ready ws s) where
   -- the entries of the lists
   pub flow-name : (k : ℕ) → k < tables ws s .flow .size → left (tables ws s .flow) k < p .names
   unfolding is-name
-  flow-name k l = ltb-true _ _ (flow-form h .left-legal k l)
+  flow-name k l = ltb-true _ _ (flow-form h .in-range k l .0)
 
   pub flow-upto : (k : ℕ) → k < tables ws s .flow .size → right (tables ws s .flow) k ≤ size p
-  flow-upto k l = value-upto _ (flow-form h .right-legal k l)
+  flow-upto k l = value-upto _ (flow-form h .in-range k l .1)
 
   pub mail-upto : (k : ℕ) → k < tables ws s .mail .size → right (tables ws s .mail) k ≤ size p
-  mail-upto k l = value-upto _ (mail-form h .right-legal k l)
+  mail-upto k l = value-upto _ (mail-form h .in-range k l .1)

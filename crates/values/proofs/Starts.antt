@@ -4,23 +4,25 @@ use native.Mathlib.Decide.{ℕ-discrete, decLt}
 use native.Mathlib.Omega.{arith}
 use mathlib.Core.Path.{_≡_, refl, sym, _∙_, ap}
 use mathlib.Core.Bool.{Bool, true, false, not}
-use mathlib.Core.List.{List}
+use mathlib.Core.List.{List, [], _∷_}
+use mathlib.Core.Logic.{inl, ⊎-elim}
 use lib.Dec.{leb}
 use lib.ListN.{length, getD, set, length-set}
 use lib.Seq.{getD-set-same, getD-set-other}
-use borrow.Author.Tests.{leb-true, leb-false, le-leb, lt-leb, le-ltb}
+use borrow.Author.Tests.{leb-true, leb-false, le-leb, lt-leb}
 use Rattle.model.specs.declared.Sizes.{Sizes}
 use Rattle.model.specs.Index.{first}
-use Rattle.model.specs.Words.{Columns, left, right, columns}
+use Rattle.model.specs.Keys.{below}
+use Rattle.model.specs.Words.{Columns, left, columns}
 use Rattle.model.specs.Rows.{program}
 use Rattle.model.specs.Tables.{tables, entries}
-use Rattle.model.proofs.Logic.{not-passes, not-fails}
+use Rattle.model.proofs.Logic.{test, not-passes, not-fails}
+use Rattle.model.proofs.Keys.{below-iff}
 use Rattle.model.proofs.Index.{first-is, first-unique, first-hit, first-miss, first-end}
 use Rattle.lists.specs.declared.Span.{Span}
 use Rattle.lists.specs.Ready.{Ready}
-use Rattle.lists.specs.Lists.{span-at, flow-span, listed, under, place, range-from, Starts}
+use Rattle.lists.specs.Lists.{span-at, flow-span, listed, key-at, place, range-from, Starts}
 use Rattle.lists.proofs.Facts.{flow-listed}
-use Rattle.lists.proofs.Rising.{under-intro, under-same, under-other}
 use Rattle.values.specs.Values.{reaches}
 
 -- before the name n: entry i is reached, and the names before have their words
@@ -41,24 +43,33 @@ module _ (c : Columns) (n : ℕ) where
   unfolding reaches
   long j e = leb-true n (left c j) e
 
+  -- an entry is below (n, 0, 0) where it begins with a lesser number, and nowhere else
+  under : (j : ℕ) → left c j < n → below (key-at c [] j) (n ∷ 0 ∷ 0 ∷ []) ≡ true
+  unfolding key-at
+  under j l = below-iff (key-at c [] j) (n ∷ 0 ∷ 0 ∷ []) .1 (inl l)
+
+  over : (j : ℕ) → n ≤ left c j → below (key-at c [] j) (n ∷ 0 ∷ 0 ∷ []) ≡ false
+  unfolding key-at
+  over j l = test (below (key-at c [] j) (n ∷ 0 ∷ 0 ∷ []))
+      (λ t. ⊎-elim (λ x. absurd (omega arith)) (λ x. ⊎-elim (λ y. absurd (omega arith)) (λ y. ⊎-elim (λ z. absurd (omega arith)) (λ z. absurd (z .1)) (y .1)) (x .1))
+      (below-iff (key-at c [] j) (n ∷ 0 ∷ 0 ∷ []) .0 t))
+      (λ t. t)
+
   -- the first entry that begins with n or behind it has the place of the name
   pub reached : (i k : ℕ) → i ≤ c .size → ((j : ℕ) → j < i → left c j < n) → k ≡ first i (c .size) (reaches c n) → (k ≡ range-from c n) × (k ≤ c .size) × ((j : ℕ) → j < k → left c j < n)
   unfolding range-from place
   reached i k upto behind e =
       let f = first-is i (c .size) (reaches c n) upto in
       let all-short : (j : ℕ) → j < k → left c j < n = λ j l. elim (decLt j i) [ yes z ↦ behind j z | no z ↦ short j (f .before j (omega arith) (omega arith)) ] in (
-        e ∙ sym (first-unique 0 (c .size) (first i (c .size) (reaches c n)) (λ j. not (under c n 0 j)) (omega arith) (record {
+        e ∙ sym (first-unique 0 (c .size) (first i (c .size) (reaches c n)) (λ j. not (below (key-at c [] j) (n ∷ 0 ∷ 0 ∷ []))) (omega arith) (record {
           from = omega arith;
           upto = f .upto;
-          passes = λ l. not-passes (under c n 0 (first i (c .size) (reaches c n))) (over (first i (c .size) (reaches c n)) (long _ (f .passes l)));
-          before = λ j a b. let z = all-short j (omega arith) in not-fails (under c n 0 j) (under-intro c n 0 j (omega arith) (λ y. absurd (omega arith)));
+          passes = λ l. not-passes (below (key-at c [] (first i (c .size) (reaches c n))) (n ∷ 0 ∷ 0 ∷ [])) (over (first i (c .size) (reaches c n)) (long _ (f .passes l)));
+          before = λ j a b. not-fails (below (key-at c [] j) (n ∷ 0 ∷ 0 ∷ [])) (under j (all-short j (omega arith)));
         })),
         let z = f .upto in omega arith,
         all-short,
       )
-    where
-      over : (j : ℕ) → n ≤ left c j → under c n 0 j ≡ false
-      over j l = elim (ℕ-discrete (left c j) n) [ yes e ↦ under-same c n 0 j e ∙ le-ltb (right c j) 0 (omega arith) | no e ↦ under-other c n 0 j e ∙ le-ltb (left c j) n l ]
 
   pub begun-next : (starts : List ℕ) (i k z : ℕ) → z ≡ c .size → Begun c starts i n → k ≡ first i z (reaches c n) → n < length starts → Begun c (set starts n k) k (n + 1)
   begun-next starts i k z same-size b e room =

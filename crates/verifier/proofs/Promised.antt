@@ -1,4 +1,4 @@
--- The demands, the table of refusals, what is kept of the former gate and that no function is mailed, of what the entry gives back.
+-- The demands, the table of refusals, what is kept of the former gate, that no function is mailed and no bad met, of what the entry gives back.
 use Prim.Native.Nat.{ℕ, _≤_}
 use native.Mathlib.Omega.{arith}
 use mathlib.Core.Logic.{_↔_}
@@ -18,8 +18,9 @@ use Rattle.model.proofs.Demands as demands
 use Rattle.model.proofs.Refusals.{refused-exactly}
 use Rattle.model.proofs.Longer.{messages-kept, longer-turned-away}
 use Rattle.model.proofs.Mailed.{no-function-mailed}
+use Rattle.model.proofs.Sums.{no-run-meets-a-bad}
 use Rattle.answers.specs.Safe.{is-safe}
-use Rattle.verifier.specs.Promises.{Refusal-changes-nothing, Safe-exactly-when-sound, System-is-written, Runs-are-followed, Refused-exactly-by-the-table, As-the-former-gate, Mailboxes-hold-no-function}
+use Rattle.verifier.specs.Promises.{Refusal-changes-nothing, Safe-exactly-when-sound, System-is-written, Runs-are-followed, Refused-exactly-by-the-table, As-the-former-gate, Mailboxes-hold-no-function, Runs-meet-no-bad}
 use Rattle.answers.proofs.Passing.{safe-only}
 
 -- only safe has the number 0
@@ -42,7 +43,7 @@ module _ (bytes lent out part : List ℕ) (told at : ℕ) where
       (Safe-exactly-when-sound told bytes (length lent) ×
       (System-is-written told bytes lent out ×
       (Runs-are-followed told bytes out ×
-      (Refused-exactly-by-the-table told at bytes (length lent) × (As-the-former-gate told at bytes lent out part × Mailboxes-hold-no-function told bytes)))))
+      (Refused-exactly-by-the-table told at bytes (length lent) × (As-the-former-gate told at bytes lent out part × (Mailboxes-hold-no-function told bytes × Runs-meet-no-bad told bytes))))))
 
   module _ (is-number : told ≡ number v) (is-place : at ≡ place v) where
     safe : told ≡ 0 → v ≡ Safe
@@ -59,6 +60,9 @@ module _ (bytes lent out part : List ℕ) (told at : ℕ) where
 
       mailboxes : Mailboxes-hold-no-function told bytes
       mailboxes z = no-function-mailed present bytes (length lent) short (safe z)
+
+      meets-none : Runs-meet-no-bad told bytes
+      meets-none z = no-run-meets-a-bad present bytes (length lent) short (safe z)
 
       by-the-table : Refused-exactly-by-the-table told at bytes (length lent)
       by-the-table =
@@ -90,7 +94,7 @@ module _ (bytes lent out part : List ℕ) (told at : ℕ) where
             }
 
         pub promised : part ≡ part-handed bytes (length lent) → Promised
-        promised h = (nothing-changed h, (sound-exactly, (system-put, (runs-followed, (by-the-table, (former-kept h, mailboxes))))))
+        promised h = (nothing-changed h, (sound-exactly, (system-put, (runs-followed, (by-the-table, (former-kept h, (mailboxes, meets-none)))))))
 
 -- two numbers told
 pub both : (a b x y : ℕ) → a ≡ x → b ≡ y → _≡_ {A = List ℕ} (a ∷ b ∷ []) (x ∷ y ∷ [])

@@ -1,5 +1,5 @@
 -- What a caller has of the entry, said of what it gives back: the verdict's number and place, the three demands, the
--- table of refusals, what a gate of the former limits answers, and that no mailbox holds a function.
+-- table of refusals, what a gate of the former limits answers, that no mailbox holds a function and no run meets a bad.
 use Prim.Native.Nat.{ℕ}
 use mathlib.Core.Logic.{_↔_}
 use mathlib.Core.Path.{_≡_}
@@ -14,6 +14,7 @@ use Rattle.model.specs.Demands.{Sound, All-runs-followed}
 use Rattle.model.specs.Refusals.{Refused}
 use Rattle.model.specs.Longer.{By-limit, Passes}
 use Rattle.model.specs.Mailed.{No-mailbox-holds-function}
+use Rattle.model.specs.Sums.{Meets-no-bad}
 
 -- An answer is two numbers: the verdict's, and its place.
 abbrev pub answer-to : List ℕ → ℕ → List ℕ
@@ -63,3 +64,8 @@ pub record As-the-former-gate (told at : ℕ) (bytes before after part : List �
 -- Document 02, (x): after safe, in no run, after no number of any list, does a mailbox directly hold a function.
 abbrev pub Mailboxes-hold-no-function : ℕ → List ℕ → Type 0
 Mailboxes-hold-no-function told bytes = told ≡ 0 → No-mailbox-holds-function (message bytes .program)
+
+-- Document 02, (iv): after safe, in no run, after no number of any list, is a bad met as document 01 counts it in the
+-- station, by class and place, whatever the processes return to.
+abbrev pub Runs-meet-no-bad : ℕ → List ℕ → Type 0
+Runs-meet-no-bad told bytes = told ≡ 0 → Meets-no-bad (message bytes)

@@ -9,7 +9,7 @@ ghost use Rattle.model.specs.Verify.{verdict, lent-after, part-handed};
 ghost use Rattle.verifier.specs.Promises.{answer-to, number-in, place-in};
 ghost use Rattle.verifier.specs.Promises.{Refusal-changes-nothing, Safe-exactly-when-sound, System-is-written};
 ghost use Rattle.verifier.specs.Promises.{Runs-are-followed, Refused-exactly-by-the-table, As-the-former-gate};
-ghost use Rattle.verifier.specs.Promises.{Mailboxes-hold-no-function};
+ghost use Rattle.verifier.specs.Promises.{Mailboxes-hold-no-function, Runs-meet-no-bad};
 
 // The entry. Gives the part handed on; number and place of the verdict to `answer`; after safe the system to the lent
 // words.
@@ -36,6 +36,7 @@ pub fn verify<'a>(message: &'a [u8], lent: &mut [u32], answer: &mut [usize; 2]) 
         As-the-former-gate (number-in (now (answer .exit))) (place-in (now (answer .exit)))
         (now (message .entry)) (now (lent .entry)) (now (lent .exit)) (now part) ⌝ }
     ensures { λ _. ⌜ Mailboxes-hold-no-function (number-in (now (answer .exit))) (now (message .entry)) ⌝ }
+    ensures { λ _. ⌜ Runs-meet-no-bad (number-in (now (answer .exit))) (now (message .entry)) ⌝ }
 {
     let words = lent.len();
     let v = verdict_of(message, lent);
@@ -72,6 +73,7 @@ pub extern "C" fn delungkaw_verify(
         As-the-former-gate r (now (position .exit)) (now (message .entry)) (now (lent .entry)) (now (lent .exit))
         (part-handed (now (message .entry)) (length (now (lent .entry)))) ⌝ }
     ensures { λ r. ⌜ Mailboxes-hold-no-function r (now (message .entry)) ⌝ }
+    ensures { λ r. ⌜ Runs-meet-no-bad r (now (message .entry)) ⌝ }
 {
     let mut answer = [0usize; 2];
     let part = verify(message, lent, &mut answer);

@@ -8,31 +8,40 @@ use crate::verify::verify;
 
 type Pairs = Vec<(usize, usize)>;
 
+/// The lists of the tables, the states' third numbers by themselves.
+#[derive(Default)]
+struct Lists {
+    flow: Pairs,
+    mail: Pairs,
+    states: Pairs,
+    returns: Vec<usize>,
+}
+
 /// The parts that are there; a section may end with any of them, or have none.
 #[derive(Default)]
 pub struct Parts {
     /// Names, constructors, functions and the rows.
     program: Option<([usize; 3], Pairs)>,
     bads: Option<(usize, Pairs)>,
-    /// Flow, mail, states.
-    tables: Option<[Pairs; 3]>,
+    tables: Option<Lists>,
     bounds: Option<(usize, Pairs)>,
 }
 
-/// `(10, 0) (7,0)`
-fn pairs(text: &str) -> Result<Pairs, String> {
-    let wrong = || format!("{text}: not pairs of numbers");
+/// The numbers of `(10, 0) (7,0)`, so many in each pair of brackets.
+fn numbers(text: &str, each: usize) -> Result<Vec<usize>, String> {
     let numbers: Result<Vec<usize>, _> =
         text.split(['(', ')', ',', ' ']).filter(|word| !word.is_empty()).map(|word| word.parse::<usize>()).collect();
-    let numbers = numbers.map_err(|_| wrong())?;
-    match numbers.len() % 2 {
-        0 => Ok(numbers.chunks(2).map(|pair| (pair[0], pair[1])).collect()),
-        _ => Err(wrong()),
-    }
+    let numbers = numbers.ok().filter(|numbers| numbers.len().is_multiple_of(each));
+    numbers.ok_or_else(|| format!("{text}: not numbers, {each} at a time"))
+}
+
+fn pairs(text: &str) -> Result<Pairs, String> {
+    Ok(numbers(text, 2)?.chunks(2).map(|pair| (pair[0], pair[1])).collect())
 }
 
 impl Parts {
-    /// Of a station's text, or of lines `rows V C G: ...`, `bads B: ...`, `flow: ...`, `mail: ...`, `states: ...`, `ceilings K: ...`.
+    /// Of a station's text, or of lines `rows V C G: ...`, `bads B: ...`, `flow: ...`, `mail: ...`, `states: ...` (of
+    /// three numbers each), `ceilings K: ...`.
     pub fn of(section: &Section) -> Result<Parts, String> {
         let told = |e: String| format!("{}: {e}", section.name);
         if section.is_text() {
@@ -53,16 +62,18 @@ impl Parts {
         Parts {
             program: Some(([m.names, m.constructors, m.functions], column(&m.program, 0, m.program.len()))),
             bads: Some((m.bads, column(&m.bad_rows, 0, m.bad_rows.len()))),
-            tables: Some([
-                column(&m.tables, 0, m.flow),
-                column(&m.tables, m.flow, m.mail),
-                column(&m.tables, m.flow + m.mail, m.states),
-            ]),
+            tables: Some(Lists {
+                flow: column(&m.tables, 0, m.flow),
+                mail: column(&m.tables, m.flow, m.mail),
+                states: column(&m.tables, m.flow + m.mail, m.states),
+                returns: m.returns.iter().map(|&back| back as usize).collect(),
+            }),
             bounds: Some((m.bounds, column(&m.entries, 0, m.entries.len()))),
         }
     }
 
-    /// With one ceiling that leaves every counter unbounded, where that allows no bad: the model computes a short message sooner.
+    /// With one ceiling that leaves every counter unbounded, where that allows no bad: the model computes a short
+    /// message sooner.
     fn with_one_ceiling(mut self) -> Parts {
         let mut lent = vec![0; 16_384];
         verify(&to_bytes(&self.words()), &mut lent);
@@ -82,14 +93,17 @@ impl Parts {
         let size = |i: usize| -> Result<usize, String> {
             words.get(i).and_then(|w| w.parse().ok()).ok_or(format!("{line}: a size is missing"))
         };
-        let list = pairs(rest)?;
         match words[0] {
-            "rows" => self.program = Some(([size(1)?, size(2)?, size(3)?], list)),
-            "bads" => self.bads = Some((size(1)?, list)),
-            "flow" => self.tables.get_or_insert_default()[0] = list,
-            "mail" => self.tables.get_or_insert_default()[1] = list,
-            "states" => self.tables.get_or_insert_default()[2] = list,
-            "ceilings" => self.bounds = Some((size(1)?, list)),
+            "rows" => self.program = Some(([size(1)?, size(2)?, size(3)?], pairs(rest)?)),
+            "bads" => self.bads = Some((size(1)?, pairs(rest)?)),
+            "flow" => self.tables.get_or_insert_default().flow = pairs(rest)?,
+            "mail" => self.tables.get_or_insert_default().mail = pairs(rest)?,
+            "states" => {
+                let (numbers, tables) = (numbers(rest, 3)?, self.tables.get_or_insert_default());
+                tables.states = numbers.chunks(3).map(|state| (state[0], state[1])).collect();
+                tables.returns = numbers.chunks(3).map(|state| state[2]).collect();
+            }
+            "ceilings" => self.bounds = Some((size(1)?, pairs(rest)?)),
             _ => return Err(format!("{line}: no part of a message")),
         }
         Ok(())
@@ -101,23 +115,24 @@ impl Parts {
 
     /// The words of the parts that are there.
     pub fn words(&self) -> Vec<u16> {
-        let mut words = Vec::new();
-        let mut put = |sizes: &[usize], pairs: &[(usize, usize)]| {
+        fn put(words: &mut Vec<usize>, sizes: &[usize], pairs: &[(usize, usize)]) {
             words.extend(sizes);
             words.extend(pairs.iter().map(|pair| pair.0));
             words.extend(pairs.iter().map(|pair| pair.1));
-        };
+        }
+        let mut words = Vec::new();
         if let Some(([names, constructors, functions], rows)) = &self.program {
-            put(&[rows.len(), *names, *constructors, *functions], rows);
+            put(&mut words, &[rows.len(), *names, *constructors, *functions], rows);
         }
         if let Some((bads, rows)) = &self.bads {
-            put(&[*bads, rows.len()], rows);
+            put(&mut words, &[*bads, rows.len()], rows);
         }
-        if let Some(lists) = &self.tables {
-            put(&lists.each_ref().map(Vec::len), &lists.concat());
+        if let Some(Lists { flow, mail, states, returns }) = &self.tables {
+            put(&mut words, &[flow.len(), mail.len(), states.len()], &[flow.as_slice(), mail, states].concat());
+            words.extend(returns);
         }
         if let Some((bounds, entries)) = &self.bounds {
-            put(&[*bounds, entries.len()], entries);
+            put(&mut words, &[*bounds, entries.len()], entries);
         }
         words.iter().map(|&word| word as u16).collect()
     }
@@ -127,8 +142,10 @@ impl Parts {
         let Some(([names, constructors, functions], rows)) = &self.program else { return String::new() };
         let mut words = vec![vec![format!("{}-program", section.name)]];
         words.extend(self.bads.iter().map(|(bads, rows)| vec![format!("bad-words {bads}"), antt::pairs(rows)]));
-        let tables = |t: &[Pairs; 3]| {
-            [vec!["table-words".to_string()], t.iter().map(|list| antt::pairs(list)).collect()].concat()
+        let tables = |t: &Lists| {
+            let triples =
+                t.states.iter().zip(&t.returns).map(|((class, head), back)| format!("({class}, {head}, {back})"));
+            vec!["table-words".to_string(), antt::pairs(&t.flow), antt::pairs(&t.mail), antt::list(triples)]
         };
         words.extend(self.tables.iter().map(tables));
         words.extend(

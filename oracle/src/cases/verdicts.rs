@@ -10,6 +10,8 @@ use crate::verify::verify;
 const FRONT: &str = include_str!("verdicts_front.txt");
 /// Words lent beyond those needed where it is safe.
 const BEYOND: usize = 2;
+/// Words lent where the verdict alone is told (the front says so too).
+const LENT: usize = 100;
 
 /// The message of a case, as words and in the model's language.
 struct Given {
@@ -70,6 +72,9 @@ impl Tables {
             return Ok(Some(lent));
         }
         let (number, place) = (outcome.number, outcome.place);
+        if number == 0 && 4 + 2 * lent[3] as usize > LENT {
+            return Err(format!("{name} {}: its system has more than {LENT} words", case.given));
+        }
         let line = antt::line(&format!("at {number} {place} {text} ∷"));
         self.verdicts.push_str(&format!("{sentence}\n{line}\n"));
         Ok(None)

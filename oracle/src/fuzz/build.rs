@@ -2,14 +2,14 @@
 
 use super::generate::{self, Rows};
 use super::rng::Rng;
-use crate::bads::Bad;
-use crate::bounds;
+use crate::bads::{Bad, Item, Place};
+use crate::bounds::{self, Sum, item_counters};
 use crate::evidence;
 use crate::explore::Limits;
 use crate::least;
 use crate::limits::{self, UNBOUNDED};
 use crate::message::Message;
-use crate::program::{Head, Name, Program};
+use crate::program::{Head, Name, Program, State};
 use crate::set::Set;
 use crate::stress::{flow, honest};
 use crate::system::System;
@@ -233,23 +233,28 @@ fn add_looked_at(rng: &mut Rng, program: &Program, tables: &mut Tables) {
         }
         _ => None,
     };
-    let heads: Vec<usize> = tables.states.iter().map(|&(_, head)| head).collect();
+    let heads: Vec<usize> = tables.states.iter().map(|state| state.head).collect();
     let found = (0..heads.len()).find_map(|_| looked_at(*rng.pick(&heads)?));
     if let Some((name, values)) = found {
         insert(rng, &mut tables.flow[name..=name], &values);
     }
 }
 
-/// A state at any head, often at a build.
+/// A state with any return: at a build, at any head, at a give back, or where a state stands already.
 fn add_state(rng: &mut Rng, program: &Program, tables: &mut Tables) {
     let classes: Vec<usize> = program.classes().collect();
-    let heads = match rng.chance(1, 2) {
-        true => builds(rng, program, tables),
-        false => (0..program.rows).filter(|&row| program.is_head(row)).collect(),
+    let heads: Vec<usize> = match rng.below(4) {
+        0 => builds(rng, program, tables),
+        1 => (0..program.rows).filter(|&row| program.is_head(row)).collect(),
+        2 => (0..program.rows).filter(|&row| matches!(program.head(row), Some(Head::GiveBack { .. }))).collect(),
+        _ => tables.states.iter().map(|state| state.head).collect(),
     };
+    let calls: Vec<usize> = (0..program.rows).filter(|&row| program.call(row).is_some()).collect();
+    let back = rng.pick(&calls).copied().filter(|_| !rng.chance(1, 3)).unwrap_or(program.rows);
     let (Some(&class), Some(&head)) = (rng.pick(&classes), rng.pick(&heads)) else { return };
-    if let Err(i) = tables.states.binary_search(&(class, head)) {
-        tables.states.insert(i, (class, head));
+    let state = State { class, head, back };
+    if let Err(i) = tables.states.binary_search(&state) {
+        tables.states.insert(i, state);
     }
 }
 
@@ -287,8 +292,11 @@ fn put_bads(m: &mut Message, program: &Program, tables: &Tables, bads: &Items) -
     crate::bads::read(m, program).ok()
 }
 
-fn counter(tables: &Tables, system: &System, class: usize, place: (usize, usize)) -> Option<usize> {
-    if place.0 == 41 { tables.state(class, place.1) } else { system.letter(class, place.1) }
+/// An item as a sum of counters, if it has any.
+fn sum(tables: &Tables, system: &System, class: usize, place: (usize, usize), minimum: usize) -> Option<Sum> {
+    let place = if place.0 == 41 { Place::Head(place.1) } else { Place::Letter(place.1) };
+    let item = Item { class, place, minimum: minimum as u16 };
+    item_counters(tables, system, &item).map(|counters| Sum { counters, minimum: item.minimum })
 }
 
 /// Changes one item of each bad that a bound allows so that none does.
@@ -303,7 +311,7 @@ fn make_harmless(
     for bad in bads {
         let allowed = limits.iter().any(|l| {
             bad.iter().all(|&(class, place, minimum)| {
-                counter(tables, system, class, place).is_some_and(|c| l[c] as usize >= minimum)
+                sum(tables, system, class, place, minimum).is_some_and(|sum| sum.allowed(l))
             })
         });
         if allowed {
@@ -323,11 +331,13 @@ fn harmless_item(
     system: &System,
 ) -> Option<(usize, (usize, usize), usize)> {
     let (class, place) = random_item(rng, program, tables, system);
-    match counter(tables, system, class, place) {
+    match sum(tables, system, class, place, 1) {
         None => Some((class, place, rng.range(1, 3))),
-        Some(c) => {
-            let most = limits.iter().map(|l| l[c]).max().unwrap_or(0);
-            (most != UNBOUNDED).then_some((class, place, most as usize + 1))
+        Some(Sum { counters, .. }) => {
+            let limits = || limits.iter().map(|l| &l[counters.clone()]);
+            let most = limits().map(|l| l.iter().map(|&limit| limit as usize).sum::<usize>()).max().unwrap_or(0);
+            let bounded = !limits().any(|l| l.contains(&UNBOUNDED));
+            (bounded && most < UNBOUNDED as usize).then_some((class, place, most + 1))
         }
     }
 }
@@ -347,7 +357,7 @@ fn random_item(rng: &mut Rng, program: &Program, tables: &Tables, system: &Syste
             (class, (42, letter))
         }
         _ => {
-            let (class, head) = tables.states[rng.below(tables.states.len())];
+            let State { class, head, .. } = tables.states[rng.below(tables.states.len())];
             (class, (41, head))
         }
     }

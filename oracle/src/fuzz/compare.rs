@@ -2,10 +2,12 @@
 
 use super::build;
 use super::damage::{self, Case};
+use super::returns;
 use super::rng::Rng;
 use crate::counters::check_demand_3;
 use crate::held::check_names;
-use crate::refusal::{VERDICTS, verdict_index};
+use crate::message;
+use crate::refusal::{OPEN, VERDICTS, verdict_index};
 use crate::stress::sizes;
 use crate::verify::Outcome;
 
@@ -88,6 +90,9 @@ pub struct Tally {
     pub named: usize,
     /// Messages that are not refused before their bounds are looked at and have many.
     pub many_bounds: usize,
+    /// Messages whose tables are closed and have a place with several returns, and those whose bads ask there.
+    pub shared: usize,
+    pub summed: usize,
 }
 
 impl Tally {
@@ -102,6 +107,11 @@ impl Tally {
         let sizes = sizes(message);
         if matches!(number, 0 | 11..=14) && sizes[4] >= build::MANY_BOUNDS {
             self.many_bounds += 1;
+        }
+        if number == 0 || number > OPEN {
+            let read = message::read(message);
+            self.shared += usize::from(read.as_ref().is_ok_and(|m| !returns::shared(m).is_empty()));
+            self.summed += usize::from(read.as_ref().is_ok_and(returns::asked));
         }
         if number == 0 {
             self.largest.iter_mut().zip(sizes).for_each(|(largest, size)| *largest = size.max(*largest));
@@ -123,6 +133,10 @@ impl Tally {
              {entries} entries\n"
         ));
         text.push_str(&format!("with {} ceilings or more: {}\n", build::MANY_BOUNDS, self.many_bounds));
+        text.push_str(&format!(
+            "closed, with a place of several returns: {}, and a bad that asks there: {}\n",
+            self.shared, self.summed
+        ));
         text
     }
 }

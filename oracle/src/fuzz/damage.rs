@@ -1,6 +1,7 @@
 //! Ways to damage a message.
 
 use super::build::Station;
+use super::returns;
 use super::rng::Rng;
 use crate::limits::{self, Limit};
 use crate::message::{self, Columns, Message};
@@ -67,7 +68,7 @@ pub fn damaged(rng: &mut Rng, station: &Station) -> Case {
 }
 
 /// A word that is likely to matter.
-fn odd_word(rng: &mut Rng, near: u16) -> u16 {
+pub fn odd_word(rng: &mut Rng, near: u16) -> u16 {
     match rng.below(9) {
         0 => 0,
         1 => 65_534,
@@ -137,7 +138,7 @@ fn size(rng: &mut Rng, original: &Message, bytes: &mut Vec<u8>) {
 }
 
 fn structured(rng: &mut Rng, m: &mut Message, station: &Station) {
-    match rng.below(35) {
+    match rng.below(40) {
         32 => soup(rng, m),
         33 => deepen(rng, m),
         0..=1 => row(rng, m),
@@ -154,6 +155,7 @@ fn structured(rng: &mut Rng, m: &mut Message, station: &Station) {
         27..=28 => bound_form(rng, m, station.counters),
         29 | 34 => all_limits(rng, m),
         30 => keep_bounds(rng, m, station.counters),
+        35..=39 => returns::damaged(rng, m, station.counters),
         _ => {
             m.entries = Columns::default();
             m.bounds = 0;
@@ -205,12 +207,12 @@ fn deepen(rng: &mut Rng, m: &mut Message) {
     }
 }
 
-fn remove(columns: &mut Columns, i: usize) {
+pub fn remove(columns: &mut Columns, i: usize) {
     columns.first.remove(i);
     columns.second.remove(i);
 }
 
-fn insert(columns: &mut Columns, i: usize, first: u16, second: u16) {
+pub fn insert(columns: &mut Columns, i: usize, first: u16, second: u16) {
     columns.first.insert(i, first);
     columns.second.insert(i, second);
 }
@@ -228,7 +230,7 @@ fn row_gone(rng: &mut Rng, m: &mut Message) {
     }
 }
 
-fn rows_with(m: &Message, tags: &[u16]) -> Vec<usize> {
+pub fn rows_with(m: &Message, tags: &[u16]) -> Vec<usize> {
     (0..m.program.len()).filter(|&i| tags.contains(&m.program.first[i])).collect()
 }
 
@@ -299,6 +301,9 @@ fn entry_gone(rng: &mut Rng, m: &mut Message) {
         return;
     }
     let i = spot_entry(rng, m).unwrap_or_else(|| rng.below(m.tables.len()));
+    if let Some(state) = i.checked_sub(m.flow + m.mail) {
+        m.returns.remove(state);
+    }
     count(m, i, -1);
     remove(&mut m.tables, i);
 }
@@ -330,11 +335,21 @@ fn entry_more(rng: &mut Rng, m: &mut Message) {
     if begin + length > m.tables.len() {
         return;
     }
-    let at = begin + (begin..begin + length).filter(|&i| m.tables.pair(i) < (first, second)).count();
+    let calls = with_start(rows_with(m, &[4]));
+    let back = rng.pick(&calls).copied().unwrap_or(0);
+    let entry = |i: usize| {
+        let (first, second) = m.tables.pair(i);
+        (first, second, if list < 2 { back } else { m.returns[i - begin] as usize })
+    };
+    let before = (begin..begin + length).filter(|&i| entry(i) < (first, second, back)).count();
+    let at = begin + before;
     match list {
         0 => m.flow += 1,
         1 => m.mail += 1,
-        _ => m.states += 1,
+        _ => {
+            m.states += 1;
+            m.returns.insert(before, back as u16);
+        }
     }
     insert(&mut m.tables, at, first as u16, second as u16);
 }
@@ -427,7 +442,11 @@ fn all_limits(rng: &mut Rng, m: &mut Message) {
 fn ask_at_a_state(rng: &mut Rng, m: &mut Message, minimum: u16) {
     let states: Vec<usize> = (m.flow + m.mail..m.tables.len()).collect();
     let Some(&state) = rng.pick(&states) else { return };
-    let (class, head) = (m.tables.first[state], m.tables.second[state]);
+    ask_at(m, (m.tables.first[state], m.tables.second[state]), minimum);
+}
+
+/// Every item of the bads: at least so many of the class at the head.
+pub fn ask_at(m: &mut Message, (class, head): (u16, u16), minimum: u16) {
     for (tag, number) in m.bad_rows.first.iter_mut().zip(&mut m.bad_rows.second) {
         (*tag, *number) = match *tag {
             40 => (40, class),

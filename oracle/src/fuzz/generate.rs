@@ -41,6 +41,8 @@ struct Maker<'r> {
     built: Vec<(Binder, usize)>,
     /// Whether sends of functions are wanted.
     mailing: bool,
+    /// A function of the front that is called from several places.
+    routine: Option<Binder>,
 }
 
 /// A program of about `size` rows, perhaps with sends of functions.
@@ -59,8 +61,9 @@ fn attempt(rng: &mut Rng, size: usize, mailing: bool) -> Rows {
     let functions = if rng.chance(1, 30) { rng.range(0, 64.min(size / 8)) } else { rng.range(0, 4.min(size / 8)) };
     let arities =
         (0..constructors).map(|_| if rng.chance(1, 20) { rng.range(0, 8) } else { rng.range(0, 3) }).collect();
-    let mut maker =
-        Maker { rng, arities, rows: Vec::new(), binders: 0, scope: Vec::new(), outside: 0, built: Vec::new(), mailing };
+    let routine = (functions > 0 && rng.chance(2, 3)).then(|| rng.below(functions));
+    let (rows, scope, built) = (Vec::new(), Vec::new(), Vec::new());
+    let mut maker = Maker { rng, arities, rows, binders: 0, scope, outside: 0, built, mailing, routine };
     maker.whole(size, functions);
     let numbers = maker.numbers();
     let rows = maker.rows.iter().map(|&(tag, operand)| match operand {
@@ -143,6 +146,9 @@ impl Maker<'_> {
         if depth < 2 && size > 14 && self.rng.chance(1, 2) {
             self.prelude();
         }
+        if depth < 2 && size > 8 && self.rng.chance(1, 2) {
+            self.shared_calls(depth);
+        }
         while self.rows.len() + kept.max(4) < end && !self.rng.chance(1, stop) {
             self.head(end - self.rows.len(), depth);
         }
@@ -157,6 +163,12 @@ impl Maker<'_> {
             (0..self.rng.range(1, 3)).for_each(|_| self.build());
             self.send();
         }
+    }
+
+    /// Calls of the routine: two where the start begins, one in a body.
+    fn shared_calls(&mut self, depth: usize) {
+        let calls = if self.routine.is_some() { 2 - depth } else { 0 };
+        (0..calls).for_each(|_| self.call_of(self.routine.unwrap_or(0)));
     }
 
     /// A give back, case or receive.
@@ -323,7 +335,12 @@ impl Maker<'_> {
     }
 
     fn call(&mut self) {
-        let callee = self.name(|kind| matches!(kind, Kind::Function(_)));
+        let routine = self.routine.filter(|_| self.rng.chance(1, 4));
+        let callee = routine.unwrap_or_else(|| self.name(|kind| matches!(kind, Kind::Function(_))));
+        self.call_of(callee);
+    }
+
+    fn call_of(&mut self, callee: Binder) {
         let known = self.scope.iter().find(|(b, _)| *b == callee).map(|&(_, kind)| kind);
         let count = match known {
             Some(Kind::Function(count)) if !self.rng.chance(1, 30) => count,

@@ -5,5 +5,6 @@ pub mod compare;
 pub mod corpus;
 pub mod damage;
 pub mod generate;
+pub mod returns;
 pub mod rng;
 pub mod row_list;

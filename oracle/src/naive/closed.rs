@@ -2,20 +2,25 @@
 
 use super::Refused;
 use crate::message::Message;
-use crate::program::{Branch, Head, Pattern, Program, Row};
+use crate::program::{Branch, Head, Pattern, Program, Row, State};
 use crate::refusal::Want;
 use std::collections::BTreeSet;
 
 pub struct Pairs {
     pub flow: BTreeSet<(usize, usize)>,
     pub mail: BTreeSet<(usize, usize)>,
-    pub states: BTreeSet<(usize, usize)>,
+    pub states: BTreeSet<State>,
 }
 
 impl Pairs {
     pub fn new(m: &Message) -> Pairs {
         let list = |from: usize, count: usize| (from..from + count).map(|i| m.tables.pair(i)).collect();
-        Pairs { flow: list(0, m.flow), mail: list(m.flow, m.mail), states: list(m.flow + m.mail, m.states) }
+        let state = |(i, &back): (usize, &u16)| {
+            let (class, head) = m.tables.pair(m.flow + m.mail + i);
+            State { class, head, back: back as usize }
+        };
+        let states = m.returns.iter().enumerate().map(state).collect();
+        Pairs { flow: list(0, m.flow), mail: list(m.flow, m.mail), states }
     }
 
     pub fn values(&self, name: usize) -> Vec<usize> {
@@ -30,7 +35,7 @@ impl Pairs {
         match *want {
             Want::Flow { name, value } => self.flow.contains(&(name, value)),
             Want::Mail { class, value } => self.mail.contains(&(class, value)),
-            Want::State { class, head } => self.states.contains(&(class, head)),
+            Want::State(state) => self.states.contains(&state),
         }
     }
 }
@@ -89,16 +94,10 @@ pub fn functions(program: &Program, pairs: &Pairs, name: usize, count: usize) ->
     values.filter(|&v| program.function(v).is_some_and(|f| f.params.len() == count)).collect()
 }
 
-/// The calls of a class whose callee may be `function` with equal count.
-pub fn returns(program: &Program, pairs: &Pairs, class: usize, function: Row) -> Vec<Row> {
-    let mut found = Vec::new();
-    for &(c, row) in &pairs.states {
-        let Some(Head::Call { callee, args, .. }) = program.head(row) else { continue };
-        if c == class && functions(program, pairs, *callee, args.len()).contains(&function) {
-            found.push(row);
-        }
-    }
-    found
+/// The states (c, call, b) that a give back from (c, r, call) is for.
+pub fn returns(pairs: &Pairs, state: State) -> Vec<State> {
+    let is_call = |other: &&State| other.class == state.class && other.head == state.back;
+    pairs.states.iter().filter(is_call).copied().collect()
 }
 
 pub fn classes(program: &Program, pairs: &Pairs, name: usize) -> Vec<usize> {
@@ -106,8 +105,9 @@ pub fn classes(program: &Program, pairs: &Pairs, name: usize) -> Vec<usize> {
 }
 
 /// All that one state wants.
-fn wants(program: &Program, pairs: &Pairs, class: usize, row: Row) -> Vec<Want> {
-    let state = |head: Row| Want::State { class, head };
+fn wants(program: &Program, pairs: &Pairs, at: State) -> Vec<Want> {
+    let (class, row) = (at.class, at.head);
+    let state = |head: Row| Want::State(at.at(head));
     let holds = |name: usize, value: usize| Want::Flow { name, value };
     let all = |name: usize, from: usize| pairs.values(from).into_iter().map(move |value| holds(name, value));
     let mut wants = Vec::new();
@@ -119,17 +119,15 @@ fn wants(program: &Program, pairs: &Pairs, class: usize, row: Row) -> Vec<Want> 
         Some(Head::Call { callee, args, .. }) => {
             for f in functions(program, pairs, *callee, args.len()).into_iter().filter_map(|f| program.function(f)) {
                 f.params.iter().zip(args).for_each(|(&param, &arg)| wants.extend(all(param, arg)));
-                wants.push(state(f.body));
+                wants.push(Want::State(State { class, head: f.body, back: row }));
             }
         }
         Some(Head::GiveBack { value }) => {
-            for (name, rest) in program.inside[row]
-                .iter()
-                .flat_map(|&f| returns(program, pairs, class, f))
-                .filter_map(|c| call(program, c))
+            for (name, rest, back) in
+                returns(pairs, at).into_iter().filter_map(|c| Some((call(program, c.head)?, c.back))).map(flat)
             {
                 wants.extend(all(name, *value));
-                wants.push(state(rest));
+                wants.push(Want::State(State { class, head: rest, back }));
             }
         }
         Some(Head::Send { name, target, message, rest }) => {
@@ -139,14 +137,18 @@ fn wants(program: &Program, pairs: &Pairs, class: usize, row: Row) -> Vec<Want> 
         }
         Some(Head::Spawn { name, callee, rest }) => {
             for f in functions(program, pairs, *callee, 0).into_iter().filter_map(|f| program.function(f)) {
-                wants.extend([holds(*name, row), state(*rest), Want::State { class: row, head: f.body }]);
+                wants.extend([
+                    holds(*name, row),
+                    state(*rest),
+                    Want::State(State { class: row, head: f.body, back: program.rows }),
+                ]);
             }
         }
         Some(Head::Case { value, branches }) => {
-            branch_wants(program, pairs, branches, &pairs.values(*value), class, &mut wants)
+            branch_wants(program, pairs, branches, &pairs.values(*value), at, &mut wants)
         }
         Some(Head::Receive { branches }) => {
-            branch_wants(program, pairs, branches, &pairs.letters(class), class, &mut wants)
+            branch_wants(program, pairs, branches, &pairs.letters(class), at, &mut wants)
         }
         None => {}
     }
@@ -156,6 +158,10 @@ fn wants(program: &Program, pairs: &Pairs, class: usize, row: Row) -> Vec<Want> 
 /// Every pair of the two lists.
 pub fn both(first: &[usize], second: &[usize]) -> Vec<(usize, usize)> {
     first.iter().flat_map(|&a| second.iter().map(move |&b| (a, b))).collect()
+}
+
+fn flat(((name, rest), back): ((usize, Row), usize)) -> (usize, Row, usize) {
+    (name, rest, back)
 }
 
 /// Name and rest of a call.
@@ -171,7 +177,7 @@ fn branch_wants(
     pairs: &Pairs,
     branches: &[Branch],
     values: &[usize],
-    class: usize,
+    at: State,
     wants: &mut Vec<Want>,
 ) {
     let mut seen = BTreeSet::new();
@@ -179,7 +185,7 @@ fn branch_wants(
         for branch in branches {
             if may_match(program, pairs, branch.pattern, value) {
                 spot_wants(program, pairs, branch.pattern, value, &mut seen, wants);
-                wants.push(Want::State { class, head: branch.body });
+                wants.push(Want::State(at.at(branch.body)));
             }
         }
     }
@@ -187,12 +193,12 @@ fn branch_wants(
 
 pub fn check(m: &Message, program: &Program, pairs: &Pairs) -> Result<(), Refused> {
     let named = program.named().map(|f| Want::Flow { name: f.name, value: f.row });
-    let start = Want::State { class: program.rows, head: program.start };
+    let start = Want::State(State { class: program.rows, head: program.start, back: program.rows });
     if !named.chain([start]).all(|want| pairs.has(&want)) {
         return Err((8, m.tables_at));
     }
-    for (i, &(class, row)) in pairs.states.iter().enumerate() {
-        if !wants(program, pairs, class, row).iter().all(|want| pairs.has(want)) {
+    for (i, &state) in pairs.states.iter().enumerate() {
+        if !wants(program, pairs, state).iter().all(|want| pairs.has(want)) {
             return Err((8, m.tables_at + 3 + m.flow + m.mail + i));
         }
     }

@@ -68,7 +68,7 @@ fn start_and_bads(
     bounds: &Bounds,
 ) -> Result<(), Refused> {
     let start: Vec<u64> =
-        system.counters.iter().map(|c| (*c == rules::Counter::State(program.rows, program.start)) as u64).collect();
+        system.counters.iter().map(|c| (*c == rules::Counter::State(program.opening())) as u64).collect();
     let under =
         |limits: &Vec<u16>| start.iter().zip(limits).all(|(&count, &limit)| limit == 65_535 || count <= limit as u64);
     if !bounds.limits.iter().any(under) {

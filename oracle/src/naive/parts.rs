@@ -4,20 +4,20 @@ use super::Refused;
 use crate::message::Message;
 use crate::program::Program;
 
-/// Least and most of each size of a part, and which sizes count the entries of its columns.
-type PartSizes = (&'static [(usize, usize)], &'static [usize]);
+/// Least and most of each size of a part, which sizes count the entries of its columns, and which counts a third array.
+type PartSizes = (&'static [(usize, usize)], &'static [usize], Option<usize>);
 
 /// Refusals 1 and 2.
 pub fn lengths(bytes: &[u8]) -> Result<(), Refused> {
     let word = |at: usize| Some(u16::from_le_bytes([*bytes.get(2 * at)?, *bytes.get(2 * at + 1)?]) as usize);
     let parts: [PartSizes; 4] = [
-        (&[(1, 1536), (1, 512), (0, 64), (0, 64)], &[0]),
-        (&[(1, 16), (4, 256)], &[1]),
-        (&[(0, 4096), (0, 512), (0, 1024)], &[0, 1, 2]),
-        (&[(0, 256), (0, 8192)], &[1]),
+        (&[(1, 1536), (1, 512), (0, 64), (0, 64)], &[0], None),
+        (&[(1, 16), (4, 256)], &[1], None),
+        (&[(0, 4096), (0, 512), (0, 1024)], &[0, 1, 2], Some(2)),
+        (&[(0, 256), (0, 8192)], &[1], None),
     ];
     let mut begin = 0;
-    for (limits, counted) in parts {
+    for (limits, counted, third) in parts {
         let mut sizes = Vec::new();
         for i in 0..limits.len() {
             sizes.push(word(begin + i).ok_or((1, begin))?);
@@ -27,7 +27,8 @@ pub fn lengths(bytes: &[u8]) -> Result<(), Refused> {
                 return Err((2, begin + i));
             }
         }
-        let end = begin + limits.len() + 2 * counted.iter().map(|&i| sizes[i]).sum::<usize>();
+        let end =
+            begin + limits.len() + 2 * counted.iter().map(|&i| sizes[i]).sum::<usize>() + third.map_or(0, |i| sizes[i]);
         if bytes.len() / 2 < end {
             return Err((1, begin));
         }
@@ -83,10 +84,10 @@ pub fn entries(m: &Message) -> Result<(), Refused> {
         let right = match list {
             0 => first < m.names && is_value(m, second),
             1 => is_class(m, first) && is_value(m, second),
-            _ => is_class(m, first) && is_head(m, second),
+            _ => is_class(m, first) && is_head(m, second) && is_return(m, third(m, i)),
         };
         let begins = [0, m.flow, m.flow + m.mail][list] == i;
-        let rises = begins || m.tables.pair(i - 1) < (first, second);
+        let rises = begins || (m.tables.pair(i - 1), third(m, i - 1)) < ((first, second), third(m, i));
         if !right || !rises {
             return Err((7, m.tables_at + 3 + i));
         }
@@ -103,6 +104,15 @@ pub fn no_function_mailed(m: &Message) -> Result<(), Refused> {
         }
     }
     Ok(())
+}
+
+/// The third number of an entry: that of a state, 0 in the other lists.
+fn third(m: &Message, i: usize) -> usize {
+    i.checked_sub(m.flow + m.mail).map_or(0, |state| m.returns[state] as usize)
+}
+
+fn is_return(m: &Message, number: usize) -> bool {
+    number == m.rows || (number < m.rows && m.program.first[number] == 4)
 }
 
 /// Refusal 10.

@@ -2,11 +2,11 @@
 
 use super::closed::{Pairs, both, call, classes, functions, may_match, returns};
 use crate::bads::{Item, Place};
-use crate::program::{Branch, Head, Program, Row};
+use crate::program::{Branch, Head, Program, Row, State};
 
 #[derive(Clone, Copy, Debug, PartialEq, Eq, PartialOrd, Ord)]
 pub enum Counter {
-    State(usize, usize),
+    State(State),
     Letter(usize, usize),
 }
 
@@ -29,7 +29,7 @@ type Keyed = ((usize, usize, usize), Rule);
 
 impl Plain {
     pub fn new(program: &Program, pairs: &Pairs) -> Plain {
-        let mut counters: Vec<Counter> = pairs.states.iter().map(|&(c, h)| Counter::State(c, h)).collect();
+        let mut counters: Vec<Counter> = pairs.states.iter().map(|&state| Counter::State(state)).collect();
         let mut letters: Vec<Counter> =
             pairs.mail.iter().map(|&(c, v)| Counter::Letter(c, program.letter(v))).collect();
         letters.sort();
@@ -46,23 +46,21 @@ impl Plain {
         self.counters.iter().position(|c| *c == counter).unwrap_or(usize::MAX)
     }
 
-    /// The limit of an item's counter; 0 if it has none, nothing if it is unbounded.
+    /// The sum of the limits of an item's counters; 0 if it has none, nothing if it is unbounded.
     pub fn limit_of(&self, item: &Item, limits: &[u16]) -> Option<u64> {
-        let counter = match item.place {
-            Place::Head(head) => Counter::State(item.class, head),
-            Place::Letter(letter) => Counter::Letter(item.class, letter),
+        let counted = |counter: &Counter| match (item.place, *counter) {
+            (Place::Head(head), Counter::State(state)) => (item.class, head) == (state.class, state.head),
+            (Place::Letter(letter), Counter::Letter(class, other)) => (item.class, letter) == (class, other),
+            _ => false,
         };
-        match limits.get(self.number(counter)) {
-            Some(65_535) => None,
-            Some(&limit) => Some(limit as u64),
-            None => Some(0),
-        }
+        let counters = self.counters.iter().zip(limits).filter(|(counter, _)| counted(counter));
+        counters.map(|(_, &limit)| (limit != 65_535).then_some(limit as u64)).sum()
     }
 
     fn all_rules(&self, program: &Program, pairs: &Pairs) -> Vec<Rule> {
         let mut keyed: Vec<Keyed> = Vec::new();
-        for (from, &(class, row)) in pairs.states.iter().enumerate() {
-            keyed.extend(self.state_rules(program, pairs, from, class, row));
+        for (from, &state) in pairs.states.iter().enumerate() {
+            keyed.extend(self.state_rules(program, pairs, from, state));
         }
         keyed.sort();
         let mut rules: Vec<Rule> = Vec::new();
@@ -75,8 +73,10 @@ impl Plain {
         rules
     }
 
-    fn state_rules(&self, program: &Program, pairs: &Pairs, from: usize, class: usize, row: Row) -> Vec<Keyed> {
-        let to = |head: Row| self.number(Counter::State(class, head));
+    fn state_rules(&self, program: &Program, pairs: &Pairs, from: usize, at: State) -> Vec<Keyed> {
+        let (class, row) = (at.class, at.head);
+        let to = |head: Row| self.number(Counter::State(at.at(head)));
+        let into = |head: Row, back: usize| self.number(Counter::State(State { class, head, back }));
         let letter = |class: usize, value: usize| self.number(Counter::Letter(class, program.letter(value)));
         let bodies = |name: usize, count: usize| {
             functions(program, pairs, name, count).into_iter().filter_map(|f| program.function(f))
@@ -87,11 +87,12 @@ impl Plain {
                 keyed.push(((from, 0, 0), (from, to(*rest), None)));
             }
             Some(Head::Call { callee, args, .. }) => {
-                keyed.extend(bodies(*callee, args.len()).map(|f| ((from, f.row, 0), (from, to(f.body), None))));
+                keyed.extend(bodies(*callee, args.len()).map(|f| ((from, f.row, 0), (from, into(f.body, row), None))));
             }
             Some(Head::GiveBack { .. }) => {
-                for row in program.inside[row].iter().flat_map(|&f| returns(program, pairs, class, f)) {
-                    keyed.extend(call(program, row).map(|(_, rest)| ((from, row, 0), (from, to(rest), None))));
+                for next in returns(pairs, at) {
+                    let rest = call(program, next.head);
+                    keyed.extend(rest.map(|(_, rest)| ((from, next.back, 0), (from, into(rest, next.back), None))));
                 }
             }
             Some(Head::Send { target, message, rest, .. }) => {
@@ -100,7 +101,9 @@ impl Plain {
                 }
             }
             Some(Head::Spawn { callee, rest, .. }) => {
-                let new = |body: Row| Some((54, self.number(Counter::State(row, body))));
+                let new = |body: Row| {
+                    Some((54, self.number(Counter::State(State { class: row, head: body, back: program.rows }))))
+                };
                 keyed.extend(bodies(*callee, 0).map(|f| ((from, f.row, 0), (from, to(*rest), new(f.body)))));
             }
             Some(Head::Case { value, branches }) => {

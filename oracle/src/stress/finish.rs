@@ -62,7 +62,8 @@ impl Rows {
 /// A class and a place without a counter, as rows: a bad there is never met.
 fn absent(program: &Program, tables: &Tables, system: &System) -> Option<[(usize, usize); 2]> {
     let heads = (0..program.rows).filter(|&r| program.is_head(r));
-    let states = heads.flat_map(|h| program.classes().map(move |c| (c, h))).find(|&(c, h)| !tables.has_state(c, h));
+    let states =
+        heads.flat_map(|h| program.classes().map(move |c| (c, h))).find(|&(c, h)| tables.states_at(c, h).is_empty());
     let letters = (0..program.letters()).flat_map(|l| program.classes().map(move |c| (c, l)));
     let letter = letters.into_iter().find(|&(c, l)| system.letter(c, l).is_none());
     let state = states.map(|(class, head)| [(40, class), (41, head)]);

@@ -18,8 +18,19 @@ pub fn hostile() -> Result<Vec<Sample>, String> {
         )?,
         sample("flow-tree", "one pattern of 585 rows: four deep, eight arguments each", 0, tree())?,
         sample("flow-wide", "seven names with 495 values each, passed on by a call and a give back", 0, wide(495))?,
-        sample("flow-calls", "each of 165 calls may be of each of 165 functions", 0, calls(165, bounds::one))?,
-        sample("flow-params", "each of 45 calls with eight arguments may be of each of 45 functions", 0, params())?,
+        sample(
+            "flow-calls",
+            "each of 30 calls may be of each of 30 functions, a state for each",
+            0,
+            calls(30, bounds::one),
+        )?,
+        sample(
+            "flow-returns",
+            "22 calls of a function in itself, and 16 give backs that each may lead to 23 states",
+            0,
+            returns(22, bounds::one),
+        )?,
+        sample("flow-params", "each of 30 calls with eight arguments may be of each of 30 functions", 0, params())?,
         sample("flow-sends", "120 sends of 28 values to 16 classes each", 0, value_sends())?,
         sample("flow-cases", "28 classes at one case of 16 deep branches over 145 values", 0, cases())?,
         sample(
@@ -101,7 +112,7 @@ fn patterns(bounds: impl Bounds) -> Result<Vec<u8>, String> {
             });
         }
         let inner = program.functions.iter().find(|f| f.params.len() == 8).map_or(0, |f| f.body);
-        tables.states.extend(program.classes().map(|c| (c, inner)));
+        tables.states.extend(program.classes().map(|c| program.fresh(c, inner)));
     };
     Rows { list, constructors: 3, functions: 1 }.finish(extra, bounds)
 }
@@ -150,7 +161,7 @@ pub fn wide(count: usize) -> Result<Vec<u8>, String> {
     Rows { list, constructors: 1, functions: 1 }.finish(extra, bounds::one)
 }
 
-/// Each of so many calls may be of each of as many functions, which give back to every call.
+/// Each of so many calls may be of each of as many functions, a state of the body for each.
 pub fn calls(count: usize, bounds: impl Bounds) -> Result<Vec<u8>, String> {
     let mut list = RowList::default();
     let spare = list.bind(11, &[(22, 0)]);
@@ -162,6 +173,23 @@ pub fn calls(count: usize, bounds: impl Bounds) -> Result<Vec<u8>, String> {
     list.row(1, spare);
     let extra = move |program: &Program, tables: &mut Tables| hold(tables, functions[0], &inner_functions(program));
     Rows { list, constructors: 0, functions: 1 }.finish(extra, bounds)
+}
+
+/// So many calls of a function in itself, behind a case that may give back at once: 16 give backs, and each of them may
+/// lead to what comes behind each call, with each return that the call has.
+pub fn returns(count: usize, bounds: impl Bounds) -> Result<Vec<u8>, String> {
+    let mut list = RowList::default();
+    let own = list.bind(11, &[(22, 0)]);
+    list.rows.extend([(8, own), (25, 16)]);
+    (0..15).for_each(|_| list.rows.extend([(32, 0), (1, own)]));
+    list.row(32, 0);
+    (0..count).for_each(|_| {
+        list.bind(4, &[(21, own), (22, 0)]);
+    });
+    list.row(1, own);
+    list.bind(4, &[(21, own), (22, 0)]);
+    list.row(1, own);
+    Rows { list, constructors: 0, functions: 1 }.finish(|_, _| (), bounds)
 }
 
 /// Functions without parameters that give back a name.
@@ -180,7 +208,7 @@ fn inner_functions(program: &Program) -> Vec<usize> {
     program.functions.iter().map(|f| f.row).filter(|row| !front.contains(row)).collect()
 }
 
-/// Each of 45 calls with eight arguments may be of each of 45 functions.
+/// Each of 30 calls with eight arguments may be of each of 30 functions.
 fn params() -> Result<Vec<u8>, String> {
     let mut list = RowList::default();
     let spare = list.bind(11, &[(22, 0)]);
@@ -193,10 +221,10 @@ fn params() -> Result<Vec<u8>, String> {
         list.row(1, spare);
         function
     };
-    let functions: Vec<usize> = (0..45).map(add).collect();
+    let functions: Vec<usize> = (0..30).map(add).collect();
     let address = list.bind(7, &[]);
     let parts: Vec<(usize, usize)> = [(21, functions[0]), (22, 8)].into_iter().chain(vec![(21, address); 8]).collect();
-    (0..45).for_each(|_| {
+    (0..30).for_each(|_| {
         list.bind(4, &parts);
     });
     list.row(1, spare);
@@ -276,7 +304,7 @@ fn everything(bounds: impl Bounds) -> Result<Vec<u8>, String> {
     list.row(1, work);
     let extra = move |program: &Program, tables: &mut Tables| {
         let (builds, values, functions_of) = (builds(program), values(program), inner_functions(program));
-        hold(tables, functions[0], &functions_of);
+        hold(tables, functions[0], &functions_of[..7]);
         small[..20].iter().for_each(|&name| hold(tables, name, &values));
         for mail in &mut tables.mail {
             builds.iter().copied().chain(program.classes()).take(56).for_each(|v| {
@@ -284,9 +312,9 @@ fn everything(bounds: impl Bounds) -> Result<Vec<u8>, String> {
             });
         }
         let body = program.functions.iter().find(|f| f.name == work).map_or(0, |f| f.body);
-        tables.states.push((program.rows, body));
+        tables.states.push(program.fresh(program.rows, body));
         let bodies = program.functions.iter().skip(1).map(|f| f.body);
-        tables.states.extend(bodies.flat_map(|b| program.spawns.iter().map(move |&c| (c, b))).take(120));
+        tables.states.extend(bodies.flat_map(|b| program.spawns.iter().map(move |&c| program.fresh(c, b))).take(120));
     };
     Rows { list, constructors: 3, functions: 1 }.finish(extra, bounds)
 }
@@ -294,5 +322,6 @@ fn everything(bounds: impl Bounds) -> Result<Vec<u8>, String> {
 fn drop_last_state(m: &mut crate::message::Message) {
     m.tables.first.pop();
     m.tables.second.pop();
+    m.returns.pop();
     m.states -= 1;
 }

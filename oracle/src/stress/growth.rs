@@ -24,12 +24,12 @@ pub fn families() -> Result<Vec<Family>, String> {
     Ok(vec![
         family(
             "honest calls (as honest-calls): rows, flow entries and ceilings grow",
-            [14, 28, 56, 112, 224],
+            [7, 14, 28, 56, 112],
             honest::calls,
         )?,
         family("values of a name (as flow-wide): rows and flow entries grow", [30, 60, 120, 240, 480], flow::wide)?,
-        family("functions and calls (as flow-calls): rules grow by their square", [10, 20, 40, 80, 160], |n| {
-            flow::calls(n, bounds::one)
+        family("calls in their own function (as flow-returns): states grow by their square", [1, 2, 5, 11, 22], |n| {
+            flow::returns(n, bounds::one)
         })?,
         family("ceilings (as leak-alike): candidates grow by their square", [16, 32, 64, 128, 256], ceilings)?,
     ])

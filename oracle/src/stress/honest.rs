@@ -19,9 +19,9 @@ pub fn honest() -> Result<Vec<Sample>, String> {
         sample("honest-polling", "a loop that polls 28 gauges in turn, each ceiling exact", 0, polling(28))?,
         sample(
             "honest-calls",
-            "224 calls of one function with 17 values, five workers beside; the start's place is exact",
+            "112 calls of one function with 17 values, five workers beside; the start's place is exact",
             0,
-            calls(224),
+            calls(112),
         )?,
         sample(
             "honest-workers",
@@ -83,8 +83,9 @@ fn exact_start(rows: Rows) -> Result<Vec<u8>, String> {
     let mut m = rows.bare(&rows.any_bad());
     let (program, _) = evidence::read(&m).map_err(refused)?;
     let tables = least::least(&program);
-    let places: Vec<usize> =
-        tables.states.iter().filter(|state| state.0 == program.rows).map(|state| state.1).collect();
+    let own = tables.states.iter().filter(|state| state.class == program.rows);
+    let mut places: Vec<usize> = own.map(|state| state.head).collect();
+    places.dedup();
     let at = |head: usize| [(40, program.rows), (41, head), (43, 1)];
     let bad = [&at(places[0])[..], &at(places[1]), &[(44, 0)]].concat();
     m = rows.bare(&bad);
@@ -95,7 +96,7 @@ fn exact_start(rows: Rows) -> Result<Vec<u8>, String> {
 }
 
 fn by_place(program: &Program, tables: &Tables, system: &System) -> Vec<Limits> {
-    let own = |counter: usize| tables.states.get(counter).is_some_and(|state| state.0 == program.rows);
+    let own = |counter: usize| tables.states.get(counter).is_some_and(|state| state.class == program.rows);
     let others: Limits = (0..system.counters()).map(|c| if own(c) { 0 } else { UNBOUNDED }).collect();
     let bound = |counter: usize| {
         let mut limits = others.clone();

@@ -48,6 +48,7 @@ pub fn hostile() -> Result<Vec<Sample>, String> {
             changed(states(bounds::alike), |m| {
                 m.tables.first.pop();
                 m.tables.second.pop();
+                m.returns.pop();
                 m.states -= 1;
             }),
         )?,

@@ -9,6 +9,7 @@ pub mod honest;
 pub mod long;
 pub mod rows;
 pub mod sends;
+pub mod sums;
 
 use crate::message;
 
@@ -28,7 +29,7 @@ fn sample(name: &str, about: &'static str, verdict: u32, message: Result<Vec<u8>
 
 /// Messages that make each check work hard.
 pub fn hostile() -> Result<Vec<Sample>, String> {
-    Ok([rows::hostile()?, flow::hostile()?, held::hostile()?, sends::hostile()?, long::hostile()?]
+    Ok([rows::hostile()?, sums::hostile()?, flow::hostile()?, held::hostile()?, sends::hostile()?, long::hostile()?]
         .into_iter()
         .flatten()
         .collect())

@@ -207,6 +207,7 @@ fn full_entries() -> Result<Vec<u8>, String> {
         tables.mail[class].insert(v);
     });
     let states = program.classes().flat_map(|class| heads.iter().map(move |&head| (class, head)));
+    let states = states.map(|(class, head)| program.fresh(class, head));
     tables.states = states.take(limits::STATES.1 as usize - 1).collect();
     tables.states.extend(tables.states.last().copied());
     evidence::put_tables(&mut m, &program, &tables)?;

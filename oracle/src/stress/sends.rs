@@ -71,9 +71,9 @@ pub fn hostile() -> Result<Vec<Sample>, String> {
         )?,
         sample(
             "leak-calls",
-            "255 like ceilings of 29 calls and give backs that each may go to 165 places",
+            "255 like ceilings of 27 give backs that each may go to 23 states",
             0,
-            flow::calls(165, bounds::busy),
+            flow::returns(22, bounds::busy),
         )?,
     ])
 }
@@ -156,7 +156,7 @@ fn without_start(message: Vec<u8>) -> Result<Vec<u8>, String> {
         let mut read = crate::verify::Read::default();
         crate::verify::inspect(&message, &mut read).map_err(super::finish::refused)?;
         let (program, tables) = (read.program.as_ref(), read.tables.as_ref());
-        program.zip(tables).and_then(|(p, t)| t.state(p.rows, p.start)).unwrap_or(0)
+        program.zip(tables).and_then(|(p, t)| t.state(p.opening())).unwrap_or(0)
     };
     changed(Ok(message), |m| {
         let kept: Vec<usize> = (0..m.entries.len()).filter(|&i| m.entries.pair(i).0 != start).collect();

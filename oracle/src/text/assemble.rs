@@ -6,7 +6,7 @@ use super::telling::{Telling, ceilings};
 use super::warnings::warnings;
 use super::words::{STACK, Words, bare};
 use crate::bads::Bad;
-use crate::bounds::bad_counters;
+use crate::bounds::{Sum, bad_sums};
 use crate::evidence;
 use crate::explain::trade_word;
 use crate::explore::{self, Failure, Limits, Net};
@@ -140,10 +140,10 @@ impl Finding<'_> {
     }
 
     /// The counters of a bad and what to explore for it alone.
-    fn alone(&self, bad: &Bad, explore: impl FnOnce(&Net, &[(usize, u16)]) -> Fate) -> Fate {
+    fn alone(&self, bad: &Bad, explore: impl FnOnce(&Net, &[Sum]) -> Fate) -> Fate {
         let Derived { program, tables, system } = self.derived;
-        let Some(items) = bad_counters(program, tables, system, bad) else { return Fate::NoCounter };
-        let start = tables.state(program.rows, program.start).unwrap_or(0);
+        let Some(items) = bad_sums(tables, system, bad) else { return Fate::NoCounter };
+        let start = tables.state(program.opening()).unwrap_or(0);
         explore(&Net { system, start, bads: &[Some(items.clone())] }, &items)
     }
 

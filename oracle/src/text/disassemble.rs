@@ -155,8 +155,8 @@ impl Writer<'_> {
             self.line(0, &format!("%   {}: {}", self.symbols.class(class), self.symbols.value(value)));
         }
         self.line(0, "% states: counters 0 and up");
-        for (i, &(class, head)) in tables.states.iter().enumerate() {
-            self.line(0, &format!("%   {i}: {}", self.symbols.state(class, head)));
+        for (i, &state) in tables.states.iter().enumerate() {
+            self.line(0, &format!("%   {i}: {}", self.symbols.state(state)));
         }
         self.system(read);
     }

@@ -63,7 +63,7 @@ impl Telling<'_> {
     fn rule(&self, rule: usize) -> String {
         let (tables, system) = (self.derived.tables, self.derived.system);
         let rule = &system.rules[rule];
-        let (_, head) = tables.states[rule.from];
+        let head = tables.states[rule.from].head;
         format!("{} [{}]", self.symbols.rule(tables, system, rule), self.symbols.line(head))
     }
 }

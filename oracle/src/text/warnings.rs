@@ -2,8 +2,8 @@
 
 use crate::analysis::Analysis;
 use crate::bads::{Bad, Place};
-use crate::bounds::item_counter;
-use crate::program::{Branch, Head, Pattern, Row};
+use crate::bounds::item_counters;
+use crate::program::{Branch, Head, Pattern, Row, State};
 use crate::replay::Derived;
 use crate::symbols::Symbols;
 use std::collections::BTreeMap;
@@ -25,11 +25,18 @@ impl Warner<'_> {
     fn stops(&self) -> Vec<String> {
         let ranges = self.derived.system.by_state();
         let states = self.derived.tables.states.iter().zip(ranges).filter(|(_, range)| range.is_empty());
-        let stops = states.filter_map(|(&(class, head), _)| {
-            let why = self.why(head)?;
-            Some(format!("{} can't step: {why}", self.symbols.state(class, head)))
+        let mut places: Vec<State> = states.map(|(&state, _)| self.place(state)).collect();
+        places.dedup();
+        let stops = places.into_iter().filter_map(|place| {
+            let why = self.why(place.head)?;
+            Some(format!("{} can't step: {why}", self.symbols.state(place)))
         });
         stops.collect()
+    }
+
+    /// A state without its return: what stands in a routine is told once, not once for each call of it.
+    fn place(&self, state: State) -> State {
+        self.derived.program.fresh(state.class, state.head)
     }
 
     /// Why nothing can step at a head, if it neither gives back nor receives.
@@ -52,16 +59,16 @@ impl Warner<'_> {
     fn functions_sent(&self) -> Vec<String> {
         let Derived { program, tables, .. } = self.derived;
         let mailed = tables.mail_pairs(program).into_iter().filter(|&(_, value)| program.function(value).is_some());
-        let mut sent: BTreeMap<(usize, Row), Vec<usize>> = BTreeMap::new();
+        let mut sent: BTreeMap<State, Vec<usize>> = BTreeMap::new();
         for (class, function) in mailed {
             let senders = self.analysis.senders(class, function);
-            senders.for_each(|sender| sent.entry(sender).or_default().push(function));
+            senders.for_each(|sender| sent.entry(self.place(sender)).or_default().push(function));
         }
-        let told = |((class, head), mut functions): ((usize, Row), Vec<usize>)| {
+        let told = |(sender, mut functions): (State, Vec<usize>)| {
             functions.sort_unstable();
             functions.dedup();
             let functions: Vec<String> = functions.iter().map(|&function| self.symbols.value(function)).collect();
-            let (state, functions) = (self.symbols.state(class, head), functions.join(" or "));
+            let (state, functions) = (self.symbols.state(sender), functions.join(" or "));
             format!("{state} may send {functions}: functions are sent inside a constructor only")
         };
         sent.into_iter().map(told).collect()
@@ -70,8 +77,8 @@ impl Warner<'_> {
     /// Branches of a case or receive that a process comes to, which no value matches there.
     fn branches(&self) -> Vec<String> {
         let mut classes: BTreeMap<Row, Vec<usize>> = BTreeMap::new();
-        for &(class, head) in &self.derived.tables.states {
-            classes.entry(head).or_default().push(class);
+        for state in &self.derived.tables.states {
+            classes.entry(state.head).or_default().push(state.class);
         }
         classes.iter().flat_map(|(&head, classes)| self.branches_of(head, classes)).collect()
     }
@@ -105,7 +112,7 @@ impl Warner<'_> {
     fn bads(&self, bads: &[Bad]) -> Vec<String> {
         let Derived { program, tables, system } = self.derived;
         let without = bads.iter().enumerate().filter_map(|(i, bad)| {
-            let item = bad.items.iter().find(|item| item_counter(program, tables, system, item).is_none())?;
+            let item = bad.items.iter().find(|item| item_counters(tables, system, item).is_none())?;
             let why = match item.place {
                 Place::Letter(letter) if letter == program.arities.len() => "where a function is sent that is refused",
                 _ => "by the tables it never happens",

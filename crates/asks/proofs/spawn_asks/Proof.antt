@@ -38,12 +38,12 @@ state-index-requires : tie.Need-state-index-requires
 state-index-requires c κs = search needs
 
 returns-3 : tie.Need-returns-3
-unfolding tables entries columns
-returns-3 c = spawn-told _ _ _ _ _ (c .before .before .before .before .before .before .before .before .before .takes .ensures) (c .before .before .before .before .before .before .before .before .if1 .left) _ (c .before .before .before .before .before .before .num .ensures) _ (held _ _ (c .before .before .before .before .before .before .before .before .before .before .before .before .pre .1 .0) _ _ _ _ (c .before .before .before .before .before .before .before .width .ensures) (spawn-below (c .before .before .before .before .before .before .before .before .before .before .before .before .pre .0) _ _ (c .before .before .before .before .before .before .before .before .before .before .before .before .pre .1 .1) (c .before .before .before .before .before .before .num .ensures)) (row-below (c .before .before .before .before .before .before .before .before .before .before .before .before .pre .0) (c .before .before .before .before .before .before .before .before .before .before .before .before .args .r) (omega (arith, c .before .before .before .before .before .before .before .before .before .before .before .before .pre .1 .1)) .0) (c .before .before .before .before .before .holds .ensures)) (c .before .before .before .before .if2 .left) _ _ (c .before .before .before .body .ensures) (c .before .before .state-index .ensures) _ _ (sym (lt-ltb _ _ (c .if3 .taken))) (there-yes true refl)
+unfolding program tables entries columns
+returns-3 c = spawn-told _ _ _ _ _ (c .before .before .before .before .before .before .before .before .before .takes .ensures) (c .before .before .before .before .before .before .before .before .if1 .left) _ (c .before .before .before .before .before .before .num .ensures) _ (held _ _ (c .before .before .before .before .before .before .before .before .before .before .before .before .pre .1 .0) _ _ _ _ (c .before .before .before .before .before .before .before .width .ensures) (spawn-below (c .before .before .before .before .before .before .before .before .before .before .before .before .pre .0) _ _ (c .before .before .before .before .before .before .before .before .before .before .before .before .pre .1 .1) (c .before .before .before .before .before .before .num .ensures)) (row-below (c .before .before .before .before .before .before .before .before .before .before .before .before .pre .0) (c .before .before .before .before .before .before .before .before .before .before .before .before .args .r) (omega (arith, c .before .before .before .before .before .before .before .before .before .before .before .before .pre .1 .1)) .0) (c .before .before .before .before .before .holds .ensures)) (c .before .before .before .before .if2 .left) _ _ _ (c .before .before .before .body .ensures) refl (c .before .before .state-index .ensures) _ _ (sym (lt-ltb _ _ (c .if3 .taken))) (there-yes true refl)
 
 returns-4 : tie.Need-returns-4
-unfolding tables entries columns
-returns-4 c = spawn-told _ _ _ _ _ (c .before .before .before .before .before .before .before .before .before .takes .ensures) (c .before .before .before .before .before .before .before .before .if1 .left) _ (c .before .before .before .before .before .before .num .ensures) _ (held _ _ (c .before .before .before .before .before .before .before .before .before .before .before .before .pre .1 .0) _ _ _ _ (c .before .before .before .before .before .before .before .width .ensures) (spawn-below (c .before .before .before .before .before .before .before .before .before .before .before .before .pre .0) _ _ (c .before .before .before .before .before .before .before .before .before .before .before .before .pre .1 .1) (c .before .before .before .before .before .before .num .ensures)) (row-below (c .before .before .before .before .before .before .before .before .before .before .before .before .pre .0) (c .before .before .before .before .before .before .before .before .before .before .before .before .args .r) (omega (arith, c .before .before .before .before .before .before .before .before .before .before .before .before .pre .1 .1)) .0) (c .before .before .before .before .before .holds .ensures)) (c .before .before .before .before .if2 .left) _ _ (c .before .before .before .body .ensures) (c .before .before .state-index .ensures) _ _ (sym (le-ltb _ _ (c .if3 .left))) (there-no false refl)
+unfolding program tables entries columns
+returns-4 c = spawn-told _ _ _ _ _ (c .before .before .before .before .before .before .before .before .before .takes .ensures) (c .before .before .before .before .before .before .before .before .if1 .left) _ (c .before .before .before .before .before .before .num .ensures) _ (held _ _ (c .before .before .before .before .before .before .before .before .before .before .before .before .pre .1 .0) _ _ _ _ (c .before .before .before .before .before .before .before .width .ensures) (spawn-below (c .before .before .before .before .before .before .before .before .before .before .before .before .pre .0) _ _ (c .before .before .before .before .before .before .before .before .before .before .before .before .pre .1 .1) (c .before .before .before .before .before .before .num .ensures)) (row-below (c .before .before .before .before .before .before .before .before .before .before .before .before .pre .0) (c .before .before .before .before .before .before .before .before .before .before .before .before .args .r) (omega (arith, c .before .before .before .before .before .before .before .before .before .before .before .before .pre .1 .1)) .0) (c .before .before .before .before .before .holds .ensures)) (c .before .before .before .before .if2 .left) _ _ _ (c .before .before .before .body .ensures) refl (c .before .before .state-index .ensures) _ _ (sym (le-ltb _ _ (c .if3 .left))) (there-no false refl)
 
 pub spawn-asks-spec : {M : Type 1} → statement M
 spawn-asks-spec =

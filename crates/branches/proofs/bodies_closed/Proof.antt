@@ -1,19 +1,18 @@
 use native.Mathlib.Omega.{arith}
 use mathlib.Core.Path.{refl, sym, _∙_, ap}
 use borrow.Author.Tests.{not-true, not-false}
-use Rattle.model.specs.Words.{columns}
 use Rattle.model.specs.Rows.{program}
-use Rattle.model.specs.Tables.{tables}
+use Rattle.model.specs.Tables.{tables, state-at}
 use Rattle.branches.proofs.Walk.{Bodies, branch-at, bodies-over, bodies-fail, bodies-next, behind-told}
 use borrow.Author.Needs.{needs}
 use Rattle.branches.proofs.bodies_closed.Statement.{statement}
 use Rattle.branches.proofs.bodies_closed.Tie as tie
 
 abbrev Inv-loop : tie.InvT-loop
-Inv-loop ws s afters here c q count bits row₀ left₀ more₀ row left more = Bodies (program ws s) (tables ws s) c count q bits row left more
+Inv-loop ws s afters at i q count bits row₀ left₀ more₀ row left more = Bodies (program ws s) (tables ws s) (state-at (tables ws s) i) count q bits row left more
 
 abbrev μ-loop : tie.MeasureT-loop
-μ-loop ws s afters here c q count bits row₀ left₀ more₀ row left more = left
+μ-loop ws s afters at i q count bits row₀ left₀ more₀ row left more = left
 
 loop-holds : tie.Need-loop-holds Inv-loop μ-loop
 loop-holds c = record { run = c .before .before .before .pre .1 .1 .1; to-come = refl }
@@ -22,8 +21,7 @@ word-requires : tie.Need-word-requires Inv-loop μ-loop
 word-requires c κs = omega (arith, (branch-at (c .before .before .before .before .before .pre .1 .0) _ _ (c .before .loop .inv .run) (search needs)) .row-low, c .before .before .before .before .before .pre .1 .0 .room)
 
 body-closed-requires : tie.Need-body-closed-requires Inv-loop μ-loop
-unfolding program columns
-body-closed-requires c κs = (c .before .before .before .before .before .before .pre .0, (c .before .before .before .before .before .before .pre .1 .1 .0, omega (arith, (branch-at (c .before .before .before .before .before .before .pre .1 .0) _ _ (c .before .before .loop .inv .run) (search needs)) .body-low, (branch-at (c .before .before .before .before .before .before .pre .1 .0) _ _ (c .before .before .loop .inv .run) (search needs)) .body, c .word .ensures .0)))
+body-closed-requires c κs = (c .before .before .before .before .before .before .pre .0, c .before .before .before .before .before .before .pre .1 .1 .0)
 
 returns : tie.Need-returns Inv-loop μ-loop
 returns c = bodies-fail (c .before .before .before .before .loop .inv) (branch-at (c .before .before .before .before .before .before .before .before .pre .1 .0) _ _ (c .before .before .before .before .loop .inv .run) (search needs)) _ (c .before .before .word .ensures .0 ∙ (branch-at (c .before .before .before .before .before .before .before .before .pre .1 .0) _ _ (c .before .before .before .before .loop .inv .run) (search needs)) .body) _ (c .before .body-closed .ensures) (not-true _ (c .if1 .taken))

@@ -39,7 +39,7 @@ is-none-requires c κs = search needs
 returns : tie.Need-returns
 returns c =
     ap not (c .is-none .ensures) ∙
-    (not-not _ ∙ any-same 256 _ _ (λ k h. settled-bit (has (c .before .before .before .before .before .before .before .args .left) k) (has (c .before .before .before .before .before .before .before .args .above) k) _ _ _ _ _ _ _ (c .before .and2 .ensures k) (c .before .before .or .ensures k) (c .before .before .before .load2 .ensures k h) (c .before .before .before .before .and .ensures k) (c .before .before .before .before .before .load .ensures k h)))
+    (not-not _ ∙ any-same 0 256 _ _ (λ k h. settled-bit (has (c .before .before .before .before .before .before .before .args .left) k) (has (c .before .before .before .before .before .before .before .args .above) k) _ _ _ _ _ _ _ (c .before .and2 .ensures k) (c .before .before .or .ensures k) (c .before .before .before .load2 .ensures k h) (c .before .before .before .before .and .ensures k) (c .before .before .before .before .before .load .ensures k h)))
 
 pub settled-spec : {M : Type 1} → statement M
 settled-spec =

@@ -26,7 +26,7 @@ cast-result c = search needs
 
 returns : tie.Need-returns
 unfolding bad-rows right columns bads-at
-returns c = c .column .ensures
+returns c = (c .column .ensures, search needs)
 
 pub bad-number-spec : {M : Type 1} → statement M
 bad-number-spec =

@@ -3,17 +3,22 @@ use Prim.Native.Nat.{_+_, _-_, _≤_}
 use mathlib.Core.Path.{_≡_, refl, sym, _∙_}
 use borrow.Author.Needs.{needs}
 use Rattle.model.specs.Bads.{bad-rows, met}
-use Rattle.ceilings_met.specs.Items.{most}
+use Rattle.model.specs.Rows.{program}
+use Rattle.model.specs.Tables.{tables}
+use Rattle.model.specs.Markings.{sum-in}
+use Rattle.ceilings_met.specs.Items.{items-at}
+use Rattle.ceilings_met.specs.Sums.{counts-of}
 use Rattle.ceilings_met.proofs.BadRows.{bad-inside}
 use Rattle.ceilings_met.proofs.Meeting.{meets-end, meets-not, meets-next}
 use Rattle.ceilings_met.proofs.meets.Statement.{statement}
 use Rattle.ceilings_met.proofs.meets.Tie as tie
 
 abbrev Inv-loop : tie.InvT-loop
-Inv-loop ws s n limits items k r i₀ i = (met (most ws s n k) (bad-rows ws s) r ≡ met (most ws s n k) (bad-rows ws s) i) × (i ≤ s .badrows + 3)
+Inv-loop ws s froms tos sums r i₀ i =
+    (met (sum-in (program ws s) (tables ws s) (counts-of sums)) (items-at (bad-rows ws s) r) ≡ met (sum-in (program ws s) (tables ws s) (counts-of sums)) (items-at (bad-rows ws s) i)) × (i ≤ s .badrows + 3)
 
 abbrev μ-loop : tie.MeasureT-loop
-μ-loop ws s n limits items k r i₀ i = s .badrows + 3 - i
+μ-loop ws s froms tos sums r i₀ i = s .badrows + 3 - i
 
 loop-holds : tie.Need-loop-holds Inv-loop μ-loop
 loop-holds c = (refl, search needs)
@@ -22,7 +27,7 @@ bad-tag-requires : tie.Need-bad-tag-requires Inv-loop μ-loop
 bad-tag-requires c κs = search needs
 
 returns : tie.Need-returns Inv-loop μ-loop
-returns c = let a = c .before .before .before .before .before .before .args in meets-end (a .ws .now) (a .s) (a .n) (a .k) _ _ _ (c .before .before .loop .inv .0) (c .before .bad-tag .ensures) (c .if1 .taken)
+returns c = let a = c .before .before .before .before .before .before .before .args in meets-end (a .ws .now) (a .s) _ _ _ _ (c .before .before .loop .inv .0) (c .before .bad-tag .ensures) (c .if1 .taken)
 
 add-bad-number : tie.Need-add-bad-number Inv-loop μ-loop
 add-bad-number c = search needs
@@ -31,10 +36,10 @@ bad-number-requires : tie.Need-bad-number-requires Inv-loop μ-loop
 bad-number-requires c κs = search needs
 
 item-count-requires : tie.Need-item-count-requires Inv-loop μ-loop
-item-count-requires c κs = let p = c .before .before .before .before .before .before .before .pre in (p .0, (search needs, sym (c .before .before .bad-tag .ensures) ∙ c .before .if1 .left))
+item-count-requires c κs = (c .before .before .before .before .before .before .before .before .pre .0, bad-inside _ _ _ (sym (c .before .before .bad-tag .ensures) ∙ c .before .if1 .left))
 
 returns-2 : tie.Need-returns-2 Inv-loop μ-loop
-returns-2 c = let a = c .before .before .before .before .before .before .before .before .before .args in meets-not (a .ws .now) (a .s) (a .n) (a .k) _ _ _ (c .before .before .before .before .before .loop .inv .0) (c .before .before .before .before .bad-tag .ensures) (c .before .before .before .if1 .left) _ _ (c .before .before .bad-number .ensures) (c .before .item-count .ensures) (search needs)
+returns-2 c = let a = c .before .before .before .before .before .before .before .before .before .before .args in meets-not (a .ws .now) (a .s) _ _ _ _ (c .before .before .before .before .before .loop .inv .0) (c .before .before .before .before .bad-tag .ensures) (c .before .before .before .if1 .left) _ _ (c .before .before .bad-number .ensures .0) (c .before .item-count .ensures) (search needs)
 
 add-i : tie.Need-add-i Inv-loop μ-loop
 add-i c = search needs
@@ -44,9 +49,9 @@ loop-less c = let h = bad-inside _ _ _ (sym (c .before .before .before .before .
 
 loop-again : tie.Need-loop-again Inv-loop μ-loop
 loop-again c =
-    let a = c .before .before .before .before .before .before .before .before .before .args in
+    let a = c .before .before .before .before .before .before .before .before .before .before .args in
     let h = bad-inside _ _ _ (sym (c .before .before .before .before .bad-tag .ensures) ∙ c .before .before .before .if1 .left) in
-    (meets-next (a .ws .now) (a .s) (a .n) (a .k) _ _ _ (c .before .before .before .before .before .loop .inv .0) (c .before .before .before .before .bad-tag .ensures) (c .before .before .before .if1 .left) _ _ (c .before .before .bad-number .ensures) (c .before .item-count .ensures) (search needs), search needs)
+    (meets-next (a .ws .now) (a .s) _ _ _ _ (c .before .before .before .before .before .loop .inv .0) (c .before .before .before .before .bad-tag .ensures) (c .before .before .before .if1 .left) _ _ (c .before .before .bad-number .ensures .0) (c .before .item-count .ensures) (search needs), search needs)
 
 pub meets-spec : {M : Type 1} → statement M
 meets-spec =

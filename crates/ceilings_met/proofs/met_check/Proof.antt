@@ -1,62 +1,64 @@
--- The loop's invariant: the first bad allowed is the first of those from bad j on, which stand from row r.
-use Prim.Native.Nat.{_-_, _≤_, zero-le}
-use native.Mathlib.Omega.{arith}
-use mathlib.Core.Path.{_≡_, refl, _∙_}
+-- The loop's invariant: `least` is the first bad that one of the first k ceilings allows.
+use Prim.Native.Nat.{_-_, _≤_}
+use mathlib.Core.Path.{_≡_, refl}
+use lib.ListN.{length}
 use Rattle.model.specs.Message.{bads-at}
-use Rattle.model.specs.Index.{first}
-use Rattle.model.proofs.Index.{first-hit, first-miss, first-end}
-use Rattle.ceilings_met.proofs.Meeting.{Bads-walked, bads-start, bads-stand, bads-next, bads-inside, bad-here, bad-at, met-refused, met-safe}
+use Rattle.ceilings_met.proofs.Meeting.{allows, first-allowed, first-none, first-upto, limits-room, summed, allowed-next, met-safe, met-refused}
+use borrow.Author.Needs.{needs}
 use Rattle.ceilings_met.proofs.met_check.Statement.{statement}
 use Rattle.ceilings_met.proofs.met_check.Tie as tie
 
 abbrev Inv-loop : tie.InvT-loop
-Inv-loop ws s n limits items at r₀ j₀ j-end r j = (first 0 (s .bads) (bad-here ws s n) ≡ first j (s .bads) (bad-here ws s n)) × Bads-walked ws s n j r × (j ≤ s .bads)
+Inv-loop ws s n limits froms tos sums₀ least₀ k₀ k-end sums least k = (least ≡ first-allowed ws s n k) × (least ≤ s .bads) × (k ≤ s .ceilings) × (length sums ≡ length sums₀)
 
 abbrev μ-loop : tie.MeasureT-loop
-μ-loop ws s n limits items at r₀ j₀ j-end r j = s .bads - j
-
-mul-at : tie.Need-mul-at Inv-loop μ-loop
-mul-at c = record { fits = omega (arith, c .before .before .before .before .pre .0 .whole .limits .rows) }
-
-add-at : tie.Need-add-at Inv-loop μ-loop
-add-at c = record { fits = omega (arith, c .before .before .before .before .pre .0 .whole .limits .rows) }
-
-add-at-2 : tie.Need-add-at-2 Inv-loop μ-loop
-add-at-2 c = record { fits = omega (arith, c .before .before .before .before .pre .0 .whole .limits .rows) }
+μ-loop ws s n limits froms tos sums₀ least₀ k₀ k-end sums least k = s .ceilings - k
 
 loop-holds : tie.Need-loop-holds Inv-loop μ-loop
-loop-holds c = let a = c .before .before .before .before .args in (refl, bads-start (a .ws .now) (a .s) (a .n) (c .before .before .before .before .pre .1), zero-le)
+loop-holds c = (first-none (c .before .before .before .before .before .args .s .bads) (allows (c .before .before .before .before .before .args .ws .now) (c .before .before .before .before .before .args .s) (c .before .before .before .before .before .args .n)), search needs, search needs, refl)
 
-add-here : tie.Need-add-here Inv-loop μ-loop
-add-here c = let a = c .before .before .before .before .before .before .args in let h = bads-inside (a .ws .now) (a .s) (a .n) _ _ (c .before .loop .inv .1) in let l = c .before .before .before .before .before .before .pre .0 .whole .limits in record { fits = omega (arith, h, l .rows, l .badrows) }
+fill-sums-requires : tie.Need-fill-sums-requires Inv-loop μ-loop
+fill-sums-requires c κs = ((search needs, c .before .before .before .before .before .before .before .before .pre .0 .counters-low), (limits-room (c .before .before .before .before .before .before .before .before .args .ws .now) (c .before .before .before .before .before .before .before .before .args .s) _ _ (c .before .before .before .before .before .before .before .before .pre .0 .limits-table), search needs))
 
-some-allows-requires : tie.Need-some-allows-requires Inv-loop μ-loop
-some-allows-requires c κs = let a = c .before .before .before .before .before .before .args in (c .before .before .before .before .before .before .pre .0, bads-inside (a .ws .now) (a .s) (a .n) _ _ (c .before .loop .inv .1))
+first-met-requires : tie.Need-first-met-requires Inv-loop μ-loop
+first-met-requires c κs = (summed (c .before .before .before .before .before .before .before .before .before .before .before .before .args .ws .now) (c .before .before .before .before .before .before .before .before .before .before .before .before .args .s) _ _ _ _ (c .before .before .before .before .before .before .before .before .before .before .before .before .pre .0) _ (search needs) _ (c .before .before .before .fill-sums .ensures) (search needs), (c .before .before .before .before .before .before .before .before .before .before .before .before .pre .1 .0, search needs))
 
-returns : tie.Need-returns Inv-loop μ-loop
-unfolding bads-at
-returns c =
-    let a = c .before .before .before .before .before .before .before .before .args in
-    let h = c .before .before .before .loop in
-    met-refused (a .ws .now) (a .s) (a .n) _ _ _ (h .inv .1) (c .before .before .loop-test .taken) (h .inv .0 ∙ first-hit _ _ _ (c .before .before .loop-test .taken) (bad-at _ _ _ _ _ _ (h .inv .1) (c .before .some-allows .ensures) ∙ c .if1 .taken)) refl
-
-next-bad-requires : tie.Need-next-bad-requires Inv-loop μ-loop
-next-bad-requires c κs = let a = c .before .before .before .before .before .before .before .before .args in let w = c .before .before .before .loop .inv .1 in (c .before .before .before .before .before .before .before .before .pre .0 .whole, (bads-inside (a .ws .now) (a .s) (a .n) _ _ w, bads-stand (a .ws .now) (a .s) (a .n) _ _ w (c .before .before .loop-test .taken)))
-
-add-j : tie.Need-add-j Inv-loop μ-loop
-add-j c = record { fits = omega (arith, c .before .before .before .loop-test .taken, c .before .before .before .before .before .before .before .before .before .pre .0 .whole .limits .bads) }
+add-k : tie.Need-add-k Inv-loop μ-loop
+add-k c = search needs
 
 loop-less : tie.Need-loop-less Inv-loop μ-loop
-loop-less c = omega (arith, c .before .before .before .loop-test .taken)
+loop-less c = search needs
 
 loop-again : tie.Need-loop-again Inv-loop μ-loop
-loop-again c =
-    let a = c .before .before .before .before .before .before .before .before .before .args in
-    let h = c .before .before .before .before .loop in
-    (h .inv .0 ∙ first-miss _ _ _ (c .before .before .before .loop-test .taken) (bad-at _ _ _ _ _ _ (h .inv .1) (c .before .before .some-allows .ensures) ∙ c .before .if1 .left), bads-next (a .ws .now) (a .s) (a .n) _ _ _ (h .inv .1) (c .before .before .before .loop-test .taken) (c .next-bad .ensures), omega (arith, c .before .before .before .loop-test .taken))
+loop-again c = (allowed-next (c .before .before .before .before .before .before .before .before .before .before .before .before .before .args .ws .now) (c .before .before .before .before .before .before .before .before .before .before .before .before .before .args .s) _ _ _ _ (c .before .before .before .before .before .before .before .before .before .before .before .before .before .pre .0) _ (search needs) _ (c .before .before .before .before .fill-sums .ensures) _ _ (c .before .before .before .before .before .before .before .loop .inv .0) (c .first-met .ensures), first-upto _ _ _ _ (c .first-met .ensures) (search needs), search needs, search needs)
+
+same-length : tie.Need-same-length Inv-loop μ-loop
+same-length c = search needs
+
+returns : tie.Need-returns Inv-loop μ-loop
+returns c = let e : c .before .before .before .loop .k ≡ c .before .before .before .before .before .before .before .before .before .args .s .ceilings = search needs in met-safe (c .before .before .before .before .before .before .before .before .before .args .ws .now) (c .before .before .before .before .before .before .before .before .before .args .s) (c .before .before .before .before .before .before .before .before .before .args .n) _ (rw e at (c .before .before .before .loop .inv .0)) (c .if1 .taken)
+
+mul-at : tie.Need-mul-at Inv-loop μ-loop
+mul-at c = search needs
+
+add-at : tie.Need-add-at Inv-loop μ-loop
+add-at c = search needs
+
+add-at-2 : tie.Need-add-at-2 Inv-loop μ-loop
+add-at-2 c = search needs
+
+bad-row-requires : tie.Need-bad-row-requires Inv-loop μ-loop
+bad-row-requires c κs = (c .before .before .before .before .before .before .before .before .before .before .pre .0 .whole, (c .before .before .before .before .before .before .before .before .before .before .pre .1 .0, c .before .before .before .before .loop .inv .1))
+
+add-here : tie.Need-add-here Inv-loop μ-loop
+add-here c = search needs
+
+same-length-2 : tie.Need-same-length-2 Inv-loop μ-loop
+same-length-2 c = search needs
 
 returns-2 : tie.Need-returns-2 Inv-loop μ-loop
-returns-2 c = let h = c .before .loop in met-safe _ _ _ _ (omega (arith, c .loop-test .left, h .inv .2)) (h .inv .0 ∙ first-end _ _ _ (c .loop-test .left))
+unfolding bads-at
+returns-2 c = let e : c .before .before .before .before .before .loop .k ≡ c .before .before .before .before .before .before .before .before .before .before .before .args .s .ceilings = search needs in met-refused (c .before .before .before .before .before .before .before .before .before .before .before .args .ws .now) (c .before .before .before .before .before .before .before .before .before .before .before .args .s) (c .before .before .before .before .before .before .before .before .before .before .before .args .n) _ _ _ (rw e at (c .before .before .before .before .before .loop .inv .0)) (c .before .before .if1 .left) (c .bad-row .ensures .0) refl
 
 pub met-check-spec : {M : Type 1} → statement M
 met-check-spec =
@@ -64,15 +66,18 @@ met-check-spec =
     (tie.spec
     Inv-loop
     μ-loop
+    loop-holds
+    fill-sums-requires
+    first-met-requires
+    add-k
+    loop-less
+    loop-again
+    same-length
+    returns
     mul-at
     add-at
     add-at-2
-    loop-holds
+    bad-row-requires
     add-here
-    some-allows-requires
-    returns
-    next-bad-requires
-    add-j
-    loop-less
-    loop-again
+    same-length-2
     returns-2)

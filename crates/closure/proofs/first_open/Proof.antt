@@ -5,34 +5,26 @@ use lib.ListN.{length}
 use Rattle.model.specs.Words.{columns}
 use Rattle.model.specs.Rows.{program}
 use Rattle.model.specs.Tables.{tables, entries}
-use Rattle.values.specs.Values.{width}
 use Rattle.codes.specs.Codes.{Codes}
-use Rattle.closure.proofs.Entering.{Opens, opens-begin, opens-here, opens-next, opens-over, head-some, class-some, same-values, same-begins}
+use Rattle.closure.proofs.Opens.{Opens, opens-begin, opens-here, opens-next, opens-over}
 use borrow.Author.Needs.{needs}
 use Rattle.closure.proofs.first_open.Statement.{statement}
 use Rattle.closure.proofs.first_open.Tie as tie
 
 abbrev Inv-loop : tie.InvT-loop
-Inv-loop ws s afters inners starts flow mail may held codes₀ here₀ branches₀ last₀ from₀ i₀ codes here branches last from i = Opens (program ws s) (tables ws s) here branches (width (s .rows)) last from i × (((length here ≡ length here₀) × (length branches ≡ length branches₀)) × (Codes (program ws s) (tables ws s) codes × (length codes ≡ length codes₀)))
+Inv-loop ws s afters starts flow mail may held codes₀ at₀ branches₀ i₀ codes at branches i = Opens (program ws s) (tables ws s) branches i × (((length at ≡ length at₀) × (length branches ≡ length branches₀)) × (Codes (program ws s) (tables ws s) codes × (length codes ≡ length codes₀)))
 
 abbrev μ-loop : tie.MeasureT-loop
-μ-loop ws s afters inners starts flow mail may held codes₀ here₀ branches₀ last₀ from₀ i₀ codes here branches last from i = s .states - i
+μ-loop ws s afters starts flow mail may held codes₀ at₀ branches₀ i₀ codes at branches i = s .states - i
 
 loop-holds : tie.Need-loop-holds Inv-loop μ-loop
-loop-holds c = (opens-begin _ _ _ (c .before .before .before .before .before .before .before .before .before .before .before .pre .1 .1 .1 .1 .1 .1 .1 .0), ((refl, refl), (c .before .before .before .before .before .before .before .before .before .before .before .pre .1 .1 .1 .1 .1 .1 .1 .1 .1, refl)))
+loop-holds c = (opens-begin _, ((refl, refl), (c .before .before .before .before .before .before .before .before .before .before .pre .1 .1 .1 .1 .1 .1 .1, refl)))
 
-turn-requires : tie.Need-turn-requires Inv-loop μ-loop
-turn-requires c κs = (c .before .before .before .before .before .before .before .before .before .before .before .before .before .before .before .pre .0, (c .before .before .before .loop .inv .0 .entered, search needs))
-
-state-class-requires : tie.Need-state-class-requires Inv-loop μ-loop
-state-class-requires c κs = search needs
-
-state-location-requires : tie.Need-state-location-requires Inv-loop μ-loop
-state-location-requires c κs = search needs
+guess-class-requires : tie.Need-guess-class-requires Inv-loop μ-loop
+guess-class-requires c κs = search needs
 
 settled-bits-requires : tie.Need-settled-bits-requires Inv-loop μ-loop
-unfolding tables entries columns
-settled-bits-requires c κs = (c .before .before .before .before .before .before .before .before .before .before .before .before .before .before .before .before .before .before .before .before .before .before .pre .0, (c .before .before .before .before .before .before .before .before .before .before .before .before .before .before .before .before .before .before .before .before .before .before .pre .1 .0, (c .before .before .before .before .before .before .before .before .before .before .before .before .before .before .before .before .before .before .before .before .before .before .pre .1 .1 .0, (c .before .before .before .before .before .before .before .before .before .before .before .before .before .before .before .before .before .before .before .before .before .before .pre .1 .1 .1 .0, (c .before .before .before .before .before .before .before .before .before .before .before .before .before .before .before .before .before .before .before .before .before .before .pre .1 .1 .1 .1 .0, (c .before .before .before .before .before .before .before .before .before .before .before .before .before .before .before .before .before .before .before .before .before .before .pre .1 .1 .1 .1 .1 .0, (c .before .before .before .before .before .before .before .before .before .before .before .before .before .before .before .before .before .before .before .before .before .before .pre .1 .1 .1 .1 .1 .1 .0, (c .before .before .before .before .before .before .before .before .before .before .loop .inv .1 .1 .0, ((same-values _ _ _ _ _ (c .before .before .before .state-class .ensures) (c .before .before .before .before .before .before .turn .ensures .0)), ((same-begins _ _ _ _ (c .before .before .before .state-class .ensures) (c .before .before .before .before .before .before .turn .ensures .1)), (class-some (c .before .before .before .before .before .before .before .before .before .before .before .before .before .before .before .before .before .before .before .before .before .before .pre .0) _ _ (search needs) (c .before .before .before .state-class .ensures), head-some (c .before .before .before .before .before .before .before .before .before .before .before .before .before .before .before .before .before .before .before .before .before .before .pre .0) _ _ (search needs) (c .before .before .state-location .ensures))))))))))))
+settled-bits-requires c κs = let h = c .before .before .before .before .before .before .before .before .before .before .before .before .before .before .before .before .before .before .before .pre in (h .0, (h .1 .0, (h .1 .1 .0, (h .1 .1 .1 .0, (h .1 .1 .1 .1 .0, (h .1 .1 .1 .1 .1 .0, (c .before .before .before .before .before .before .before .before .loop .inv .1 .1 .0, search needs)))))))
 
 same-length : tie.Need-same-length Inv-loop μ-loop
 same-length c = search needs
@@ -45,26 +37,26 @@ same-length-3 c = search needs
 
 returns : tie.Need-returns Inv-loop μ-loop
 unfolding tables entries columns
-returns c = (opens-here (c .before .before .before .before .before .before .before .before .before .before .before .before .before .before .loop .inv .0) (search needs) (c .before .before .before .before .before .before .before .before .before .before .turn .ensures .0) (c .before .before .before .before .before .before .before .before .before .before .turn .ensures .1) _ _ _ (c .before .before .before .before .before .before .before .state-class .ensures) (c .before .before .before .before .before .before .state-location .ensures) (c .before .before .before .settled-bits .ensures .0) (c .if2 .taken), c .before .before .before .before .before .before .before .before .before .before .before .before .before .before .loop .inv .0 .told)
+returns c = (opens-here (c .before .before .before .before .before .before .before .before .before .before .before .before .loop .inv .0) (search needs) _ (c .before .before .before .settled-bits .ensures .0) (c .if2 .taken), c .before .before .before .before .before .before .before .before .before .before .before .before .loop .inv .0 .told)
 
 cast-branches : tie.Need-cast-branches Inv-loop μ-loop
 cast-branches c = omega (arith, c .before .before .before .settled-bits .ensures .0 .most, c .if2 .left)
 
 mul-branches : tie.Need-mul-branches Inv-loop μ-loop
-mul-branches c = omega (arith, c .before .before .before .before .before .before .before .before .before .before .before .before .before .before .before .before .before .before .before .before .before .before .before .before .before .before .pre .0 .limits .states)
+mul-branches c = omega (arith, c .before .before .before .before .before .before .before .before .before .before .before .before .before .before .before .before .before .before .before .before .before .before .before .pre .0 .limits .states)
 
 slice-write-branches : tie.Need-slice-write-branches Inv-loop μ-loop
-slice-write-branches c = omega (arith, c .before .before .before .before .before .before .before .before .before .before .before .before .before .before .loop .inv .1 .0 .1, c .before .before .before .before .before .before .before .before .before .before .before .before .before .before .before .before .before .before .before .before .before .before .before .before .before .before .pre .1 .1 .1 .1 .1 .1 .1 .1 .0)
+slice-write-branches c = omega (arith, c .before .before .before .before .before .before .before .before .before .before .before .before .loop .inv .1 .0 .1, c .before .before .before .before .before .before .before .before .before .before .before .before .before .before .before .before .before .before .before .before .before .before .before .pre .1 .1 .1 .1 .1 .1 .0)
 
 add-i : tie.Need-add-i Inv-loop μ-loop
-add-i c = omega (arith, c .before .before .before .before .before .before .before .before .before .before .before .before .before .before .before .before .before .before .before .before .before .before .before .before .before .before .pre .0 .limits .states)
+add-i c = omega (arith, c .before .before .before .before .before .before .before .before .before .before .before .before .before .before .before .before .before .before .before .before .before .before .before .pre .0 .limits .states)
 
 loop-less : tie.Need-loop-less Inv-loop μ-loop
 loop-less c = search needs
 
 loop-again : tie.Need-loop-again Inv-loop μ-loop
 unfolding tables entries columns
-loop-again c = (opens-next (c .before .before .before .before .before .before .before .before .before .before .before .before .before .before .loop .inv .0) (search needs) (c .before .before .before .before .before .before .before .before .before .before .turn .ensures .0) (c .before .before .before .before .before .before .before .before .before .before .turn .ensures .1) _ _ _ (c .before .before .before .before .before .before .before .state-class .ensures) (c .before .before .before .before .before .before .state-location .ensures) (c .before .before .before .settled-bits .ensures .0) (c .if2 .left) (omega (arith, c .before .before .before .before .before .before .before .before .before .before .before .before .before .before .loop .inv .1 .0 .1, c .before .before .before .before .before .before .before .before .before .before .before .before .before .before .before .before .before .before .before .before .before .before .before .before .before .before .pre .1 .1 .1 .1 .1 .1 .1 .1 .0)), ((search needs, search needs), (c .before .before .before .settled-bits .ensures .1, search needs)))
+loop-again c = (opens-next (c .before .before .before .before .before .before .before .before .before .before .before .before .loop .inv .0) (search needs) _ (c .before .before .before .settled-bits .ensures .0) (c .if2 .left) (omega (arith, c .before .before .before .before .before .before .before .before .before .before .before .before .loop .inv .1 .0 .1, c .before .before .before .before .before .before .before .before .before .before .before .before .before .before .before .before .before .before .before .before .before .before .before .pre .1 .1 .1 .1 .1 .1 .0)), ((search needs, search needs), (c .before .before .before .settled-bits .ensures .1, search needs)))
 
 same-length-4 : tie.Need-same-length-4 Inv-loop μ-loop
 same-length-4 c = search needs
@@ -86,9 +78,7 @@ first-open-spec =
     Inv-loop
     μ-loop
     loop-holds
-    turn-requires
-    state-class-requires
-    state-location-requires
+    guess-class-requires
     settled-bits-requires
     same-length
     same-length-2

@@ -13,19 +13,19 @@ use Rattle.closure_sized.proofs.small_open.Reads as small-open-reads
 use Rattle.closure_sized.proofs.+open_verdict.{statement}
 use Rattle.closure_sized.proofs.+open_verdict.Tie.{close}
 
-abbrev μ-open-verdict : Measures 6 open-verdict-kinds.ps ℕ
+abbrev μ-open-verdict : Measures 5 open-verdict-kinds.ps ℕ
 μ-open-verdict κs a = 1024 - a .0
 
-abbrev open-verdict-at : ℕ → In 6 open-verdict-kinds.ps
+abbrev open-verdict-at : ℕ → In 5 open-verdict-kinds.ps
 open-verdict-at t =
-    and 6 open-verdict-kinds.ps (is 6 open-verdict-kinds.ps μ-open-verdict t) open-verdict.Pre
+    and 5 open-verdict-kinds.ps (is 5 open-verdict-kinds.ps μ-open-verdict t) open-verdict.Pre
 
-abbrev open-verdict-below : ℕ → In 6 open-verdict-kinds.ps
+abbrev open-verdict-below : ℕ → In 5 open-verdict-kinds.ps
 open-verdict-below t =
     and
-    6
+    5
     open-verdict-kinds.ps
-    (falls 6 open-verdict-kinds.ps _<_ μ-open-verdict t)
+    (falls 5 open-verdict-kinds.ps _<_ μ-open-verdict t)
     open-verdict.Pre
 
 abbrev open-verdict-claims : ℕ → open-verdict-lts.Claims
@@ -47,7 +47,7 @@ open-verdict-returns : (t : ℕ) → open-verdict-lts.Need-returns (open-verdict
 open-verdict-returns t c = search needs
 
 open-verdict-small-open-requires : (t : ℕ) → open-verdict-lts.Need-small-open-requires (open-verdict-claims t) (open-verdict-at t) open-verdict.Post
-open-verdict-small-open-requires t c κs = (c .before .before .before .before .before .before .before .before .before .before .before .before .before .before .before .pre .1 .1 .0, (c .before .before .before .before .before .before .before .before .before .before .before .before .before .before .before .pre .1 .1 .1 .0, (c .before .before .before .before .before .before .before .before .before .before .before .before .before .before .before .pre .1 .1 .1 .1 .0, (c .before .before .before .before .before .before .before .before .before .before .before .before .before .before .before .pre .1 .1 .1 .1 .1 .0, (c .before .before .before .before .before .before .before .before .before .before .before .before .before .before .before .pre .1 .1 .1 .1 .1 .1, (omega arith, omega arith))))))
+open-verdict-small-open-requires t c κs = (c .before .before .before .before .before .before .before .before .before .before .before .before .before .before .pre .1 .1 .0, (c .before .before .before .before .before .before .before .before .before .before .before .before .before .before .pre .1 .1 .1 .0, (c .before .before .before .before .before .before .before .before .before .before .before .before .before .before .pre .1 .1 .1 .1 .0, (c .before .before .before .before .before .before .before .before .before .before .before .before .before .before .pre .1 .1 .1 .1 .1, (omega arith, omega arith)))))
 
 open-verdict-same-length-4 : (t : ℕ) → open-verdict-lts.Need-same-length-4 (open-verdict-claims t) (open-verdict-at t) open-verdict.Post
 open-verdict-same-length-4 t c = search needs
@@ -62,7 +62,7 @@ open-verdict-returns-2 : (t : ℕ) → open-verdict-lts.Need-returns-2 (open-ver
 open-verdict-returns-2 t c = search needs
 
 open-verdict-middle-open-requires : (t : ℕ) → open-verdict-lts.Need-middle-open-requires (open-verdict-claims t) (open-verdict-at t) open-verdict.Post
-open-verdict-middle-open-requires t c κs = (c .before .before .before .before .before .before .before .before .before .before .before .before .before .before .before .before .pre .1 .1 .0, (c .before .before .before .before .before .before .before .before .before .before .before .before .before .before .before .before .pre .1 .1 .1 .0, (c .before .before .before .before .before .before .before .before .before .before .before .before .before .before .before .before .pre .1 .1 .1 .1 .0, (c .before .before .before .before .before .before .before .before .before .before .before .before .before .before .before .before .pre .1 .1 .1 .1 .1 .0, (c .before .before .before .before .before .before .before .before .before .before .before .before .before .before .before .before .pre .1 .1 .1 .1 .1 .1, (omega arith, omega arith))))))
+open-verdict-middle-open-requires t c κs = (c .before .before .before .before .before .before .before .before .before .before .before .before .before .before .before .pre .1 .1 .0, (c .before .before .before .before .before .before .before .before .before .before .before .before .before .before .before .pre .1 .1 .1 .0, (c .before .before .before .before .before .before .before .before .before .before .before .before .before .before .before .pre .1 .1 .1 .1 .0, (c .before .before .before .before .before .before .before .before .before .before .before .before .before .before .before .pre .1 .1 .1 .1 .1, (omega arith, omega arith)))))
 
 open-verdict-same-length-7 : (t : ℕ) → open-verdict-lts.Need-same-length-7 (open-verdict-claims t) (open-verdict-at t) open-verdict.Post
 open-verdict-same-length-7 t c = search needs
@@ -80,7 +80,7 @@ open-verdict-mul-open-verdict : (t : ℕ) → open-verdict-lts.Need-mul-open-ver
 open-verdict-mul-open-verdict t c = record { fits = omega arith }
 
 open-verdict-open-verdict-requires : (t : ℕ) → open-verdict-lts.Need-open-verdict-requires (open-verdict-claims t) (open-verdict-at t) open-verdict.Post
-open-verdict-open-verdict-requires t c κs = (omega arith, (omega arith, c .before .before .before .before .before .before .before .before .before .before .before .before .pre .1 .1))
+open-verdict-open-verdict-requires t c κs = (omega arith, (omega arith, c .before .before .before .before .before .before .before .before .before .before .before .pre .1 .1))
 
 open-verdict-same-length-10 : (t : ℕ) → open-verdict-lts.Need-same-length-10 (open-verdict-claims t) (open-verdict-at t) open-verdict.Post
 open-verdict-same-length-10 t c = search needs

@@ -24,8 +24,8 @@ row-sets-requires-2 c κs = search needs
 row-words32-requires : tie.Need-row-words32-requires
 row-words32-requires c κs = search needs
 
-words64-130-requires : tie.Need-words64-130-requires
-words64-130-requires c κs = search needs
+row-words16-requires-2 : tie.Need-row-words16-requires-2
+row-words16-requires-2 c κs = search needs
 
 slice-aggregate-open-check : tie.Need-slice-aggregate-open-check
 slice-aggregate-open-check c = search needs
@@ -51,8 +51,8 @@ slice-aggregate-open-check-7 c = search needs
 open-check-requires : tie.Need-open-check-requires
 unfolding width
 open-check-requires c κs =
-    let p = c .before .before .before .before .before .before .before .before .before .before .before .before .before .before .before .before .before .before .before .before .before .before .before .pre in
-    lends _ _ _ _ _ _ _ maxRows maxNames _ _ _ _ _ _ _ _ _ _ _ _ (p .0) (p .1 .0) (p .1 .1 .0) (p .1 .1 .1 .0) (p .1 .1 .1 .1) (p .0 .limits .rows .1) (p .0 .limits .names .1) (c .before .before .before .before .before .before .before .before .before .before .before .before .before .before .before .before .name-sets .ensures) (c .before .before .before .before .before .before .before .before .before .before .before .before .before .before .before .words16-66 .ensures) (c .before .before .before .before .before .before .before .before .before .before .before .before .before .before .row-words16 .ensures) (c .before .before .before .before .before .before .before .before .before .before .before .before .before .row-sets .ensures) (c .before .before .before .before .before .before .before .before .before .before .before .before .row-sets2 .ensures) (c .before .before .before .before .before .before .before .before .before .before .before .row-words32 .ensures) (c .before .before .before .before .before .before .before .before .before .before .words64-130 .ensures) (omega arith) (omega arith) (omega arith) (omega arith) (omega arith)
+    let p = c .before .before .before .before .before .before .before .before .before .before .before .before .before .before .before .before .before .before .before .before .before .before .pre in
+    lends _ _ _ _ _ _ maxRows maxNames _ _ _ _ _ _ _ _ _ _ (p .0) (p .1 .0) (p .1 .1 .0) (p .1 .1 .1) (p .0 .limits .rows .1) (p .0 .limits .names .1) (c .before .before .before .before .before .before .before .before .before .before .before .before .before .before .before .before .name-sets .ensures) (c .before .before .before .before .before .before .before .before .before .before .before .before .before .before .before .words16-66 .ensures) (c .before .before .before .before .before .before .before .before .before .before .before .before .before .before .row-words16 .ensures) (c .before .before .before .before .before .before .before .before .before .before .before .before .before .row-sets .ensures) (c .before .before .before .before .before .before .before .before .before .before .before .before .row-sets2 .ensures) (c .before .before .before .before .before .before .before .before .before .before .before .row-words32 .ensures) (omega arith) (omega arith) (omega arith) (omega arith)
 
 same-length : tie.Need-same-length
 same-length c = search needs
@@ -76,7 +76,7 @@ large-open-spec =
     row-sets-requires
     row-sets-requires-2
     row-words32-requires
-    words64-130-requires
+    row-words16-requires-2
     slice-aggregate-open-check
     slice-aggregate-open-check-2
     slice-aggregate-open-check-3

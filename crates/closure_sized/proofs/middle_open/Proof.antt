@@ -23,8 +23,8 @@ words64-1285-requires-3 c κs = search needs
 words32-258-requires : tie.Need-words32-258-requires
 words32-258-requires c κs = search needs
 
-words64-130-requires : tie.Need-words64-130-requires
-words64-130-requires c κs = search needs
+words16-258-requires-2 : tie.Need-words16-258-requires-2
+words16-258-requires-2 c κs = search needs
 
 slice-aggregate-open-check : tie.Need-slice-aggregate-open-check
 slice-aggregate-open-check c = search needs
@@ -50,8 +50,8 @@ slice-aggregate-open-check-7 c = search needs
 open-check-requires : tie.Need-open-check-requires
 unfolding width
 open-check-requires c κs =
-    let p = c .before .before .before .before .before .before .before .before .before .before .before .before .before .before .before .before .before .before .before .before .before .before .before .pre in
-    lends _ _ _ _ _ _ _ 256 256 _ _ _ _ _ _ _ _ _ _ _ _ (p .0) (p .1 .0) (p .1 .1 .0) (p .1 .1 .1 .0) (p .1 .1 .1 .1 .0) (p .1 .1 .1 .1 .1 .0) (p .1 .1 .1 .1 .1 .1) (c .before .before .before .before .before .before .before .before .before .before .before .before .before .before .before .before .words64-1285 .ensures) (c .before .before .before .before .before .before .before .before .before .before .before .before .before .before .before .words16-66 .ensures) (c .before .before .before .before .before .before .before .before .before .before .before .before .before .before .words16-258 .ensures) (c .before .before .before .before .before .before .before .before .before .before .before .before .before .words64-12852 .ensures) (c .before .before .before .before .before .before .before .before .before .before .before .before .words64-12853 .ensures) (c .before .before .before .before .before .before .before .before .before .before .before .words32-258 .ensures) (c .before .before .before .before .before .before .before .before .before .before .words64-130 .ensures) (omega arith) (omega arith) (omega arith) (omega arith) (omega arith)
+    let p = c .before .before .before .before .before .before .before .before .before .before .before .before .before .before .before .before .before .before .before .before .before .before .pre in
+    lends _ _ _ _ _ _ 256 256 _ _ _ _ _ _ _ _ _ _ (p .0) (p .1 .0) (p .1 .1 .0) (p .1 .1 .1 .0) (p .1 .1 .1 .1 .0) (p .1 .1 .1 .1 .1) (c .before .before .before .before .before .before .before .before .before .before .before .before .before .before .before .before .words64-1285 .ensures) (c .before .before .before .before .before .before .before .before .before .before .before .before .before .before .before .words16-66 .ensures) (c .before .before .before .before .before .before .before .before .before .before .before .before .before .before .words16-258 .ensures) (c .before .before .before .before .before .before .before .before .before .before .before .before .before .words64-12852 .ensures) (c .before .before .before .before .before .before .before .before .before .before .before .before .words64-12853 .ensures) (c .before .before .before .before .before .before .before .before .before .before .before .words32-258 .ensures) (omega arith) (omega arith) (omega arith) (omega arith)
 
 same-length : tie.Need-same-length
 same-length c = search needs
@@ -75,7 +75,7 @@ middle-open-spec =
     words64-1285-requires-2
     words64-1285-requires-3
     words32-258-requires
-    words64-130-requires
+    words16-258-requires-2
     slice-aggregate-open-check
     slice-aggregate-open-check-2
     slice-aggregate-open-check-3

@@ -1,6 +1,7 @@
 use borrow.Author.Needs.{needs}
+use Rattle.lists.specs.Lists.{range-to}
 use Rattle.lists.proofs.Facts.{mail-usable}
-use Rattle.lists.proofs.Told.{mail-to-told}
+use Rattle.lists.proofs.Told.{mail-placed}
 use Rattle.lists.proofs.mail_to.Statement.{statement}
 use Rattle.lists.proofs.mail_to.Tie as tie
 
@@ -14,7 +15,8 @@ place-requires : tie.Need-place-requires
 place-requires c κs = mail-usable (c .before .before .pre .0) (c .mail .result) (c .mail .ensures)
 
 returns : tie.Need-returns
-returns c = mail-to-told _ _ _ _ _ (c .before .mail .ensures) (c .place .ensures)
+unfolding range-to
+returns c = mail-placed _ _ _ _ _ (c .place .ensures) (c .before .mail .ensures)
 
 pub mail-to-spec : {M : Type 1} → statement M
 mail-to-spec = tie.close (tie.spec mail-requires add-place place-requires returns)

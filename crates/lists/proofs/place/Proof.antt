@@ -1,17 +1,18 @@
 use Prim.Native.Nat.{_-_}
 use mathlib.Core.Path.{sym, _∙_}
+use mathlib.Core.List.{[], _∷_}
 use borrow.Author.Needs.{needs}
 use Rattle.model.specs.Words.{columns}
-use Rattle.lists.specs.Lists.{listed}
+use Rattle.lists.specs.Lists.{listed, thirds}
 use Rattle.lists.proofs.Rising.{Between, between-all, between-up, between-down, between-place}
 use Rattle.lists.proofs.place.Statement.{statement}
 use Rattle.lists.proofs.place.Tie as tie
 
 abbrev Inv-loop : tie.InvT-loop
-Inv-loop ws l a b low₀ high₀ low high = Between (listed ws l) a b low high
+Inv-loop ws l a b d low₀ high₀ low high = Between (listed ws l) (thirds ws l) (a ∷ b ∷ d ∷ []) low high
 
 abbrev μ-loop : tie.MeasureT-loop
-μ-loop ws l a b low₀ high₀ low high = high - low
+μ-loop ws l a b d low₀ high₀ low high = high - low
 
 loop-holds : tie.Need-loop-holds Inv-loop μ-loop
 unfolding listed columns

@@ -10,7 +10,7 @@ find-requires : tie.Need-find-requires
 find-requires c κs = states-usable (c .before .before .pre) (c .states .result) (c .states .ensures)
 
 returns : tie.Need-returns
-returns c = state-found _ _ _ _ _ _ (c .before .states .ensures) (c .find .ensures)
+returns c = state-found _ _ _ _ _ _ _ (c .before .states .ensures) (c .find .ensures)
 
 pub state-index-spec : {M : Type 1} → statement M
 state-index-spec = tie.close (tie.spec states-requires find-requires returns)

@@ -1,19 +1,25 @@
 use borrow.Author.Needs.{needs}
-use Rattle.lists.proofs.Rising.{under-told, over-told}
+use Rattle.lists.proofs.Rising.{first-told, second-told, third-told}
 use Rattle.lists.proofs.under.Statement.{statement}
 use Rattle.lists.proofs.under.Tie as tie
 
 left-requires : tie.Need-left-requires
 left-requires c κs = search needs
 
+returns : tie.Need-returns
+returns c = first-told _ _ _ _ _ _ _ 0 0 (c .before .left .ensures) (c .if1 .taken)
+
 right-requires : tie.Need-right-requires
 right-requires c κs = search needs
 
-returns : tie.Need-returns
-returns c = under-told _ _ _ _ _ _ (c .before .before .left .ensures) (c .before .if1 .taken) (c .right .ensures)
-
 returns-2 : tie.Need-returns-2
-returns-2 c = over-told _ _ _ _ _ (c .before .left .ensures) (c .if1 .left)
+returns-2 c = second-told _ _ _ _ _ _ _ _ 0 (c .before .before .before .left .ensures) (c .before .before .if1 .left) (c .before .right .ensures) (c .if2 .taken)
+
+third-requires : tie.Need-third-requires
+third-requires c κs = search needs
+
+returns-3 : tie.Need-returns-3
+returns-3 c = third-told _ _ _ _ _ _ _ _ _ (c .before .before .before .before .left .ensures) (c .before .before .before .if1 .left) (c .before .before .right .ensures) (c .before .if2 .left) (c .third .ensures)
 
 pub under-spec : {M : Type 1} → statement M
-under-spec = tie.close (tie.spec left-requires right-requires returns returns-2)
+under-spec = tie.close (tie.spec left-requires returns right-requires returns-2 third-requires returns-3)

@@ -12,6 +12,9 @@ ceilings-at-requires c κs = search needs
 ceilings-outside-requires : tie.Need-ceilings-outside-requires
 ceilings-outside-requires c κs = search needs
 
+mul-part : tie.Need-mul-part
+mul-part c = search needs
+
 part-requires : tie.Need-part-requires
 unfolding ceilings-at
 part-requires c κs = search needs
@@ -19,9 +22,9 @@ part-requires c κs = search needs
 returns : tie.Need-returns
 unfolding ceilings-part
 returns c =
-    rw (← (c .before .before .ceilings-at .ensures))
-    (c .part .ensures (ceilings-sizes (c .before .before .before .before .args .s)) refl (sym (c .before .ceilings-outside .ensures)))
+    rw (← (c .before .before .before .ceilings-at .ensures))
+    (c .part .ensures (ceilings-sizes (c .before .before .before .before .before .args .s)) refl (sym (c .before .before .ceilings-outside .ensures)))
 
 pub ceilings-part-spec : {M : Type 1} → statement M
 ceilings-part-spec =
-    tie.close (tie.spec ceilings-at-requires ceilings-outside-requires part-requires returns)
+    tie.close (tie.spec ceilings-at-requires ceilings-outside-requires mul-part part-requires returns)

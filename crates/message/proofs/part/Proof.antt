@@ -18,7 +18,7 @@ unfolding checked
 returns c ls n w =
     let a = c .before .args in
     let l = words-length (now (a .bytes)) in
-    sym (ap checked (part-no-sizes (words (now (a .bytes))) (a .at) ls (a .elements) (omega arith)))
+    sym (ap checked (part-no-sizes (words (now (a .bytes))) (a .at) ls (a .cells) (omega arith)))
 
 add-t10 : tie.Need-add-t10
 add-t10 c = search needs
@@ -28,13 +28,10 @@ unfolding checked
 returns-2 c ls n w =
     let a = c .before .before .args in
     let l = words-length (now (a .bytes)) in
-    sym (ap checked (part-outside (words (now (a .bytes))) (a .at) ls (a .elements) (a .wrong) w (omega arith) (omega arith)))
+    sym (ap checked (part-outside (words (now (a .bytes))) (a .at) ls (a .cells) (a .wrong) w (omega arith) (omega arith)))
 
 add-if3 : tie.Need-add-if3
 add-if3 c = search needs
-
-mul-if3 : tie.Need-mul-if3
-mul-if3 c = search needs
 
 add-if3-2 : tie.Need-add-if3-2
 add-if3-2 c = search needs
@@ -44,16 +41,16 @@ unfolding checked
 returns-3 c ls n w =
     let a = c .before .before .before .args in
     let l = words-length (now (a .bytes)) in
-    sym (ap checked (part-no-arrays (words (now (a .bytes))) (a .at) ls (a .elements) (omega arith) (omega arith) (omega arith)))
+    sym (ap checked (part-no-arrays (words (now (a .bytes))) (a .at) ls (a .cells) (omega arith) (omega arith) (omega arith)))
 
 returns-4 : tie.Need-returns-4
 unfolding checked
 returns-4 c ls n w =
     let a = c .before .before .before .args in
     let l = words-length (now (a .bytes)) in
-    sym (ap checked (part-whole (words (now (a .bytes))) (a .at) ls (a .elements) (omega arith) (omega arith)))
+    sym (ap checked (part-whole (words (now (a .bytes))) (a .at) ls (a .cells) (omega arith) (omega arith)))
 
 pub part-spec : {M : Type 1} → statement M
 part-spec =
     tie.close
-    (tie.spec add-if1 returns add-t10 returns-2 add-if3 mul-if3 add-if3-2 returns-3 returns-4)
+    (tie.spec add-if1 returns add-t10 returns-2 add-if3 add-if3-2 returns-3 returns-4)

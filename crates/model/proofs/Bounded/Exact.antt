@@ -23,7 +23,7 @@ use Rattle.model.specs.Rules.{Rule, rules}
 use Rattle.model.specs.Markings.{Marking, usable, fire}
 use Rattle.model.specs.Ceilings.{ceiling-entries, ceiling-entry, ceilings-of, met-check, leak-check}
 use Rattle.model.specs.Verify.{Message, message}
-use Rattle.model.specs.Demands.{Bytes, Listed, Under-one, Inductive}
+use Rattle.model.specs.Demands.{Bytes, Pairs-listed, Under-one, Inductive}
 use Rattle.model.specs.Refusals.{First-such, Allowed, Leaks}
 use Rattle.model.proofs.Bounded.Words.{short-words, short-minimum, short-limit}
 use Rattle.model.proofs.Exact.Checks.{then-iff}
@@ -44,7 +44,7 @@ unfolding message
 message-built bytes fit v t = built-below (message bytes .program) fit v (tag-inside (words bytes) (sizes (words bytes)) v (omega arith)) t
 
 -- the keys of mail of a message whose rows fit and whose mail is in range
-pub message-keys : (bytes : List ℕ) → Rows-fit (message bytes .program) → Listed (is-class (message bytes .program)) (is-value (message bytes .program)) (message bytes .tables .mail) → Keys (message bytes .program) (message bytes .tables)
+pub message-keys : (bytes : List ℕ) → Rows-fit (message bytes .program) → Pairs-listed (is-class (message bytes .program)) (is-value (message bytes .program)) (message bytes .tables .mail) → Keys (message bytes .program) (message bytes .tables)
 unfolding message
 message-keys bytes fit mail =
     listed-keys (message bytes .program) (message bytes .tables)
@@ -71,15 +71,15 @@ module _ (bytes : List ℕ) (short : Bytes bytes) where
   abbrev pub Bads-in-form : Type 0
   Bads-in-form = first-wrong (bad-step (m .program)) (m .bads) (replicate (m .sizes .bads) bad) ≡ none
 
+  pub met-exact : Bads-in-form → (met-check (m .sizes) (m .program) (m .tables) (m .ceilings) (m .bads) ≡ none) ↔ ((j : ℕ) → j < m .sizes .bads → Allowed m j → ⊥)
+  met-exact form = met-check-exact (m .program) (m .tables) (m .ceilings) (m .bads) counters minimums (m .sizes) form
+
+  pub met-refuses : Bads-in-form → (v : Verdict) → (met-check (m .sizes) (m .program) (m .tables) (m .ceilings) (m .bads) ≡ some v) ↔ ((j : ℕ) × First-such (m .sizes .bads) (Allowed m) j × (Met (bads-at (m .sizes) + 2 + bad-row (m .program) (m .bads) j) ≡ v))
+  met-refuses form = met-check-refuses (m .program) (m .tables) (m .ceilings) (m .bads) counters minimums (m .sizes) form
+
   module _ (keys : Keys (m .program) (m .tables)) where
     shaped : (ρ : Rule) → List·Memᴰ ρ (rules (m .program) (m .tables)) → Shaped (m .ceilings .counters) ρ
     shaped = rw counters (rules-shaped (m .program) (m .tables) keys)
-
-    pub met-exact : Bads-in-form → (met-check (m .sizes) (m .program) (m .tables) (m .ceilings) (m .bads) ≡ none) ↔ ((j : ℕ) → j < m .sizes .bads → Allowed m j → ⊥)
-    met-exact form = met-check-exact (m .program) (m .tables) (m .ceilings) (m .bads) keys counters minimums (m .sizes) form
-
-    pub met-refuses : Bads-in-form → (v : Verdict) → (met-check (m .sizes) (m .program) (m .tables) (m .ceilings) (m .bads) ≡ some v) ↔ ((j : ℕ) × First-such (m .sizes .bads) (Allowed m) j × (Met (bads-at (m .sizes) + 2 + bad-row (m .program) (m .bads) j) ≡ v))
-    met-refuses form = met-check-refuses (m .program) (m .tables) (m .ceilings) (m .bads) keys counters minimums (m .sizes) form
 
     pub leak-exact : (leak-check (m .words) (m .sizes) (m .ceilings) (rules (m .program) (m .tables)) ≡ none) ↔ ((counts : Marking) (ρ : Rule) → Under-one (m .ceilings) counts → List·Memᴰ ρ (rules (m .program) (m .tables)) → usable ρ counts ≡ true → Under-one (m .ceilings) (fire ρ counts))
     leak-exact = leak-check-exact (m .ceilings) (rules (m .program) (m .tables)) limits shaped (m .words) (m .sizes)

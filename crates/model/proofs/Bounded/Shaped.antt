@@ -10,14 +10,13 @@ use borrow.Author.Tests.{eqb-true}
 use Rattle.model.specs.Index.{gather, only}
 use Rattle.model.specs.Words.{Columns, left, right}
 use Rattle.model.specs.Rows.{Program}
-use Rattle.model.specs.Heads.{Head, head-at, gives, builds, makes, calls, sends, spawns, selfs, cases, receives, no-head, is-class, innermost}
+use Rattle.model.specs.Heads.{Head, head-at, gives, builds, makes, calls, sends, spawns, selfs, cases, receives, no-head, is-class}
 use Rattle.model.specs.Letters.{letters, row-letter}
 use Rattle.model.specs.Tables.{Tables, State, state-at}
 use Rattle.model.specs.Counters.{letter-key, has-letter, counter-count}
 use Rattle.model.specs.Rules.{Rule, from-each, from-all, from-letters, letter-of-some, state-rules, rules}
 use Rattle.model.proofs.Logic.{and-left}
 use Rattle.model.proofs.Index.{gather-elim, only-elim}
-use Rattle.model.proofs.Reader.{by-option}
 use Rattle.model.proofs.Exact.Members.{some-of-iff}
 use Rattle.model.proofs.Numbering.Letters.{member-letter, Keys, letter-index-behind, letter-index-below}
 use Rattle.model.proofs.Bounded.Fire.{Shaped}
@@ -75,8 +74,7 @@ module _ (p : Program) (t : Tables) where
     head-shaped : (h : Head) → head-at p (s .location) ≡ h → Each Good (state-rules p t i s)
     unfolding state-rules
     head-shaped (gives n) e =
-        by-option (innermost p (s .location)) (λ z. rw (e, state-rules) (rw z (each-none Good)))
-        (λ f z. rw (e, state-rules) (rw z (each-gather Good 0 (t .states .size) _ (λ j w. each-only Good _ _ (λ v. (below-all, tt))))))
+        rw (e, state-rules) (each-gather Good 0 (t .states .size) _ (λ j w. each-only Good _ _ (λ v. (below-all, tt))))
     head-shaped (builds n k ns r) e = rw (e, state-rules) (each-one Good _ (below-all, tt))
     head-shaped (makes n r) e = rw (e, state-rules) (each-one Good _ (below-all, tt))
     head-shaped (calls call) e =

@@ -9,7 +9,7 @@ use Rattle.model.specs.Rows.{Program}
 use Rattle.model.specs.Values.{Value, Process, process, Processes}
 use Rattle.model.specs.Run.{deliver}
 use Rattle.model.specs.Letters.{value-letter, one-if}
-use Rattle.model.specs.Bads.{Counted, letter-of}
+use Rattle.model.specs.Counters.{Counted, letter-of}
 use Rattle.model.proofs.Reader.{by-option}
 use Rattle.model.proofs.Counting.Station.{station-count, same, counted-at, station-set}
 use Rattle.model.proofs.Counting.Mailboxes.{letters-append, process-more}

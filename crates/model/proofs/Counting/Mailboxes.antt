@@ -12,7 +12,7 @@ use borrow.Author.Tests.{eq-eqb}
 use Rattle.model.specs.Rows.{Program}
 use Rattle.model.specs.Values.{Value, Process, Processes}
 use Rattle.model.specs.Letters.{value-letter, one-if, letters-in, mailbox-count, messages-of}
-use Rattle.model.specs.Bads.{Counted, state-of, letter-of}
+use Rattle.model.specs.Counters.{Counted, state-of, letter-of}
 use Rattle.model.proofs.Logic.{test}
 use Rattle.model.proofs.Counting.Station.{process-count, station-count, same, counted-at, station-least}
 
@@ -41,21 +41,21 @@ unfolding mailbox-count one-if
 mailbox-more p q q′ x c l e h = test (eqb (q .class) c) (λ t. rw (e, t, mailbox-count) h) (λ t. rw (e, t, mailbox-count) (omega arith))
 
 -- what such a process brings, also at another place
-pub process-more : (p : Program) (q q′ : Process) (x : ℕ) (k : Counted) → q′ .class ≡ q .class → ((l : ℕ) → letters-in p (q′ .mailbox) l ≡ letters-in p (q .mailbox) l + one-if (eqb x l)) → process-count p q′ k + one-if (same (counted-at q) k) ≡ process-count p q k + one-if (same (counted-at q′) k) + one-if (same (letter-of (q .class) x) k)
+pub process-more : (p : Program) (q q′ : Process) (x : ℕ) (k : Counted) → q′ .class ≡ q .class → ((l : ℕ) → letters-in p (q′ .mailbox) l ≡ letters-in p (q .mailbox) l + one-if (eqb x l)) → process-count p q′ k + one-if (same (counted-at p q) k) ≡ process-count p q k + one-if (same (counted-at p q′) k) + one-if (same (letter-of (q .class) x) k)
 unfolding process-count same counted-at one-if
-process-more p q q′ x (state-of c r) e h = omega arith
+process-more p q q′ x (state-of s) e h = omega arith
 process-more p q q′ x (letter-of c l) e h = omega (arith, mailbox-more p q q′ x c l e (h l))
 
 -- and with the same mailbox
-pub process-same : (p : Program) (q q′ : Process) (k : Counted) → q′ .class ≡ q .class → q′ .mailbox ≡ q .mailbox → process-count p q′ k + one-if (same (counted-at q) k) ≡ process-count p q k + one-if (same (counted-at q′) k)
+pub process-same : (p : Program) (q q′ : Process) (k : Counted) → q′ .class ≡ q .class → q′ .mailbox ≡ q .mailbox → process-count p q′ k + one-if (same (counted-at p q) k) ≡ process-count p q k + one-if (same (counted-at p q′) k)
 unfolding process-count same counted-at mailbox-count
-process-same p q q′ (state-of c r) e f = omega arith
+process-same p q q′ (state-of s) e f = omega arith
 process-same p q q′ (letter-of c l) e f = rw (e, f)
 
 -- an empty mailbox
-pub process-new : (p : Program) (q : Process) (k : Counted) → q .mailbox ≡ [] → process-count p q k ≡ one-if (same (counted-at q) k)
+pub process-new : (p : Program) (q : Process) (k : Counted) → q .mailbox ≡ [] → process-count p q k ≡ one-if (same (counted-at p q) k)
 unfolding process-count same counted-at mailbox-count letters-in one-if
-process-new p q (state-of c r) h = refl
+process-new p q (state-of s) h = refl
 process-new p q (letter-of c l) h = test (eqb (q .class) c) (λ t. rw (t, mailbox-count) (rw h)) (λ t. rw (t, mailbox-count))
 
 -- a message in a mailbox is counted

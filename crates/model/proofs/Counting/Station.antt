@@ -10,57 +10,56 @@ use lib.Dec.{eqb}
 use borrow.Author.Tests.{eqb-true, eq-eqb}
 use Rattle.model.specs.Rows.{Program}
 use Rattle.model.specs.Values.{Process, Processes}
-use Rattle.model.specs.Letters.{one-if, processes-at, mailbox-count, messages-of}
-use Rattle.model.specs.Bads.{Counted, state-of, letter-of}
+use Rattle.model.specs.Tables.{same-state}
+use Rattle.model.specs.Letters.{one-if, state-in, processes-at, mailbox-count, messages-of}
+use Rattle.model.specs.Counters.{Counted, state-of, letter-of}
 use Rattle.model.proofs.Logic.{true-false, and-left, and-right, and-intro}
+use Rattle.model.proofs.Exact.Members.{same-state-iff}
 
 -- what one process brings to a count
 unfoldable pub process-count : Program → Process → Counted → ℕ
-process-count p q (state-of c r) = one-if (eqb (q .class) c && eqb (q .location) r)
+process-count p q (state-of s) = one-if (same-state (state-in p q) s)
 process-count p q (letter-of c l) = mailbox-count p q c l
 
--- a count of the station: of processes in a class and place, or of messages of a letter in a class's mailboxes
+-- a count of the station: of processes in a state, or of messages of a letter in a class's mailboxes
 unfoldable pub station-count : Program → Processes → Counted → ℕ
-station-count p qs (state-of c r) = processes-at qs c r
+station-count p qs (state-of s) = processes-at p qs s
 station-count p qs (letter-of c l) = messages-of p qs c l
 
 -- what is counted, told apart
 unfoldable pub same : Counted → Counted → Bool
-same (state-of c r) (state-of c′ r′) = eqb c c′ && eqb r r′
-same (state-of c r) (letter-of c′ l′) = false
-same (letter-of c l) (state-of c′ r′) = false
+same (state-of s) (state-of s′) = same-state s s′
+same (state-of s) (letter-of c l) = false
+same (letter-of c l) (state-of s) = false
 same (letter-of c l) (letter-of c′ l′) = eqb c c′ && eqb l l′
 
 pub same-refl : (k : Counted) → same k k ≡ true
 unfolding same
-same-refl (state-of c r) = and-intro (eqb c c) (eqb r r) (eq-eqb c c refl) (eq-eqb r r refl)
+same-refl (state-of s) = same-state-iff s s .1 refl
 same-refl (letter-of c l) = and-intro (eqb c c) (eqb l l) (eq-eqb c c refl) (eq-eqb l l refl)
 
 pub same-path : (k k′ : Counted) → same k k′ ≡ true → k ≡ k′
 unfolding same
-same-path (state-of c r) (state-of c′ r′) h =
-    let a = eqb-true c c′ (and-left (eqb c c′) (eqb r r′) h) in
-    let b = eqb-true r r′ (and-right (eqb c c′) (eqb r r′) h) in
-    cc
-same-path (state-of c r) (letter-of c′ l′) h = true-false h refl
-same-path (letter-of c l) (state-of c′ r′) h = true-false h refl
+same-path (state-of s) (state-of s′) h = ap state-of (same-state-iff s s′ .0 h)
+same-path (state-of s) (letter-of c l) h = true-false h refl
+same-path (letter-of c l) (state-of s) h = true-false h refl
 same-path (letter-of c l) (letter-of c′ l′) h =
     let a = eqb-true c c′ (and-left (eqb c c′) (eqb l l′) h) in
     let b = eqb-true l l′ (and-right (eqb c c′) (eqb l l′) h) in
     cc
 
 -- where a process counts
-unfoldable pub counted-at : Process → Counted
-counted-at q = state-of (q .class) (q .location)
+unfoldable pub counted-at : Program → Process → Counted
+counted-at p q = state-of (state-in p q)
 
 pub station-none : (p : Program) (k : Counted) → station-count p [] k ≡ 0
 unfolding station-count processes-at messages-of
-station-none p (state-of c r) = refl
+station-none p (state-of s) = refl
 station-none p (letter-of c l) = refl
 
 pub station-more : (p : Program) (q : Process) (qs : Processes) (k : Counted) → station-count p (q ∷ qs) k ≡ process-count p q k + station-count p qs k
 unfolding station-count process-count processes-at messages-of
-station-more p q qs (state-of c r) = refl
+station-more p q qs (state-of s) = refl
 station-more p q qs (letter-of c l) = refl
 
 -- one process replaced by another
@@ -86,9 +85,9 @@ station-least p (a ∷ qs) zero q k h =
     omega (arith, station-more p a qs k)
 station-least p (a ∷ qs) (suc i) q k h = omega (arith, station-more p a qs k, station-least p qs i q k h)
 
-pub process-counted : (p : Program) (qs : Processes) (i : ℕ) (q : Process) → getElem? qs i ≡ some q → 1 ≤ processes-at qs (q .class) (q .location)
+pub process-counted : (p : Program) (qs : Processes) (i : ℕ) (q : Process) → getElem? qs i ≡ some q → 1 ≤ processes-at p qs (state-in p q)
 unfolding station-count process-count one-if same
 process-counted p qs i q h =
-    let k = state-of (q .class) (q .location) in
+    let k = state-of (state-in p q) in
     let e : process-count p q k ≡ 1 = ap one-if (same-refl k) in
     omega (arith, station-least p qs i q k h)

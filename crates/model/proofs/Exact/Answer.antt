@@ -12,6 +12,7 @@ use Rattle.model.specs.declared.Verdict.{Verdict}
 use Rattle.model.specs.declared.Verdict.the-variants.{Safe, Length, Size, Row, Name, Scope, Bad, Entry, Open, Counters, Ceiling, Start, Met, Leak, Space, FunctionMailed}
 use Rattle.model.specs.Limits.{Limits}
 use Rattle.model.specs.Words.{Columns}
+use Rattle.model.specs.Keys.{Key}
 use Rattle.model.specs.Verdict.{Check, _>>_, unless, number}
 use Rattle.model.specs.Message.{Limited, sizes-check, part-check, program-part, bads-part, tables-part, ceilings-part, nothing-left, parts-check, bads-at, ceilings-at}
 use Rattle.model.specs.Reader.{first-wrong}
@@ -85,9 +86,9 @@ unfolding bad-check number
 bad-refuses ws s p =
     map-refuses (λ r. Bad (bads-at s + 2 + r)) (first-wrong (bad-step p) (bad-rows ws s) (replicate (s .bads) bad)) (λ r. tt)
 
-list-refuses : (at : ℕ) (l r : ℕ → Bool) (c : Columns) → Refuses (list-check at l r c)
+list-refuses : (at n : ℕ) (in-range : ℕ → Bool) (key : ℕ → Key) → Refuses (list-check at n in-range key)
 unfolding list-check number
-list-refuses at l r c = unless-refuses _ (Entry _) tt
+list-refuses at n in-range key = unless-refuses _ (Entry _) tt
 
 pub entry-refuses : (s : Sizes) (p : Program) (t : Tables) → Refuses (entry-check s p t)
 unfolding entry-check

@@ -7,8 +7,7 @@ use mathlib.Core.Logic.{_↔_, _⊎_, inl, inr, ⊎-elim, Iff·rfl}
 use lib.Dec.{eqb}
 use Rattle.model.specs.Index.{implies, all}
 use Rattle.model.specs.Words.{Columns, left, right}
-use Rattle.model.specs.Tables.{Tables, has, each, has-state}
-use Rattle.model.specs.Tables.{state as at-state}
+use Rattle.model.specs.Tables.{Tables, has, each, State, has-state}
 use Rattle.model.specs.Wanted.{Member, Entry, flow, mail, state, Present}
 use Rattle.model.proofs.Logic.{true-false, test, and-left, and-right, and-false-right, implies-elim, implies-intro}
 use Rattle.model.proofs.Index.{all-elim}
@@ -38,8 +37,8 @@ module _ (t : Tables) where
   pub finds-mail : (c v : ℕ) → Finds (has (t .mail) c v) (λ x. x ≡ mail c v)
   finds-mail c v = finds-entry (has (t .mail) c v) (mail c v) (has-iff (t .mail) c v)
 
-  pub finds-state : (c r : ℕ) → Finds (has-state t (at-state c r)) (λ x. x ≡ state c r)
-  finds-state c r = finds-entry (has-state t (at-state c r)) (state c r) (has-state-iff t c r)
+  pub finds-state : (s : State) → Finds (has-state t s) (λ x. x ≡ state s)
+  finds-state s = finds-entry (has-state t s) (state s) (has-state-iff t s)
 
   -- what both ask for
   pub finds-and : (a b : Bool) {A B : Entry → Type 0} → Finds a A → Finds b B → Finds (a && b) (λ e. A e ⊎ B e)

@@ -1,20 +1,13 @@
 -- The tests on the lists of the tables, as facts on their members.
 use Prim.Native.Nat.{ℕ, _<_}
-use mathlib.Core.Path.{_≡_, refl, sym, subst, subst₂}
+use mathlib.Core.Path.{_≡_, refl, sym, ap, subst}
 use mathlib.Core.Bool.{Bool, true}
 use mathlib.Core.Logic.{_↔_, Iff·trans}
 use lib.Dec.{eqb}
 use Rattle.model.specs.Words.{Columns, left, right}
-use Rattle.model.specs.Tables.{Tables, has, some-of, state, same-state, state-at, state-index, has-state}
-use Rattle.model.specs.Wanted.{Member}
+use Rattle.model.specs.Tables.{Tables, has, some-of, State, same-state, state-at, state-index, has-state}
+use Rattle.model.specs.Wanted.{Member, Listed-state}
 use Rattle.model.proofs.Exact.Tests.{eqb-iff, and-iff, any-iff, first-iff}
-
--- of each entry, and of each member with both its numbers
-pub entries-iff : (c : Columns) {A : ℕ → ℕ → Type 0} → ((i : ℕ) → i < c .size → A (left c i) (right c i)) ↔ ((a b : ℕ) → Member c a b → A a b)
-entries-iff c {A} = (
-  λ h a b m. subst₂ A (m .first) (m .second) (h (m .at) (m .below)),
-  λ h i b. h (left c i) (right c i) (record { at = i; below = b; first = refl; second = refl }),
-)
 
 module _ (c : Columns) (a : ℕ) where
   member : (i : ℕ) → i < c .size → left c i ≡ a → Member c a (right c i)
@@ -44,10 +37,28 @@ module _ (c : Columns) (a : ℕ) where
   has-iff b =
       Iff·trans (any-iff (c .size) _ (λ i. and-iff (eqb (left c i) a) (eqb (right c i) b) (eqb-iff (left c i) a) (eqb-iff (right c i) b))) (entry-iff b)
 
-pub has-state-iff : (t : Tables) (c r : ℕ) → (has-state t (state c r) ≡ true) ↔ Member (t .states) c r
-unfolding has-state state-index same-state state-at
-has-state-iff t c r =
+-- the same state, and the state itself
+pub same-state-iff : (a b : State) → (same-state a b ≡ true) ↔ (a ≡ b)
+unfolding same-state
+same-state-iff a b =
     Iff·trans
-    (first-iff (t .states .size) _
-    (λ i. and-iff (eqb (left (t .states) i) c) (eqb (right (t .states) i) r) (eqb-iff (left (t .states) i) c) (eqb-iff (right (t .states) i) r)))
-    (entry-iff (t .states) c r)
+    (and-iff (eqb (a .class) (b .class)) _ (eqb-iff (a .class) (b .class))
+    (and-iff (eqb (a .location) (b .location)) (eqb (a .return) (b .return)) (eqb-iff (a .location) (b .location)) (eqb-iff (a .return) (b .return)))) (
+      λ h i. record { class = h .0 i; location = h .1 .0 i; return = h .1 .1 i },
+      λ h. (ap (λ s. s .class) h, (ap (λ s. s .location) h, ap (λ s. s .return) h)),
+    )
+
+-- of each state of the list
+pub states-iff : (t : Tables) {A : State → Type 0} → ((i : ℕ) → i < t .states .size → A (state-at t i)) ↔ ((s : State) → Listed-state t s → A s)
+states-iff t {A} = (
+  λ h s m. subst A (m .here) (h (m .at) (m .below)),
+  λ h i b. h (state-at t i) (record { at = i; below = b; here = refl }),
+)
+
+pub has-state-iff : (t : Tables) (s : State) → (has-state t s ≡ true) ↔ Listed-state t s
+unfolding has-state state-index
+has-state-iff t s =
+    Iff·trans (first-iff (t .states .size) _ (λ i. same-state-iff (state-at t i) s)) (
+      λ h. record { at = h .0; below = h .1; here = h .2 },
+      λ m. (m .at, m .below, m .here),
+    )

@@ -12,21 +12,21 @@ use borrow.Author.Tests.{eq-eqb, ne-eqb}
 use Rattle.model.specs.Words.{Columns, left, right}
 use Rattle.model.specs.Reader.{first-wrong}
 use Rattle.model.specs.Rows.{Program}
-use Rattle.model.specs.Bads.{Part, bad, subject, minimum, further, item, bad-step, bad-row, Counted, counted, met-from, met}
+use Rattle.model.specs.Bads.{Part, bad, subject, minimum, further, item, bad-step, bad-row, Subject, subject-at, item-at, items-from, items, met}
 use Rattle.model.specs.Met.{Item, of-states, of-letters, closed-before, All-met, Met-exactly}
 use Rattle.model.specs.Refusals.{Ahead}
 use Rattle.model.proofs.Exact.Tests.{leb-iff, and-iff}
 use Rattle.model.proofs.Exact.Bads.{Taken, first-item, another, closing, taken-subject, taken-minimum, closed-on, closed-same, closed-rises, stands, Takes, takes}
 
 -- an item's first tag, what it counts and its minimum
-item-tag : (rows : Columns) (r : ℕ) (k : Counted) (n : ℕ) → Item rows r k n → left rows r ≡ 40
+item-tag : (rows : Columns) (r : ℕ) (k : Subject) (n : ℕ) → Item rows r k n → left rows r ≡ 40
 item-tag rows r k n (of-states a b c) = a
 item-tag rows r k n (of-letters a b c) = a
 
-item-counted : (rows : Columns) (r : ℕ) (k : Counted) (n : ℕ) → Item rows r k n → (counted rows r ≡ k) × (right rows (r + 2) ≡ n)
-unfolding counted
-item-counted rows r k n (of-states a b c) = (rw (eq-eqb _ 41 b, counted), refl)
-item-counted rows r k n (of-letters a b c) = (rw (ne-eqb (left rows (r + 1)) 41 (λ z. omega arith), counted), refl)
+item-subject : (rows : Columns) (r : ℕ) (k : Subject) (n : ℕ) → Item rows r k n → (subject-at rows r ≡ k) × (right rows (r + 2) ≡ n)
+unfolding subject-at
+item-subject rows r k n (of-states a b c) = (rw (eq-eqb _ 41 b, subject-at), refl)
+item-subject rows r k n (of-letters a b c) = (rw (ne-eqb (left rows (r + 1)) 41 (λ z. omega arith), subject-at), refl)
 
 -- the three rows of an item
 record Item-rows (rows : Columns) (r : ℕ) : Type 0 where
@@ -34,11 +34,11 @@ record Item-rows (rows : Columns) (r : ℕ) : Type 0 where
   second : (left rows (r + 1) ≡ 41) ⊎ (left rows (r + 1) ≡ 42)
   third : left rows (r + 2) ≡ 43
 
-item-there : (rows : Columns) (r : ℕ) → Item-rows rows r → Item rows r (counted rows r) (right rows (r + 2))
-unfolding counted
+item-there : (rows : Columns) (r : ℕ) → Item-rows rows r → Item rows r (subject-at rows r) (right rows (r + 2))
+unfolding subject-at
 item-there rows r i =
-    ⊎-elim (λ e. rw (eq-eqb _ 41 e, counted) (of-states (i .first) e (i .third)))
-    (λ e. rw (ne-eqb (left rows (r + 1)) 41 (λ z. omega arith), counted) (of-letters (i .first) e (i .third))) (i .second)
+    ⊎-elim (λ e. rw (eq-eqb _ 41 e, subject-at) (of-states (i .first) e (i .third)))
+    (λ e. rw (ne-eqb (left rows (r + 1)) 41 (λ z. omega arith), subject-at) (of-letters (i .first) e (i .third))) (i .second)
 
 module _ (p : Program) (rows : Columns) (bads : ℕ) (fit : first-wrong (bad-step p) rows (replicate bads bad) ≡ none) where
   abbrev Before : ℕ → List Part → Type 0
@@ -82,19 +82,19 @@ module _ (p : Program) (rows : Columns) (bads : ℕ) (fit : first-wrong (bad-ste
       by-row (another e q) = inl (begins-item r items e (h .within) (h .rest item q))
       by-row (closing e q) = inr e
 
-  module _ (counts : Counted → ℕ) where
+  module _ (counts : Subject → ℕ) where
     -- the items of the same bad from row r on are met
     abbrev Met-from : ℕ → Type 0
-    Met-from r = (q : ℕ) → r ≤ q → q < rows .size → closed q ≡ closed r → (k : Counted) (n : ℕ) → Item rows q k n → n ≤ counts k
+    Met-from r = (q : ℕ) → r ≤ q → q < rows .size → closed q ≡ closed r → (k : Subject) (n : ℕ) → Item rows q k n → n ≤ counts k
 
     abbrev Met-at : ℕ → Type 0
-    Met-at r = right rows (r + 2) ≤ counts (counted rows r)
+    Met-at r = right rows (r + 2) ≤ counts (subject-at rows r)
 
-    test-item : (n r : ℕ) → left rows r ≡ 40 → (met-from counts rows (suc n) r ≡ true) ↔ (Met-at r × (met-from counts rows n (r + 3) ≡ true))
-    unfolding met-from
-    test-item n r e = rw (eq-eqb _ 40 e, met-from) (and-iff _ _ (leb-iff (right rows (r + 2)) (counts (counted rows r))) Iff·rfl)
+    test-item : (n r : ℕ) → left rows r ≡ 40 → (met counts (items-from rows (suc n) r) ≡ true) ↔ (Met-at r × (met counts (items-from rows n (r + 3)) ≡ true))
+    unfolding items-from item-at met
+    test-item n r e = rw (eq-eqb _ 40 e, items-from) (and-iff _ _ (leb-iff (right rows (r + 2)) (counts (subject-at rows r))) Iff·rfl)
 
-    no-item : (q r : ℕ) (k : Counted) (n : ℕ) {A : Type 0} → q ≡ r → (left rows r ≡ 40 → ⊥) → Item rows q k n → A
+    no-item : (q r : ℕ) (k : Subject) (n : ℕ) {A : Type 0} → q ≡ r → (left rows r ≡ 40 → ⊥) → Item rows q k n → A
     no-item q r k n same out i = absurd (out (sym (ap (left rows) same) ∙ item-tag rows q k n i))
 
     closed-behind : (r : ℕ) → Item-rows rows r → closed (r + 3) ≡ closed r
@@ -124,10 +124,10 @@ module _ (p : Program) (rows : Columns) (bads : ℕ) (fit : first-wrong (bad-ste
       ),
     )
       where
-        this : (q : ℕ) (k : Counted) (n : ℕ) → q ≡ r → Met-at r → Item rows q k n → n ≤ counts k
+        this : (q : ℕ) (k : Subject) (n : ℕ) → q ≡ r → Met-at r → Item rows q k n → n ≤ counts k
         this q k n same h it =
-            let (u, v) = item-counted rows r k n (subst (λ x. Item rows x k n) same it) in
-            let w : counts (counted rows r) ≡ counts k = ap counts u in
+            let (u, v) = item-subject rows r k n (subst (λ x. Item rows x k n) same it) in
+            let w : counts (subject-at rows r) ≡ counts k = ap counts u in
             omega arith
 
     closed-met : (r : ℕ) → left rows r ≡ 44 → Met-from r
@@ -136,18 +136,18 @@ module _ (p : Program) (rows : Columns) (bads : ℕ) (fit : first-wrong (bad-ste
       | no z ↦ absurd (omega (arith, closed-on rows r e, closed-rises rows (r + 1) q (omega arith)))
     ]
 
-    met-there : (n r : ℕ) (x : Part) (items : List Part) → Opens x → r ≤ rows .size → rows .size ≤ r + n → Before r (x ∷ items) → (met-from counts rows n r ≡ true) ↔ Met-from r
-    unfolding met-from
+    met-there : (n r : ℕ) (x : Part) (items : List Part) → Opens x → r ≤ rows .size → rows .size ≤ r + n → Before r (x ∷ items) → (met counts (items-from rows n r) ≡ true) ↔ Met-from r
+    unfolding items-from met
     met-there zero r x items o b l a = (λ h q c d. absurd (omega arith), λ h. refl)
     met-there (suc n) r x items o b l a =
         ⊎-elim
         (λ i. Iff·trans (test-item n r (i .here .first))
         (Iff·trans (Iff·and Iff·rfl (met-there n (r + 3) further items opens-further (i .upto) (omega arith) (i .rest))) (item-and-rest r items i)))
-        (λ e. (λ h. closed-met r e, λ h. rw (ne-eqb (left rows r) 40 (λ z. omega arith), met-from)))
+        (λ e. (λ h. closed-met r e, λ h. rw (ne-eqb (left rows r) 40 (λ z. omega arith), items-from)))
         (opened r x items o (takes p rows bads fit r x items b a))
 
-    met-iff : (j : ℕ) → j < bads → (met counts rows (bad-row p rows j) ≡ true) ↔ All-met counts rows j
-    unfolding met
+    met-iff : (j : ℕ) → j < bads → (met counts (items p rows j) ≡ true) ↔ All-met counts rows j
+    unfolding items
     met-iff j b =
         let s = stands p rows bads fit j (bads - (j + 1)) (omega arith) in
         Iff·trans (met-there (rows .size - bad-row p rows j) (bad-row p rows j) bad _ opens-bad (s .within) (omega (arith, s .within)) (s .ahead)) (

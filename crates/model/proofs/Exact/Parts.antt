@@ -69,7 +69,7 @@ sizes-some : (at : ℕ) (ls : List Limited) (v : Verdict) → (sizes-check at ls
 sizes-some at ls v = (sizes-first at ls v, λ x. let (i, l, b, n, q) = x in sizes-stop at i ls l b n ∙ ap some q)
 
 abbrev pub check-of : List ℕ → Message-part → Check
-check-of ws x = part-check ws (x .first) (x .sizes) (x .elements)
+check-of ws x = part-check ws (x .first) (x .sizes) (x .cells)
 
 -- a part is whole and its sizes within their limits
 part-none : (ws : List ℕ) (x : Message-part) → (check-of ws x ≡ none) ↔ Whole ws x

@@ -5,11 +5,10 @@ use mathlib.Core.Bool.{true}
 use Rattle.model.specs.Rows.{Program}
 use Rattle.model.specs.Values.{Processes}
 use Rattle.model.specs.Letters.{letters, one-if, processes-at}
-use Rattle.model.specs.Bads.{Counted, state-of, letter-of}
 use Rattle.model.specs.Tables.{Tables, State, state-index}
-use Rattle.model.specs.Counters.{letter-key, has-letter, letter-index}
+use Rattle.model.specs.Counters.{letter-key, has-letter, letter-index, Counted, state-of, letter-of}
 use Rattle.model.specs.Rules.{Effect, quiet, reads, puts, starts, Rule, rule}
-use Rattle.model.specs.Wanted.{Member}
+use Rattle.model.specs.Wanted.{Listed-state}
 use Rattle.model.proofs.Counting.Station.{station-count, same}
 pub use Rattle.model.proofs.Markings.{fire-at}
 unfoldable pub use Rattle.model.proofs.Markings.{effect-less, effect-more}
@@ -20,10 +19,6 @@ pub data Change : Type 0 where
   read-one : (class letter : ℕ) → Change
   put-one : (class letter : ℕ) → Change
   start-one : State → Change
-
--- where a process in this state counts
-abbrev pub state-counted : State → Counted
-state-counted s = state-of (s .class) (s .location)
 
 -- what is taken from a count, and what is added to it
 unfoldable pub taken-by : Change → Counted → ℕ
@@ -36,12 +31,12 @@ unfoldable pub added-by : Change → Counted → ℕ
 added-by no-change k = 0
 added-by (read-one c l) k = 0
 added-by (put-one c l) k = one-if (same (letter-of c l) k)
-added-by (start-one s) k = one-if (same (state-counted s) k)
+added-by (start-one s) k = one-if (same (state-of s) k)
 
 -- A process in the one state is there, and the counts differ by its moving to the other and by the change
 pub record Moves (p : Program) (qs qs′ : Processes) (from to : State) (change : Change) : Type 0 where
-  pub is-there : 1 ≤ processes-at qs (from .class) (from .location)
-  pub balance : (k : Counted) → station-count p qs′ k + one-if (same (state-counted from) k) + taken-by change k ≡ station-count p qs k + one-if (same (state-counted to) k) + added-by change k
+  pub is-there : 1 ≤ processes-at p qs from
+  pub balance : (k : Counted) → station-count p qs′ k + one-if (same (state-of from) k) + taken-by change k ≡ station-count p qs k + one-if (same (state-of to) k) + added-by change k
 
 -- the effect and the rule that do so to the counters
 abbrev pub effect-of : Program → Tables → Change → Effect
@@ -58,4 +53,4 @@ abbrev pub Known : Program → Tables → Change → Type 0
 Known p t no-change = Unit {0}
 Known p t (read-one c l) = (l < letters p) × (has-letter p t (letter-key p c l) ≡ true)
 Known p t (put-one c l) = (l < letters p) × (has-letter p t (letter-key p c l) ≡ true)
-Known p t (start-one s) = Member (t .states) (s .class) (s .location)
+Known p t (start-one s) = Listed-state t s

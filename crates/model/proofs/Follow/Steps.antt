@@ -9,9 +9,8 @@ use Rattle.model.specs.Rows.{Program}
 use Rattle.model.specs.Values.{Value, Process, Processes}
 use Rattle.model.specs.Matching.{Received}
 use Rattle.model.specs.Run.{deliver}
-use Rattle.model.specs.Letters.{value-letter, one-if}
-use Rattle.model.specs.Bads.{Counted, state-of, letter-of}
-use Rattle.model.specs.Tables.{state}
+use Rattle.model.specs.Letters.{value-letter, one-if, state-in}
+use Rattle.model.specs.Counters.{Counted, state-of, letter-of}
 use Rattle.model.proofs.Counting.Station.{station-count, same, counted-at, station-set, station-append, process-counted}
 use Rattle.model.proofs.Counting.Mailboxes.{process-more, process-same, process-new}
 use Rattle.model.proofs.Counting.Deliveries.{delivered, class-kept}
@@ -20,14 +19,13 @@ use Rattle.model.proofs.Follow.Changes.{Change, no-change, read-one, pu
 
 -- from the state of q to that of q′
 abbrev pub Steps : Program → Processes → Process → Process → Processes → Change → Type 0
-Steps p qs q q′ qs′ change = Moves p qs qs′ (state (q .class) (q .location)) (state (q .class) (q′ .location)) change
+Steps p qs q q′ qs′ change = Moves p qs qs′ (state-in p q) (state-in p q′) change
 
 module _ (p : Program) (qs : Processes) (i : ℕ) (q q′ : Process) (h : getElem? qs i ≡ some q) (e : q′ .class ≡ q .class) where
   -- nothing but the process changes
-  kept : q′ .mailbox ≡ q .mailbox → (k : Counted) → station-count p (set qs i q′) k + one-if (same (counted-at q) k) ≡ station-count p qs k + one-if (same (state-of (q .class) (q′ .location)) k)
+  kept : q′ .mailbox ≡ q .mailbox → (k : Counted) → station-count p (set qs i q′) k + one-if (same (state-of (state-in p q)) k) ≡ station-count p qs k + one-if (same (state-of (state-in p q′)) k)
   unfolding counted-at
   kept f k =
-      let z = ap (λ c. one-if (same (state-of c (q′ .location)) k)) e in
       omega (arith, station-set p qs i q q′ k h, process-same p q q′ k e f)
 
   pub moves-on : q′ .mailbox ≡ q .mailbox → Steps p qs q q′ (set qs i q′) no-change
@@ -42,7 +40,6 @@ module _ (p : Program) (qs : Processes) (i : ℕ) (q q′ : Process) (h : getEle
       record {
         is-there = process-counted p qs i q h;
         balance = λ k.
-            let z = ap (λ c. one-if (same (state-of c (q′ .location)) k)) e in
             let y = ap (λ c. one-if (same (letter-of c x) k)) e in
             omega (arith, station-set p qs i q q′ k h, process-more p q′ q x k (sym e) (λ l. rw f (g .counts l)));
       }
@@ -64,7 +61,7 @@ module _ (p : Program) (qs : Processes) (i : ℕ) (q q′ : Process) (h : getEle
       )
 
   -- a new process with an empty mailbox is last
-  pub starts-one : (new : Process) → q′ .mailbox ≡ q .mailbox → new .mailbox ≡ [] → Steps p qs q q′ (set qs i q′ ++ (new ∷ [])) (start-one (state (new .class) (new .location)))
+  pub starts-one : (new : Process) → q′ .mailbox ≡ q .mailbox → new .mailbox ≡ [] → Steps p qs q q′ (set qs i q′ ++ (new ∷ [])) (start-one (state-in p new))
   unfolding counted-at taken-by added-by
   starts-one new f g =
       record {

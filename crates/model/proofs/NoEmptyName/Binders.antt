@@ -79,7 +79,7 @@ module _ {p : Program} where
         location = record { below = l .below; end = l .end; stands = others };
         behind = omega arith;
         heads = λ x lo hi k. ends-within (omega arith) hi front k;
-        functions = λ f lo hi h. stands-enclosed front .ends f (omega arith) hi h;
+        functions = λ f lo hi h. stands-enclosed front f (omega arith) hi h;
         within = λ led s lo hi. let z = ends-within lo hi s l in omega arith;
         own-form = λ t. sym (spans-past (rw t at (front .spans)));
       }

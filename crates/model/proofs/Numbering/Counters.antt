@@ -3,7 +3,7 @@ use Prim.Native.Nat.{ℕ, _+_, _-_, _≤_, _<_}
 use native.Mathlib.Decide.{decLt}
 use native.Mathlib.Omega.{arith}
 use mathlib.Core.Path.{_≡_, refl, sym, _∙_, ap}
-use mathlib.Core.Bool.{Bool, true, _&&_}
+use mathlib.Core.Bool.{true, _&&_}
 use mathlib.Core.Logic.{⊎-elim}
 use mathlib.Core.Option.{some, Option·none-ne-some}
 use lib.Dec.{ltb, eqb}
@@ -12,32 +12,31 @@ use Rattle.model.specs.Words.{left, right}
 use Rattle.model.specs.Rows.{Program, size, tag, num}
 use Rattle.model.specs.Heads.{is-function, is-class}
 use Rattle.model.specs.Letters.{letters, letter, row-shape, row-letter}
-use Rattle.model.specs.Tables.{Tables, is-value, state, state-at, state-index, has-state}
-use Rattle.model.specs.Bads.{Counted, state-of, letter-of}
-use Rattle.model.specs.Counters.{letter-key, letter-keys, has-letter, letter-count, counter-count, letter-index, counter-of}
-use Rattle.model.specs.Demands.{Listed}
+use Rattle.model.specs.Tables.{Tables, State, is-value, state-at, state-index, has-state}
+use Rattle.model.specs.Counters.{letter-key, letter-keys, has-letter, letter-count, counter-count, letter-index, Counted, state-of, letter-of, counter-of}
+use Rattle.model.specs.Demands.{Pairs-listed, States-listed}
 use Rattle.model.proofs.Logic.{test, and-left, and-right}
 use Rattle.model.proofs.Heads.{class-tag}
 use Rattle.model.proofs.Index.{count-reached}
-use Rattle.model.proofs.Numbering.States.{Ascending, member-has, index-below, state-index-injective, index-state-at}
+use Rattle.model.proofs.Numbering.States.{Ascending, listed-has, index-below, state-index-injective, index-state-at}
 use Rattle.model.proofs.Numbering.Letters.{letter-entry, member-letter, letter-index-injective, letter-index-behind, Keys, low-keys, letter-index-below}
 pub use Rattle.model.proofs.Rows.{tag-inside}
 
 -- what number of counter belongs to what is counted, read both ways
 module _ (p : Program) (t : Tables) where
-  pub state-counter : (c r : ℕ) → has-state t (state c r) ≡ true → counter-of p t (state-of c r) ≡ some (state-index t (state c r))
+  pub state-counter : (s : State) → has-state t s ≡ true → counter-of p t (state-of s) ≡ some (state-index t s)
   unfolding counter-of
-  state-counter c r h = rw (h, counter-of)
+  state-counter s h = rw (h, counter-of)
 
   pub letter-counter : (c l : ℕ) → l < letters p → has-letter p t (letter-key p c l) ≡ true → counter-of p t (letter-of c l) ≡ some (letter-index p t c l)
   unfolding counter-of
   letter-counter c l b h = rw (lt-ltb l (letters p) b, h, counter-of)
 
-  pub state-numbered : (c r x : ℕ) → counter-of p t (state-of c r) ≡ some x → (has-state t (state c r) ≡ true) × (state-index t (state c r) ≡ x)
+  pub state-numbered : (s : State) (x : ℕ) → counter-of p t (state-of s) ≡ some x → (has-state t s ≡ true) × (state-index t s ≡ x)
   unfolding counter-of
-  state-numbered c r x h =
-      test (has-state t (state c r))
-      (λ e. (e, cc (state-counter c r e)))
+  state-numbered s x h =
+      test (has-state t s)
+      (λ e. (e, cc (state-counter s e)))
       (λ e. absurd (Option·none-ne-some x (rw (e, counter-of) at h)))
 
   pub letter-numbered : (c l x : ℕ) → counter-of p t (letter-of c l) ≡ some x → (l < letters p) × (has-letter p t (letter-key p c l) ≡ true) × (letter-index p t c l ≡ x)
@@ -51,20 +50,20 @@ module _ (p : Program) (t : Tables) where
       (λ e. absurd (Option·none-ne-some x (rw (e, counter-of) at h)))
 
   -- states and letters have no counter in common
-  apart : (c r c′ l x : ℕ) → counter-of p t (state-of c r) ≡ some x → counter-of p t (letter-of c′ l) ≡ some x → ⊥
-  apart c r c′ l x h h′ =
-      let (a, b) = state-numbered c r x h in
-      let (u, v, w) = letter-numbered c′ l x h′ in
-      omega (arith, index-below t (state c r) a, letter-index-behind p t c′ l)
+  apart : (s : State) (c l x : ℕ) → counter-of p t (state-of s) ≡ some x → counter-of p t (letter-of c l) ≡ some x → ⊥
+  apart s c l x h h′ =
+      let (a, b) = state-numbered s x h in
+      let (u, v, w) = letter-numbered c l x h′ in
+      omega (arith, index-below t s a, letter-index-behind p t c l)
 
   -- no two things that are counted share a counter
   pub counter-injective : (k k′ : Counted) (x : ℕ) → counter-of p t k ≡ some x → counter-of p t k′ ≡ some x → k ≡ k′
-  counter-injective (state-of c r) (state-of c′ r′) x h h′ =
-      let (a, b) = state-numbered c r x h in
-      let (a′, b′) = state-numbered c′ r′ x h′ in
-      ap (λ s. state-of (s .class) (s .location)) (state-index-injective t (state c r) (state c′ r′) a a′ (b ∙ sym b′))
-  counter-injective (state-of c r) (letter-of c′ l′) x h h′ = absurd (apart c r c′ l′ x h h′)
-  counter-injective (letter-of c l) (state-of c′ r′) x h h′ = absurd (apart c′ r′ c l x h′ h)
+  counter-injective (state-of s) (state-of s′) x h h′ =
+      let (a, b) = state-numbered s x h in
+      let (a′, b′) = state-numbered s′ x h′ in
+      ap state-of (state-index-injective t s s′ a a′ (b ∙ sym b′))
+  counter-injective (state-of s) (letter-of c l) x h h′ = absurd (apart s c l x h h′)
+  counter-injective (letter-of c l) (state-of s) x h h′ = absurd (apart s c l x h′ h)
   counter-injective (letter-of c l) (letter-of c′ l′) x h h′ =
       let (u, v, w) = letter-numbered c l x h in
       let (u′, v′, w′) = letter-numbered c′ l′ x h′ in
@@ -74,16 +73,16 @@ module _ (p : Program) (t : Tables) where
   -- every counter is one of those that are counted
   pub counter-below-of : Keys p t → (k : Counted) (x : ℕ) → counter-of p t k ≡ some x → x < counter-count p t
   unfolding counter-count
-  counter-below-of keys (state-of c r) x h =
-      let (a, b) = state-numbered c r x h in
-      omega (arith, index-below t (state c r) a)
+  counter-below-of keys (state-of s) x h =
+      let (a, b) = state-numbered s x h in
+      omega (arith, index-below t s a)
   counter-below-of keys (letter-of c l) x h =
       let (u, v, w) = letter-numbered c l x h in
       omega (arith, letter-index-below p t keys c l v)
 
 -- What leaves no gap: the states ascend, and the classes and letters of mail are low enough for `letter-keys`
 pub record Numbered (p : Program) (t : Tables) : Type 0 where
-  pub ascending : Ascending (t .states)
+  pub ascending : Ascending t
   pub class-low : (i : ℕ) → i < t .mail .size → left (t .mail) i ≤ size p
   pub letter-low : (i : ℕ) → i < t .mail .size → row-letter p (right (t .mail) i) < letters p
 
@@ -101,16 +100,16 @@ pub class-at-most : (p : Program) → ((r : ℕ) → tag p r ≡ 6 → r < size 
 class-at-most p inside c h = ⊎-elim (λ e. let b = inside c e in omega arith) (λ e. omega arith) (class-tag p c h)
 
 -- mail in form has its keys below their count
-pub listed-keys : (p : Program) (t : Tables) → ((r : ℕ) → tag p r ≡ 6 → r < size p) → ((v : ℕ) → tag p v ≡ 2 → num p (v + 1) < p .constructors) → Listed (is-class p) (is-value p) (t .mail) → Keys p t
+pub listed-keys : (p : Program) (t : Tables) → ((r : ℕ) → tag p r ≡ 6 → r < size p) → ((v : ℕ) → tag p v ≡ 2 → num p (v + 1) < p .constructors) → Pairs-listed (is-class p) (is-value p) (t .mail) → Keys p t
 listed-keys p t inside built mail =
-    low-keys p t (λ i h. class-at-most p inside (left (t .mail) i) (mail .left-legal i h)) (λ i h. row-letter-low p built (right (t .mail) i))
+    low-keys p t (λ i h. class-at-most p inside (left (t .mail) i) (mail .in-range i h .0)) (λ i h. row-letter-low p built (right (t .mail) i))
 
 -- tables in form are numbered
-pub numbered : (p : Program) (t : Tables) (head : ℕ → Bool) → ((r : ℕ) → tag p r ≡ 6 → r < size p) → ((v : ℕ) → tag p v ≡ 2 → num p (v + 1) < p .constructors) → Listed (is-class p) (is-value p) (t .mail) → Listed (is-class p) head (t .states) → Numbered p t
-numbered p t head inside built mail states =
+pub numbered : (p : Program) (t : Tables) → ((r : ℕ) → tag p r ≡ 6 → r < size p) → ((v : ℕ) → tag p v ≡ 2 → num p (v + 1) < p .constructors) → Pairs-listed (is-class p) (is-value p) (t .mail) → States-listed p t → Numbered p t
+numbered p t inside built mail states =
     record {
       ascending = states .ascending;
-      class-low = λ i h. class-at-most p inside (left (t .mail) i) (mail .left-legal i h);
+      class-low = λ i h. class-at-most p inside (left (t .mail) i) (mail .in-range i h .0);
       letter-low = λ i h. row-letter-low p built (right (t .mail) i);
     }
 
@@ -128,12 +127,10 @@ module _ (p : Program) (t : Tables) (n : Numbered p t) where
 
   -- each counter belongs to something that is counted: the state with that number, or an entry of mail
   pub counter-reached : (x : ℕ) → x < counter-count p t → (k : Counted) × (counter-of p t k ≡ some x)
-  unfolding state-at
   counter-reached x h = elim (decLt x (t .states .size)) [
     | yes a ↦ (
-      state-of (left (t .states) x) (right (t .states) x),
-      state-counter p t (left (t .states) x) (right (t .states) x)
-          (member-has t (left (t .states) x) (right (t .states) x) (record { at = x; below = a; first = refl; second = refl })) ∙
+      state-of (state-at t x),
+      state-counter p t (state-at t x) (listed-has t (state-at t x) (record { at = x; below = a; here = refl })) ∙
           ap some (index-state-at t x (n .ascending) a),
     )
     | no a ↦

@@ -1,34 +1,21 @@
 -- Each state that is there has a number of its own (`state-index` of specs/Tables.antt).
 use Prim.Native.Nat.{ℕ, _<_}
 use native.Mathlib.Omega.{arith}
-use mathlib.Core.Path.{_≡_, refl, sym, _∙_, ap}
+use mathlib.Core.Path.{_≡_, refl, sym, _∙_, ap, subst}
 use mathlib.Core.Bool.{true}
-use mathlib.Core.Logic.{⊎-elim}
-use lib.Dec.{eqb}
-use borrow.Author.Tests.{ltb-true, eqb-true, eq-eqb}
-use Rattle.model.specs.Words.{Columns, left, right}
-use Rattle.model.specs.Tables.{Tables, State, state, same-state, state-at, state-index, has-state}
-use Rattle.model.specs.Wanted.{Member}
-use Rattle.model.specs.Demands.{Pair-below}
-use Rattle.model.proofs.Logic.{test, and-left, and-right, and-intro}
-use Rattle.model.proofs.Exact.Members.{has-state-iff}
+use mathlib.Core.List.{[], _∷_}
+use borrow.Author.Tests.{ltb-true}
+use Rattle.model.specs.Tables.{Tables, State, same-state, state-at, state-index, has-state}
+use Rattle.model.specs.Wanted.{Listed-state}
+use Rattle.model.specs.Demands.{Below, three-columns}
+use Rattle.model.proofs.Logic.{test}
+use Rattle.model.proofs.Keys.{below-irrefl}
+use Rattle.model.proofs.Exact.Members.{same-state-iff, has-state-iff}
 use Rattle.model.proofs.Index.{First, first-is, first-unique}
 
-same-state-path : (a b : State) → same-state a b ≡ true → a ≡ b
-unfolding same-state
-same-state-path a b h =
-    let e = eqb-true (a .class) (b .class) (and-left (eqb (a .class) (b .class)) (eqb (a .location) (b .location)) h) in
-    let f = eqb-true (a .location) (b .location) (and-right (eqb (a .class) (b .class)) (eqb (a .location) (b .location)) h) in
-    λ i. record { class = e i; location = f i }
-
-pub same-state-intro : (a b : State) → a .class ≡ b .class → a .location ≡ b .location → same-state a b ≡ true
-unfolding same-state
-same-state-intro a b e f =
-    and-intro (eqb (a .class) (b .class)) (eqb (a .location) (b .location)) (eq-eqb (a .class) (b .class) e) (eq-eqb (a .location) (b .location) f)
-
--- each entry is above those before
-abbrev pub Ascending : Columns → Type 0
-Ascending c = (i j : ℕ) → i < j → j < c .size → Pair-below (left c i) (right c i) (left c j) (right c j)
+-- each state is above those before
+abbrev pub Ascending : Tables → Type 0
+Ascending t = (i j : ℕ) → i < j → j < t .states .size → Below (three-columns t i) (three-columns t j)
 
 module _ (t : Tables) where
   -- the number of a state is the first that has it
@@ -41,31 +28,27 @@ module _ (t : Tables) where
   index-below s h = ltb-true (state-index t s) (t .states .size) h
 
   pub state-at-index : (s : State) → has-state t s ≡ true → state-at t (state-index t s) ≡ s
-  state-at-index s h = same-state-path (state-at t (state-index t s)) s (index-first s .passes (index-below s h))
+  state-at-index s h = same-state-iff (state-at t (state-index t s)) s .0 (index-first s .passes (index-below s h))
 
   -- two states that are there differ in their numbers
   pub state-index-injective : (s s′ : State) → has-state t s ≡ true → has-state t s′ ≡ true → state-index t s ≡ state-index t s′ → s ≡ s′
   state-index-injective s s′ h h′ e = sym (state-at-index s h) ∙ (ap (state-at t) e ∙ state-at-index s′ h′)
 
-  pub has-member : (c r : ℕ) → has-state t (state c r) ≡ true → Member (t .states) c r
-  has-member c r = has-state-iff t c r .0
+  pub has-listed : (s : State) → has-state t s ≡ true → Listed-state t s
+  has-listed s = has-state-iff t s .0
 
-  pub member-has : (c r : ℕ) → Member (t .states) c r → has-state t (state c r) ≡ true
-  member-has c r = has-state-iff t c r .1
+  pub listed-has : (s : State) → Listed-state t s → has-state t s ≡ true
+  listed-has s = has-state-iff t s .1
 
   -- in a list that ascends each entry is the first of its kind
-  pub index-state-at : (i : ℕ) → Ascending (t .states) → i < t .states .size → state-index t (state-at t i) ≡ i
+  pub index-state-at : (i : ℕ) → Ascending t → i < t .states .size → state-index t (state-at t i) ≡ i
   unfolding state-index state-at
   index-state-at i ascending h = first-unique 0 (t .states .size) i (λ j. same-state (state-at t j) (state-at t i)) (omega arith) (record {
     from = omega arith;
     upto = omega arith;
-    passes = λ k. same-state-intro (state-at t i) (state-at t i) refl refl;
+    passes = λ k. same-state-iff (state-at t i) (state-at t i) .1 refl;
     before = λ j a b. test (same-state (state-at t j) (state-at t i))
-        (λ e. let z = same-state-path (state-at t j) (state-at t i) e in
-        let x : left (t .states) j ≡ left (t .states) i = ap (λ s. s .class) z in
-        let y : right (t .states) j ≡ right (t .states) i = ap (λ s. s .location) z in
-        ⊎-elim (λ (q : left (t .states) j < left (t .states) i). absurd (omega arith))
-        (λ (q : (left (t .states) j ≡ left (t .states) i) × (right (t .states) j < right (t .states) i)). absurd (omega arith))
-        (ascending j i b h))
+        (λ e. absurd (below-irrefl (three-columns t i)
+        (subst (λ s. Below (s .class ∷ s .location ∷ s .return ∷ []) (three-columns t i)) (same-state-iff (state-at t j) (state-at t i) .0 e) (ascending j i b h))))
         (λ e. e);
   })

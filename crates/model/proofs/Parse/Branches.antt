@@ -9,23 +9,21 @@ use native.Mathlib.Decide.{ℕ-discrete}
 use Rattle.model.specs.Limits.{maxDepth}
 use Rattle.model.specs.Rows.{Program, tag, num, is-head, Item, expression, pattern, branch, branch-items, step}
 use Rattle.model.specs.Scopes.{binds}
-use Rattle.model.specs.Heads.{cases, receives, head-at, branch-rows, branch-body, is-function}
+use Rattle.model.specs.Heads.{cases, receives, head-at, branch-rows, branch-body}
 use Rattle.model.proofs.Heads.{head-case, head-receive}
 use Rattle.model.proofs.Parse.Spans.{spans-past, spans-range}
 use Rattle.model.proofs.Parse.Reached.{Stands, stands-only, stands-split}
 use Rattle.model.proofs.Parse.Grammar.{fits-tag}
 use Rattle.model.proofs.Parse.Heads.{known-kind, known-tag}
 use Rattle.model.proofs.Parse.Locations.{Location, location-follows}
-use Rattle.model.proofs.Parse.Functions.{Enclosed, stands-enclosed, enclosed-append}
 
--- the branches of the head at row r stand from row `from` up to row e; no function's row is before them, no head's, and none that binds a name
+-- the branches of the head at row r stand from row `from` up to row e; no head's row is before them, and none that binds a name
 pub record Branches (p : Program) (r : ℕ) (qs : List ℕ) (below : List Item) (e : ℕ) : Type 0 where
   pub count : ℕ
   pub from : ℕ
   pub rows : branch-rows p count from ≡ qs
   pub stands : Stands p (branch-items count) below from e
   pub behind : r < from
-  pub no-function : (f : ℕ) → r ≤ f → f < from → is-function p f ≡ false
   pub no-head : (f : ℕ) → r < f → f < from → is-head (tag p f) ≡ false
   pub no-name : (f : ℕ) → r ≤ f → f < from → binds (tag p f) ≡ false
 
@@ -37,7 +35,6 @@ pub record Branch (p : Program) (s q e : ℕ) : Type 0 where
   pub from : s ≤ q
   pub pattern-stands : Stands p (pattern maxDepth ∷ []) (expression ∷ below) q (branch-body p q)
   pub body-stands : Stands p (expression ∷ []) below (branch-body p q) end
-  pub enclosed : Enclosed p s (branch-body p q)
 
 -- of two rows from r on, the second
 only-next : {r f : ℕ} → r ≤ f → (f ≡ r → ⊥) → f < r + 2 → f ≡ r + 1
@@ -57,13 +54,11 @@ module _ {p : Program} where
         from = omega arith;
         pattern-stands = rw z at front;
         body-stands = rw z at others;
-        enclosed = rw z at (stands-enclosed front);
       }
 
   later-branch : {s m q e : ℕ} {below : List Item} → Stands p branch below s m → Branch p m q e → Branch p s q e
   later-branch {s} {m} {q} {e} h b =
       let v = spans-range (h .spans) in
-      let w = spans-range (b .pattern-stands .spans) in
       let l = b .from in
       record {
         below = b .below;
@@ -72,7 +67,6 @@ module _ {p : Program} where
         from = omega arith;
         pattern-stands = b .pattern-stands;
         body-stands = b .body-stands;
-        enclosed = enclosed-append (omega arith) (stands-enclosed h) (b .enclosed);
       }
 
   -- each branch row has a branch
@@ -96,7 +90,7 @@ module _ {p : Program} where
 
   -- the branches of a case, and of a receive
   pub case-branches : {r n : ℕ} {qs : List ℕ} (l : Location p r) → head-at p r ≡ cases n qs → Branches p r qs (l .below) (l .end)
-  unfolding is-function is-head binds step
+  unfolding is-head binds step
   case-branches {r} {n} {qs} l h =
       let k = known-kind p r (cases n qs) h in
       let t : tag p r ≡ 8 = known-tag p r (cases n qs) h (omega arith) in
@@ -104,15 +98,12 @@ module _ {p : Program} where
       let (more, says, others) = stands-only (rw k at (location-follows l)) in
       let (t′, same) = fits-tag (tag p (r + 1)) 25 _ (branch-items (num p (r + 1))) more says in
       let two : r + 1 + 1 ≡ r + 2 = omega arith in
-      let a : is-function p r ≡ false = rw t in
-      let b : is-function p (r + 1) ≡ false = rw t′ in
       record {
         count = num p (r + 1);
         from = r + 2;
         rows = cc;
         stands = rw (← same, two) at others;
         behind = omega arith;
-        no-function = λ f lo hi. elim (ℕ-discrete f r) [ yes z ↦ ap (is-function p) z ∙ a | no z ↦ ap (is-function p) (only-next lo z hi) ∙ b ];
         no-head = λ f lo hi. let z : f ≡ r + 1 = omega arith in ap (λ x. is-head (tag p x)) z ∙ ap is-head t′;
         no-name = λ f lo hi. elim (ℕ-discrete f r) [
           | yes z ↦ ap (λ x. binds (tag p x)) z ∙ ap binds t
@@ -121,11 +112,10 @@ module _ {p : Program} where
       }
 
   pub receive-branches : {r : ℕ} {qs : List ℕ} (l : Location p r) → head-at p r ≡ receives qs → Branches p r qs (l .below) (l .end)
-  unfolding is-function binds
+  unfolding binds
   receive-branches {r} {qs} l h =
       let k = known-kind p r (receives qs) h in
       let t : tag p r ≡ 9 = known-tag p r (receives qs) h (omega arith) in
-      let a : is-function p r ≡ false = rw t in
       let z : receives (branch-rows p (num p r) (r + 1)) ≡ receives qs = sym (head-receive p r k) ∙ h in
       record {
         count = num p r;
@@ -133,7 +123,6 @@ module _ {p : Program} where
         rows = cc;
         stands = rw k at (location-follows l);
         behind = omega arith;
-        no-function = λ f lo hi. let z : f ≡ r = omega arith in ap (is-function p) z ∙ a;
         no-head = λ f lo hi. absurd (omega arith);
         no-name = λ f lo hi. let z : f ≡ r = omega arith in ap (λ x. binds (tag p x)) z ∙ ap binds t;
       }

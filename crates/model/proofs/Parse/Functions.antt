@@ -5,7 +5,6 @@ use mathlib.Core.Path.{_≡_, sym}
 use mathlib.Core.Bool.{true}
 use mathlib.Core.List.{List, [], _∷_}
 use mathlib.Core.Logic.{_⊎_, inl, inr, ⊎-elim}
-use native.Mathlib.Decide.{decLt}
 use Rattle.model.specs.Rows.{Program, size, tag, num, kind, function, Item, global, header, expression, body-form, lead, past-items, step}
 use Rattle.model.specs.Heads.{is-function, body}
 pub use Rattle.model.proofs.Heads.{function-tag}
@@ -20,10 +19,6 @@ pub record Function-form (p : Program) (f e : ℕ) : Type 0 where
   pub end : ℕ
   pub form : Stands p body-form behind (f + 1) end
   pub upto : end ≤ e
-
--- each function from row s below row e has its body form before e
-pub record Enclosed (p : Program) (s e : ℕ) : Type 0 where
-  pub ends : (f : ℕ) → s ≤ f → f < e → is-function p f ≡ true → past-items p body-form (f + 1) ≤ e
 
 module _ {p : Program} where
   -- a function in an expression (tag 3), and one of the first (tag 11)
@@ -55,25 +50,14 @@ module _ {p : Program} where
   pub function-form : {x : Item} {below : List Item} {f e : ℕ} → Stands p (x ∷ []) below f e → is-function p f ≡ true → Function-form p f e
   function-form s h = ⊎-elim (λ z. inner-form (z .1) (rw (z .0) at s)) (λ z. outer-form (rw (z .0) at s)) (function-item s h)
 
-  -- functions in items end with the items
-  pub stands-enclosed : {xs below : List Item} {s e : ℕ} → Stands p xs below s e → Enclosed p s e
-  stands-enclosed {xs} {below} {s} {e} st = record {
-    ends = λ f lo hi h.
-        let i = stands-inside f lo hi st in
-        let (m, front, upto) = stands-front (i .stands) in
-        let g = function-form front h in
-        let z = spans-past (g .form .spans) in
-        omega arith;
-  }
-
-  -- one stretch of rows after another
-  pub enclosed-append : {s m e : ℕ} → m ≤ e → Enclosed p s m → Enclosed p m e → Enclosed p s e
-  enclosed-append {s} {m} {e} l a b = record {
-    ends = λ f lo hi h. elim (decLt f m) [
-      | yes u ↦ let z = a .ends f lo u h in omega arith
-      | no u ↦ b .ends f (omega arith) hi h
-    ];
-  }
+  -- a function in items ends with the items
+  pub stands-enclosed : {xs below : List Item} {s e : ℕ} → Stands p xs below s e → (f : ℕ) → s ≤ f → f < e → is-function p f ≡ true → past-items p body-form (f + 1) ≤ e
+  stands-enclosed {xs} {below} {s} {e} st f lo hi h =
+      let i = stands-inside f lo hi st in
+      let (m, front, upto) = stands-front (i .stands) in
+      let g = function-form front h in
+      let z = spans-past (g .form .spans) in
+      omega arith
 
   -- the header, and the body
   pub form-body : {f e : ℕ} (g : Function-form p f e) → Stands p (header ∷ []) (expression ∷ g .behind) (f + 1) (body p f) × Stands p (expression ∷ []) (g .behind) (body p f) (g .end)

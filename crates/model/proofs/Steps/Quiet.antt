@@ -12,9 +12,11 @@ use Rattle.model.specs.Heads.{nums, branch-rows, branch-body, call-at, h
 use Rattle.model.specs.Values.{Value, closure, built, address, Bindings, bind, value-of, values-of, bind-all, Frame, Process, process, Processes}
 use Rattle.model.specs.Matching.{Taken, first-branch}
 use Rattle.model.specs.Run.{_>>=_, moved, Function, function-of, give-back, enter, act}
-use Rattle.model.specs.Tables.{Tables}
+use Rattle.model.specs.Tables.{Tables, State, onward}
+use Rattle.model.specs.Tables.{state as triple}
+use Rattle.model.specs.Letters.{return-of, state-in}
 use Rattle.model.specs.Rules.{quiet, rules}
-use Rattle.model.specs.Wanted.{Member, Closed, flow, state, build-name, build-rest, function-name, function-rest, self-name, self-rest, call-parameter, call-body, return-name, return-rest, by-state}
+use Rattle.model.specs.Wanted.{Member, Listed-state, Closed, flow, state, build-name, build-rest, function-name, function-rest, self-name, self-rest, call-parameter, call-body, return-name, return-rest, by-state}
 use Rattle.model.specs.Wanted.{Returns, MayCall, by-case}
 use Rattle.model.proofs.Transitions.Callees.{function-of-some}
 use Rattle.model.proofs.Heads.{tag-is, head-give, head-build, head-function, head-call, head-self, head-case}
@@ -30,11 +32,10 @@ use Rattle.model.proofs.Parse.Locations.{rest-location}
 use Rattle.model.proofs.Parse.Functions.{body-location}
 use Rattle.model.proofs.Parse.Branches.{case-branches}
 use Rattle.model.proofs.Parse.Lengths.{Columns-whole, function-within}
-use Rattle.model.proofs.Parse.Innermost.{innermost-rest, innermost-body}
 use Rattle.model.proofs.Counting.Receives.{Chosen, chosen}
 use Rattle.model.proofs.Steps.Letters.{Classes}
 use Rattle.model.proofs.Steps.Branch.{branch-may, branch-good}
-use Rattle.model.proofs.Invariant.{Frames, Good, frames-moved}
+use Rattle.model.proofs.Invariant.{Frames, Good}
 use Rattle.model.proofs.RuleAt.{moving, rule-build, rule-function, rule-self, rule-call, rule-give, rule-case}
 
 -- process q has become another of the same class and mailbox, by a rule without an effect
@@ -44,7 +45,7 @@ pub record Quietly (p : Program) (t : Tables) (classes : List ℕ) (qs : Process
   pub frames : List Frame
   pub result : qs′ ≡ set qs i (process (q .class) to held frames (q .mailbox))
   pub good : Good p t classes (process (q .class) to held frames (q .mailbox))
-  pub follows : List·Memᴰ (moving p t (q .class) (q .location) to quiet) (rules p t)
+  pub follows : List·Memᴰ (moving p t (state-in p q) (triple (q .class) to (return-of p frames)) quiet) (rules p t)
 
 by-frames {ℓ} : {A : Type ℓ} (l : List Frame) → (l ≡ [] → A) → ((f : Frame) (fs : List Frame) → l ≡ f ∷ fs → A) → A
 by-frames [] a b = a refl
@@ -59,7 +60,7 @@ few p r ns e j b =
 
 module _ (p : Program) (t : Tables) (fit : Rows-fit p) (w : Columns-whole p) (closed : Closed p t) (classes : List ℕ) where
   -- at the rest, with one name more
-  pub at-rest : (q : Process) (held : Bindings) → Good p t classes q → rest-of (head-at p (q .location)) ≡ some (rest p (q .location)) → Member (t .states) (q .class) (rest p (q .location)) → Held p t classes held → Good p t classes (moved q (rest p (q .location)) held)
+  pub at-rest : (q : Process) (held : Bindings) → Good p t classes q → rest-of (head-at p (q .location)) ≡ some (rest p (q .location)) → Listed-state t (onward (state-in p q) (rest p (q .location))) → Held p t classes held → Good p t classes (moved q (rest p (q .location)) held)
   unfolding moved
   at-rest q held g k present h =
       record {
@@ -67,7 +68,7 @@ module _ (p : Program) (t : Tables) (fit : Rows-fit p) (w : Columns-whole p) (cl
         class = g .class;
         present = present;
         held = h;
-        frames = frames-moved p t classes (q .class) (q .location) (rest p (q .location)) (q .frames) (innermost-rest p fit (g .location) k) (g .frames);
+        frames = g .frames;
         mailbox = g .mailbox;
       }
 
@@ -76,7 +77,6 @@ module _ (p : Program) (t : Tables) (fit : Rows-fit p) (w : Columns-whole p) (cl
     unfolding moved row-for
     build-step k =
         let r : ℕ = q .location in
-        let c : ℕ = q .class in
         let n : ℕ = num p r in
         let made : ℕ = num p (r + 1) in
         let ns : List ℕ = nums p (r + 2) (arity p made) in
@@ -90,14 +90,13 @@ module _ (p : Program) (t : Tables) (fit : Rows-fit p) (w : Columns-whole p) (cl
           result = sym (Option·some-injective _ qs′ (b .then));
           good = at-rest q (bind n (built r made (b .value)) (q .held)) g (ap rest-of wanted) (closed _ (by-state (g .present) (build-rest n made (rest p r) ns wanted)))
               (closed _ (by-state (g .present) (build-name n made (rest p r) ns wanted)), (tag-is (tag p r) build k, refl, v .0, v .1), g .held);
-          follows = rule-build p t c r (g .present) k;
+          follows = rule-build p t (state-in p q) (g .present) k;
         }
 
     pub function-step : kind (tag p (q .location)) ≡ function → Quietly p t classes qs i q qs′
     unfolding moved row-for is-function
     function-step k =
         let r : ℕ = q .location in
-        let c : ℕ = q .class in
         let n : ℕ = num p r in
         let wanted = head-function p r k in
         let three = eq-eqb (tag p r) 3 (tag-is (tag p r) function k) in
@@ -108,7 +107,7 @@ module _ (p : Program) (t : Tables) (fit : Rows-fit p) (w : Columns-whole p) (cl
           result = sym (Option·some-injective _ qs′ (sym (act-function p qs i q k) ∙ h));
           good = at-rest q (bind n (closure r (q .held)) (q .held)) g (ap rest-of wanted) (closed _ (by-state (g .present) (function-rest n (rest p r) wanted)))
               (closed _ (by-state (g .present) (function-name n (rest p r) wanted)), (or-left (eqb (tag p r) 3) (eqb (tag p r) 11) three, g .held), g .held);
-          follows = rule-function p t c r (g .present) k;
+          follows = rule-function p t (state-in p q) (g .present) k;
         }
 
     -- the process's own address stands for its class
@@ -116,7 +115,6 @@ module _ (p : Program) (t : Tables) (fit : Rows-fit p) (w : Columns-whole p) (cl
     unfolding moved row-for
     self-step own there k =
         let r : ℕ = q .location in
-        let c : ℕ = q .class in
         let n : ℕ = num p r in
         let wanted = head-self p r k in
         record {
@@ -126,7 +124,7 @@ module _ (p : Program) (t : Tables) (fit : Rows-fit p) (w : Columns-whole p) (cl
           result = sym (Option·some-injective _ qs′ (sym (act-self p qs i q k) ∙ h));
           good = at-rest q (bind n (address i) (q .held)) g (ap rest-of wanted) (closed _ (by-state (g .present) (self-rest n (rest p r) wanted)))
               (subst (Member (t .flow) n) (sym own) (closed _ (by-state (g .present) (self-name n (rest p r) wanted))), there, g .held);
-          follows = rule-self p t c r (g .present) k;
+          follows = rule-self p t (state-in p q) (g .present) k;
         }
 
     module _ (k : kind (tag p (q .location)) ≡ call) (v : Value) (f : Function) (vs : Bindings) (callee : value-of p (q .held) (call-at p (q .location) .callee) ≡ some v) (is : function-of p (call-at p (q .location) .count) v ≡ some f) (given : values-of p (q .held) (call-at p (q .location) .arguments) ≡ some vs) where
@@ -150,7 +148,7 @@ module _ (p : Program) (t : Tables) (fit : Rows-fit p) (w : Columns-whole p) (cl
           (few p (q .location) (names-of vs) names j b) (subst (λ (l : List ℕ). Member (t .flow) (getD l j 0) w) names m))))
 
       entered : qs′ ≡ set qs i (enter p q f vs) → Quietly p t classes qs i q qs′
-      unfolding enter
+      unfolding enter return-of
       entered e =
           record {
             to = body p (f .row);
@@ -160,23 +158,20 @@ module _ (p : Program) (t : Tables) (fit : Rows-fit p) (w : Columns-whole p) (cl
             good = record {
               location = body-location fit (f .row) (function-within w (f .row) (known .1 .0)) (known .1 .0);
               class = g .class;
-              present = closed (state (q .class) (body p (f .row))) (by-state (g .present) (call-body (f .row) (call-at p (q .location)) (head-call p (q .location) k) may));
+              present = closed (state (triple (q .class) (body p (f .row)) (q .location))) (by-state (g .present) (call-body (f .row) (call-at p (q .location)) (head-call p (q .location) k) may));
               held = passed;
               frames = (
                 record {
-                  inner = f .row;
-                  inside = innermost-body p fit (f .row) (function-within w (f .row) (known .1 .0)) (known .1 .0);
                   location = g .location;
                   is-call = tag-is (tag p (q .location)) call k;
                   present = g .present;
-                  may-call = may;
                   held = g .held;
                 },
                 g .frames,
               );
               mailbox = g .mailbox;
             };
-            follows = rule-call p t (q .class) (q .location) (g .present) (f .row) k may;
+            follows = rule-call p t (state-in p q) (g .present) (f .row) k may;
           }
 
     pub call-step : kind (tag p (q .location)) ≡ call → Quietly p t classes qs i q qs′
@@ -188,27 +183,31 @@ module _ (p : Program) (t : Tables) (fit : Rows-fit p) (w : Columns-whole p) (cl
         entered k (b .value) (d .value) (e .value) (b .given) (d .given) (e .given) (sym (Option·some-injective (set qs i (enter p q (d .value) (e .value))) qs′ (e .then)))
 
     -- giving back to the call that waits on top
-    returned : (n : ℕ) (v : Value) (f : Frame) (fs : List Frame) → head-at p (q .location) ≡ gives n → kind (tag p (q .location)) ≡ give → Member (t .flow) n (row-for classes v) × Covered p t classes v → Frames p t classes (q .class) (q .location) (f ∷ fs) → qs′ ≡ set qs i (process (q .class) (call-at p (f .call) .rest) (bind (call-at p (f .call) .name) v (f .held)) fs (q .mailbox)) → Quietly p t classes qs i q qs′
-    unfolding call-at kind
-    returned n v f fs head k known (x, xs) e =
+    returned : (n : ℕ) (v : Value) (f : Frame) (fs : List Frame) → head-at p (q .location) ≡ gives n → kind (tag p (q .location)) ≡ give → Member (t .flow) n (row-for classes v) × Covered p t classes v → q .frames ≡ f ∷ fs → qs′ ≡ set qs i (process (q .class) (call-at p (f .call) .rest) (bind (call-at p (f .call) .name) v (f .held)) fs (q .mailbox)) → Quietly p t classes qs i q qs′
+    unfolding call-at kind return-of
+    returned n v f fs head k known pushed e =
         let c : ℕ = q .class in
+        let b : ℕ = return-of p fs in
+        let s : State = triple c (q .location) (f .call) in
+        let (x, xs) = subst (Frames p t classes c) pushed (g .frames) in
+        let here : Listed-state t s = subst (λ (l : List Frame). Listed-state t (triple c (q .location) (return-of p l))) pushed (g .present) in
         let is-call : kind (tag p (f .call)) ≡ call = ap kind (x .is-call) in
-        let goes-on = ap rest-of (head-call p (f .call) is-call) in
-        let returns : Returns p t c (q .location) n (x .inner) (f .call) = record { gives-back = head; inside = x .inside; waits = x .present; is-call = x .is-call; may-call = x .may-call } in
+        let returns : Returns p t s n b = record { gives-back = head; waits = x .present } in
         record {
           to = rest p (f .call);
           held = bind (num p (f .call)) v (f .held);
           frames = fs;
           result = e;
           good = record {
-            location = rest-location (x .location) goes-on;
+            location = rest-location (x .location) (ap rest-of (head-call p (f .call) is-call));
             class = g .class;
-            present = closed (state c (rest p (f .call))) (by-state (g .present) (return-rest n (x .inner) (f .call) returns));
-            held = (closed (flow (num p (f .call)) (row-for classes v)) (by-state (g .present) (return-name n (x .inner) (f .call) (row-for classes v) returns (known .0))), known .1, x .held);
-            frames = frames-moved p t classes c (f .call) (rest p (f .call)) fs (innermost-rest p fit (x .location) goes-on) xs;
+            present = closed (state (triple c (rest p (f .call)) b)) (by-state here (return-rest n b returns));
+            held = (closed (flow (num p (f .call)) (row-for classes v)) (by-state here (return-name n b (row-for classes v) returns (known .0))), known .1, x .held);
+            frames = xs;
             mailbox = g .mailbox;
           };
-          follows = rule-give p t c (q .location) (g .present) (x .inner) (f .call) k (x .inside) (x .present) (x .is-call) (x .may-call);
+          follows = subst (λ (l : List Frame). List·Memᴰ (moving p t (triple c (q .location) (return-of p l)) (triple c (rest p (f .call)) b) quiet) (rules p t)) (sym pushed)
+              (rule-give p t s here b k (x .present));
         }
 
     pub give-step : kind (tag p (q .location)) ≡ give → Quietly p t classes qs i q qs′
@@ -220,7 +219,7 @@ module _ (p : Program) (t : Tables) (fit : Rows-fit p) (w : Columns-whole p) (cl
         let known = value-held p t closed classes (q .held) n (b .value) (g .held) (b .given) in
         by-frames (q .frames)
         (λ e. absurd (Option·none-ne-some (d .value) (subst (λ (fs : List Frame). give-back p q (b .value) fs ≡ some (d .value)) e (d .given))))
-        (λ f fs e. returned n (b .value) f fs (head-give p (q .location) k) k known (subst (Frames p t classes (q .class) (q .location)) e (g .frames))
+        (λ f fs e. returned n (b .value) f fs (head-give p (q .location) k) k known e
         (sym (ap (λ (x : Process). set qs i x) (Option·some-injective _ (d .value) (subst (λ (l : List Frame). give-back p q (b .value) l ≡ some (d .value)) e (d .given))) ∙ Option·some-injective (set qs i (d .value)) qs′ (d .then))))
 
     -- a branch of a case, which may take the value
@@ -241,7 +240,7 @@ module _ (p : Program) (t : Tables) (fit : Rows-fit p) (w : Columns-whole p) (cl
           result = e ∙ ap (λ (y : ℕ). set qs i (process c y (x .held) (q .frames) (q .mailbox))) (ch .goes-on);
           good = branch-good p t fit w closed classes classed q g bs at (ch .branch) (ch .listed) v covered (x .held) (ch .matches) (q .mailbox)
               (by-case n bs (ch .branch) (row-for classes v) (head-case p r k) (ch .listed) value may) (g .mailbox);
-          follows = rule-case p t c r (g .present) (ch .branch) (row-for classes v) k (ch .listed) value may;
+          follows = rule-case p t (state-in p q) (g .present) (ch .branch) (row-for classes v) k (ch .listed) value may;
         }
 
     pub case-step : Classes p classes → kind (tag p (q .location)) ≡ case → Quietly p t classes qs i q qs′

@@ -7,11 +7,11 @@ use lib.ListN.{set}
 use Rattle.model.specs.Rows.{Program, size, tag, num, kind}
 use Rattle.model.specs.Rows.{receive}
 use Rattle.model.specs.Heads.{branch-rows, branch-body}
-use Rattle.model.specs.Letters.{letters, row-letter, value-letter}
+use Rattle.model.specs.Letters.{letters, row-letter, value-letter, state-in}
 use Rattle.model.specs.Values.{Value, Bindings, Process, process, Processes}
 use Rattle.model.specs.Matching.{Received, receive-from}
 use Rattle.model.specs.Run.{act}
-use Rattle.model.specs.Tables.{Tables}
+use Rattle.model.specs.Tables.{Tables, onward}
 use Rattle.model.specs.Rules.{reads, rules}
 use Rattle.model.specs.Counters.{letter-index}
 use Rattle.model.specs.Wanted.{Member, Closed, by-receive}
@@ -38,7 +38,7 @@ pub record Receives (p : Program) (t : Tables) (classes : List ℕ) (qs : Proces
   pub result : qs′ ≡ set qs i (process (q .class) to held (q .frames) (received .mailbox))
   pub good : Good p t classes (process (q .class) to held (q .frames) (received .mailbox))
   pub mailed : Member (t .mail) (q .class) (row-for classes (taken .message)) × (row-letter p (row-for classes (taken .message)) ≡ value-letter p (taken .message))
-  pub follows : List·Memᴰ (moving p t (q .class) (q .location) to (reads (letter-index p t (q .class) (value-letter p (taken .message))))) (rules p t)
+  pub follows : List·Memᴰ (moving p t (state-in p q) (onward (state-in p q) to) (reads (letter-index p t (q .class) (value-letter p (taken .message))))) (rules p t)
 
 module _ (p : Program) (t : Tables) (fit : Rows-fit p) (w : Columns-whole p) (past-end : tag p (size p) ≡ 0) (low : (v : ℕ) → row-letter p v < letters p) (closed : Closed p t) (classes : List ℕ) (classed : Classes p classes) (qs : Processes) (i : ℕ) (q : Process) (qs′ : Processes) (g : Good p t classes q) (k : kind (tag p (q .location)) ≡ receive) where
   abbrev branches-here : List ℕ
@@ -64,8 +64,8 @@ module _ (p : Program) (t : Tables) (fit : Rows-fit p) (w : Columns-whole p) (pa
             (by-receive branches-here (ch .branch) (row-for classes v) (head-receive p r k) (ch .listed) mailed may)
             (λ u there. g .mailbox u (x .stays u there));
         mailed = (mailed, same);
-        follows = subst (λ (l : ℕ). List·Memᴰ (moving p t c r (branch-body p (ch .branch)) (reads (letter-index p t c l))) (rules p t)) same
-            (rule-receive p t c r (g .present) (ch .branch) (row-for classes v) k (ch .listed) mailed may (low (row-for classes v)));
+        follows = subst (λ (l : ℕ). List·Memᴰ (moving p t (state-in p q) (onward (state-in p q) (branch-body p (ch .branch))) (reads (letter-index p t c l))) (rules p t)) same
+            (rule-receive p t (state-in p q) (g .present) (ch .branch) (row-for classes v) k (ch .listed) mailed may (low (row-for classes v)));
       }
 
   pub receive-step : act p qs i q ≡ some qs′ → Receives p t classes qs i q qs′

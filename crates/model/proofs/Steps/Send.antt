@@ -8,10 +8,10 @@ use lib.ListN.{length, getD, set}
 use Rattle.model.specs.Rows.{Program, size, tag, num, kind}
 use Rattle.model.specs.Rows.{send}
 use Rattle.model.specs.Scopes.{rest}
-use Rattle.model.specs.Letters.{letters, row-letter, value-letter}
+use Rattle.model.specs.Letters.{letters, row-letter, value-letter, state-in}
 use Rattle.model.specs.Values.{Value, Bindings, bind, value-of, Process, Processes, process-of}
 use Rattle.model.specs.Run.{_>>=_, moved, deliver, act}
-use Rattle.model.specs.Tables.{Tables}
+use Rattle.model.specs.Tables.{Tables, onward}
 use Rattle.model.specs.Rules.{puts, rules}
 use Rattle.model.specs.Counters.{letter-index}
 use Rattle.model.specs.Wanted.{Member, Closed, flow, mail, state, Sends, send-mail, send-name, send-rest, by-state}
@@ -39,13 +39,12 @@ pub record Sent (p : Program) (t : Tables) (classes : List ℕ) (qs : Processes)
   pub covered : Covered p t classes message
   pub mailed : Member (t .mail) (getD classes target 0) (row-for classes message)
   pub same : row-letter p (row-for classes message) ≡ value-letter p message
-  pub follows : List·Memᴰ (moving p t (q .class) (q .location) (rest p (q .location)) (puts (letter-index p t (getD classes target 0) (value-letter p message)))) (rules p t)
+  pub follows : List·Memᴰ (moving p t (state-in p q) (onward (state-in p q) (rest p (q .location))) (puts (letter-index p t (getD classes target 0) (value-letter p message)))) (rules p t)
 
 module _ (p : Program) (t : Tables) (fit : Rows-fit p) (w : Columns-whole p) (past-end : tag p (size p) ≡ 0) (low : (v : ℕ) → row-letter p v < letters p) (closed : Closed p t) (classes : List ℕ) (classed : Classes p classes) (qs : Processes) (i : ℕ) (q : Process) (qs′ : Processes) (g : Good p t classes q) (k : kind (tag p (q .location)) ≡ send) where
   sent : (target v : Value) (j : ℕ) → value-of p (q .held) (num p (q .location + 1)) ≡ some target → process-of target ≡ some j → value-of p (q .held) (num p (q .location + 2)) ≡ some v → deliver (set qs i (moved q (rest p (q .location)) (bind (num p (q .location)) v (q .held)))) j v ≡ some qs′ → Sent p t classes qs i q qs′
   unfolding row-for
   sent target v j to-whom is what e =
-      let c : ℕ = q .class in
       let r : ℕ = q .location in
       let n : ℕ = num p r in
       let (addressee, there) = subst (λ (u : Value). Member (t .flow) (num p (r + 1)) (row-for classes u) × Covered p t classes u) (process-of-some target j is) (value-held p t closed classes (q .held) (num p (r + 1)) target (g .held) to-whom) in
@@ -58,14 +57,14 @@ module _ (p : Program) (t : Tables) (fit : Rows-fit p) (w : Columns-whole p) (pa
         target = j;
         message = v;
         result = e;
-        good = at-rest p t fit w closed classes q (bind n v (q .held)) g (ap rest-of (head-send p r k)) (closed (state c (rest p r)) (by-state (g .present) (send-rest n (rest p r) d (row-for classes v) sends)))
+        good = at-rest p t fit w closed classes q (bind n v (q .held)) g (ap rest-of (head-send p r k)) (closed (state (onward (state-in p q) (rest p r))) (by-state (g .present) (send-rest n (rest p r) d (row-for classes v) sends)))
             (closed (flow n (row-for classes v)) (by-state (g .present) (send-name n (rest p r) d (row-for classes v) sends)), covered, g .held);
         there = there;
         covered = covered;
         mailed = closed (mail d (row-for classes v)) (by-state (g .present) (send-mail n (rest p r) d (row-for classes v) sends));
         same = same;
-        follows = subst (λ (l : ℕ). List·Memᴰ (moving p t c r (rest p r) (puts (letter-index p t d l))) (rules p t)) same
-            (rule-send p t c r (g .present) d (row-for classes v) k addressee (classed j there) value (low (row-for classes v)));
+        follows = subst (λ (l : ℕ). List·Memᴰ (moving p t (state-in p q) (onward (state-in p q) (rest p r)) (puts (letter-index p t d l))) (rules p t)) same
+            (rule-send p t (state-in p q) (g .present) d (row-for classes v) k addressee (classed j there) value (low (row-for classes v)));
       }
 
   pub send-step : act p qs i q ≡ some qs′ → Sent p t classes qs i q qs′

@@ -14,8 +14,9 @@ use Rattle.model.specs.Scopes.{rest}
 use Rattle.model.specs.Heads.{body, is-class}
 use Rattle.model.specs.Values.{Value, address, Bindings, bind, value-of, Process, Processes}
 use Rattle.model.specs.Run.{_>>=_, moved, Function, function-of, spawned, act}
-use Rattle.model.specs.Tables.{Tables, state-index}
-use Rattle.model.specs.Tables.{state as at-state}
+use Rattle.model.specs.Tables.{Tables, onward, state-index}
+use Rattle.model.specs.Tables.{state as triple}
+use Rattle.model.specs.Letters.{return-of, state-in}
 use Rattle.model.specs.Rules.{starts, rules}
 use Rattle.model.specs.Wanted.{Member, Closed, flow, state, Spawns, spawn-name, spawn-rest, spawn-body, by-state}
 use Rattle.model.proofs.Logic.{or-left}
@@ -40,13 +41,12 @@ pub record Spawned (p : Program) (t : Tables) (classes : List ℕ) (qs : Process
   pub result : qs′ ≡ set qs i (moved q (rest p (q .location)) held) ++ (spawned p (q .location) function ∷ [])
   pub good : Good p t (classes ++ (q .location ∷ [])) (moved q (rest p (q .location)) held)
   pub new-good : Good p t (classes ++ (q .location ∷ [])) (spawned p (q .location) function)
-  pub follows : List·Memᴰ (moving p t (q .class) (q .location) (rest p (q .location)) (starts (state-index t (at-state (q .location) (body p (function .row)))))) (rules p t)
+  pub follows : List·Memᴰ (moving p t (state-in p q) (onward (state-in p q) (rest p (q .location))) (starts (state-index t (triple (q .location) (body p (function .row)) (size p))))) (rules p t)
 
 module _ (p : Program) (t : Tables) (fit : Rows-fit p) (w : Columns-whole p) (closed : Closed p t) (classes : List ℕ) (qs : Processes) (sized : length qs ≡ length classes) (i : ℕ) (q : Process) (qs′ : Processes) (g : Good p t classes q) (k : kind (tag p (q .location)) ≡ spawn) where
   come : (v : Value) (f : Function) → value-of p (q .held) (num p (q .location + 1)) ≡ some v → function-of p 0 v ≡ some f → qs′ ≡ set qs i (moved q (rest p (q .location)) (bind (num p (q .location)) (address (length qs)) (q .held))) ++ (spawned p (q .location) f ∷ []) → Spawned p t classes qs i q qs′
-  unfolding row-for spawned is-class
+  unfolding row-for spawned is-class return-of
   come v f given is e =
-      let c : ℕ = q .class in
       let r : ℕ = q .location in
       let n : ℕ = num p r in
       let (same, none-taken) = function-of-some p 0 v f is in
@@ -59,17 +59,17 @@ module _ (p : Program) (t : Tables) (fit : Rows-fit p) (w : Columns-whole p) (cl
         held = bind n (address (length qs)) (q .held);
         function = f;
         result = e;
-        good = at-rest p t fit w closed (classes ++ (r ∷ [])) q (bind n (address (length qs)) (q .held)) grown (ap rest-of (head-spawn p r k)) (closed (state c (rest p r)) (by-state (g .present) (spawn-rest n (rest p r) (f .row) spawns)))
+        good = at-rest p t fit w closed (classes ++ (r ∷ [])) q (bind n (address (length qs)) (q .held)) grown (ap rest-of (head-spawn p r k)) (closed (state (onward (state-in p q) (rest p r))) (by-state (g .present) (spawn-rest n (rest p r) (f .row) spawns)))
             (subst (Member (t .flow) n) (sym own) (closed (flow n r) (by-state (g .present) (spawn-name n (rest p r) (f .row) spawns))), inside, grown .held);
         new-good = record {
           location = body-location fit (f .row) (function-within w (f .row) (covered .0)) (covered .0);
           class = or-left (eqb (tag p r) 6) (eqb r (size p)) (eq-eqb (tag p r) 6 (tag-is (tag p r) spawn k));
-          present = closed (state r (body p (f .row))) (by-state (g .present) (spawn-body n (rest p r) (f .row) spawns));
+          present = closed (state (triple r (body p (f .row)) (size p))) (by-state (g .present) (spawn-body n (rest p r) (f .row) spawns));
           held = held-grown p t classes (r ∷ []) (f .held) (covered .1);
           frames = tt;
           mailbox = λ u there. absurd (List·Memᴰ·not-nil there);
         };
-        follows = rule-spawn p t c r (g .present) (f .row) k may none-taken;
+        follows = rule-spawn p t (state-in p q) (g .present) (f .row) k may none-taken;
       }
 
   pub spawn-step : act p qs i q ≡ some qs′ → Spawned p t classes qs i q qs′

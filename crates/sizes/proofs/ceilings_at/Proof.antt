@@ -4,6 +4,9 @@ use Rattle.model.specs.Message.{tables-at, ceilings-at}
 use Rattle.sizes.proofs.ceilings_at.Statement.{statement}
 use Rattle.sizes.proofs.ceilings_at.Tie as tie
 
+table-cells-requires : tie.Need-table-cells-requires
+table-cells-requires c κs = search needs
+
 tables-at-requires : tie.Need-tables-at-requires
 tables-at-requires c κs = search needs
 
@@ -12,17 +15,8 @@ unfolding tables-at
 add-result c = search needs
 
 add-result-2 : tie.Need-add-result-2
-add-result-2 c = search needs
-
-add-result-3 : tie.Need-add-result-3
-add-result-3 c = search needs
-
-mul-result : tie.Need-mul-result
-mul-result c = search needs
-
-add-result-4 : tie.Need-add-result-4
 unfolding tables-at
-add-result-4 c = search needs
+add-result-2 c = search needs
 
 returns : tie.Need-returns
 unfolding tables-at ceilings-at
@@ -30,12 +24,4 @@ returns c = search needs
 
 pub ceilings-at-spec : {M : Type 1} → statement M
 ceilings-at-spec =
-    tie.close
-    (tie.spec
-    tables-at-requires
-    add-result
-    add-result-2
-    add-result-3
-    mul-result
-    add-result-4
-    returns)
+    tie.close (tie.spec table-cells-requires tables-at-requires add-result add-result-2 returns)

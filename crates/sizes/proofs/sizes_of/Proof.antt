@@ -43,20 +43,14 @@ add-size-at-3 c = omega (arith, c .before .before .before .size-at .ensures .1, 
 size-at-requires-5 : tie.Need-size-at-requires-5
 size-at-requires-5 c κs = tt
 
+table-cells-requires : tie.Need-table-cells-requires
+table-cells-requires c κs = omega (arith, c .before .before .size-at3 .ensures .1, c .before .size-at4 .ensures .1, c .size-at5 .ensures .1)
+
 add-ceilings : tie.Need-add-ceilings
-add-ceilings c = omega (arith, c .before .before .before .before .size-at .ensures .1, c .before .before .before .size-at2 .ensures .1, c .before .before .size-at3 .ensures .1, c .before .size-at4 .ensures .1, c .size-at5 .ensures .1)
+add-ceilings c = omega (arith, c .table-cells .ensures, c .before .before .before .before .before .size-at .ensures .1, c .before .before .before .before .size-at2 .ensures .1, c .before .before .before .size-at3 .ensures .1, c .before .before .size-at4 .ensures .1, c .before .size-at5 .ensures .1)
 
 add-ceilings-2 : tie.Need-add-ceilings-2
-add-ceilings-2 c = omega (arith, c .before .before .before .before .size-at .ensures .1, c .before .before .before .size-at2 .ensures .1, c .before .before .size-at3 .ensures .1, c .before .size-at4 .ensures .1, c .size-at5 .ensures .1)
-
-add-ceilings-3 : tie.Need-add-ceilings-3
-add-ceilings-3 c = omega (arith, c .before .before .before .before .size-at .ensures .1, c .before .before .before .size-at2 .ensures .1, c .before .before .size-at3 .ensures .1, c .before .size-at4 .ensures .1, c .size-at5 .ensures .1)
-
-mul-ceilings : tie.Need-mul-ceilings
-mul-ceilings c = omega (arith, c .before .before .size-at3 .ensures .1, c .before .size-at4 .ensures .1, c .size-at5 .ensures .1)
-
-add-ceilings-4 : tie.Need-add-ceilings-4
-add-ceilings-4 c = omega (arith, c .before .before .before .before .size-at .ensures .1, c .before .before .before .size-at2 .ensures .1, c .before .before .size-at3 .ensures .1, c .before .size-at4 .ensures .1, c .size-at5 .ensures .1)
+add-ceilings-2 c = omega (arith, c .table-cells .ensures, c .before .before .before .before .before .size-at .ensures .1, c .before .before .before .before .size-at2 .ensures .1, c .before .before .before .size-at3 .ensures .1, c .before .before .size-at4 .ensures .1, c .before .size-at5 .ensures .1)
 
 size-at-requires-6 : tie.Need-size-at-requires-6
 size-at-requires-6 c κs = tt
@@ -74,13 +68,13 @@ size-at-requires-10 : tie.Need-size-at-requires-10
 size-at-requires-10 c κs = tt
 
 add-size-at-4 : tie.Need-add-size-at-4
-add-size-at-4 c = omega (arith, c .before .before .before .before .before .before .before .before .before .size-at .ensures .1, c .before .before .before .before .before .before .before .before .size-at2 .ensures .1, c .before .before .before .before .before .before .before .size-at3 .ensures .1, c .before .before .before .before .before .before .size-at4 .ensures .1, c .before .before .before .before .before .size-at5 .ensures .1)
+add-size-at-4 c = omega (arith, c .before .before .before .before .before .table-cells .ensures, c .before .before .before .before .before .before .before .before .before .before .size-at .ensures .1, c .before .before .before .before .before .before .before .before .before .size-at2 .ensures .1, c .before .before .before .before .before .before .before .before .size-at3 .ensures .1, c .before .before .before .before .before .before .before .size-at4 .ensures .1, c .before .before .before .before .before .before .size-at5 .ensures .1)
 
 size-at-requires-11 : tie.Need-size-at-requires-11
 size-at-requires-11 c κs = tt
 
 returns : tie.Need-returns
-returns c = (sized _ _ _ _ _ _ _ _ _ _ _ _ (c .before .before .before .before .before .before .before .before .before .before .size-at .ensures .0) (c .before .before .before .before .before .size-at6 .ensures .0) (c .before .before .before .before .size-at7 .ensures .0) (c .before .before .before .size-at8 .ensures .0) (c .before .before .size-at9 .ensures .0) (c .before .before .before .before .before .before .before .before .before .size-at2 .ensures .0) (c .before .before .before .before .before .before .before .before .size-at3 .ensures .0) (c .before .before .before .before .before .before .before .size-at4 .ensures .0) (c .before .before .before .before .before .before .size-at5 .ensures .0) (c .before .size-at10 .ensures .0) (c .size-at11 .ensures .0), omega (arith, c .before .before .before .before .before .before .before .before .before .before .size-at .ensures .1, c .before .before .before .before .before .before .before .before .before .size-at2 .ensures .1, c .before .before .before .before .before .before .before .before .size-at3 .ensures .1, c .before .before .before .before .before .before .before .size-at4 .ensures .1, c .before .before .before .before .before .before .size-at5 .ensures .1, c .size-at11 .ensures .1))
+returns c = (sized _ _ _ _ _ _ _ _ _ _ _ _ _ (c .before .before .before .before .before .before .before .before .before .before .before .size-at .ensures .0) (c .before .before .before .before .before .size-at6 .ensures .0) (c .before .before .before .before .size-at7 .ensures .0) (c .before .before .before .size-at8 .ensures .0) (c .before .before .size-at9 .ensures .0) (c .before .before .before .before .before .before .before .before .before .before .size-at2 .ensures .0) (c .before .before .before .before .before .before .before .before .before .size-at3 .ensures .0) (c .before .before .before .before .before .before .before .before .size-at4 .ensures .0) (c .before .before .before .before .before .before .before .size-at5 .ensures .0) (c .before .before .before .before .before .before .table-cells .ensures) (c .before .size-at10 .ensures .0) (c .size-at11 .ensures .0), omega (arith, c .before .before .before .before .before .before .before .before .before .before .before .size-at .ensures .1, c .before .before .before .before .before .before .before .before .before .before .size-at2 .ensures .1, c .before .before .before .before .before .before .before .before .before .size-at3 .ensures .1, c .before .before .before .before .before .before .before .before .size-at4 .ensures .1, c .before .before .before .before .before .before .before .size-at5 .ensures .1, c .size-at11 .ensures .1))
 
 pub sizes-of-spec : {M : Type 1} → statement M
 sizes-of-spec =
@@ -99,11 +93,9 @@ sizes-of-spec =
     size-at-requires-4
     add-size-at-3
     size-at-requires-5
+    table-cells-requires
     add-ceilings
     add-ceilings-2
-    add-ceilings-3
-    mul-ceilings
-    add-ceilings-4
     size-at-requires-6
     size-at-requires-7
     size-at-requires-8

@@ -7,7 +7,7 @@ use Rattle.lists.specs.Lists.{range-from}
 use Rattle.model.specs.Rows.{program}
 use Rattle.model.specs.Tables.{tables}
 use Rattle.lists.proofs.Facts.{mail-usable}
-use Rattle.system_letters.proofs.Filling.{end-told, entry-next, Numbered, numbered-none, numbered-next, numbered-all, class-entries, class-room, pairs-small}
+use Rattle.system_letters.proofs.Filling.{end-told, entry-next, mail-ascends, Numbered, numbered-none, numbered-next, numbered-all, class-entries, class-room, pairs-small}
 use Rattle.system_letters.proofs.fill_letters.Statement.{statement}
 use Rattle.system_letters.proofs.fill_letters.Tie as tie
 
@@ -43,7 +43,7 @@ add-start-from : tie.Need-add-start-from Inv-loop μ-loop
 add-start-from c = search needs
 
 start-from-requires : tie.Need-start-from-requires Inv-loop μ-loop
-start-from-requires c κs = let g = mail-usable (c .before .before .before .before .before .before .before .pre .0) _ (c .before .before .before .mail .ensures) in (g .0, (g .1, entry-next (c .before .before .before .before .before .before .before .pre .0) _ _ _ _ _ _ (c .before .before .before .mail .ensures) (c .before .loop .inv .0)))
+start-from-requires c κs = (mail-usable (c .before .before .before .before .before .before .before .pre .0) _ (c .before .before .before .mail .ensures) .0, (mail-ascends (c .before .before .before .before .before .before .before .pre .0) _ (c .before .before .before .mail .ensures), entry-next (c .before .before .before .before .before .before .before .pre .0) _ _ _ _ _ _ (c .before .before .before .mail .ensures) (c .before .loop .inv .0)))
 
 write-class-requires : tie.Need-write-class-requires Inv-loop μ-loop
 write-class-requires c κs = let g = class-entries (c .before .before .before .before .before .before .before .before .before .pre .0) _ _ _ (c .before .before .before .loop .inv .0 .entry) (ends (c .before)) in (c .before .before .before .before .before .before .before .before .before .pre .0, ((g .0, g .1, pairs-small (c .before .before .before .before .before .before .before .before .before .pre .0) _ _ _ _ _ (c .before .before .before .loop .inv .0)), class-room (c .before .before .before .before .before .before .before .before .before .pre .0) _ _ _ _ _ _ _ (c .before .before .before .loop .inv .0) (ends (c .before)) (search needs)))

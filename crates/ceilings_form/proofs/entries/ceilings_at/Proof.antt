@@ -21,6 +21,9 @@ mul-result c = search needs
 add-result-5 : tie.Need-add-result-5
 add-result-5 c = search needs
 
+add-result-6 : tie.Need-add-result-6
+add-result-6 c = search needs
+
 returns : tie.Need-returns
 unfolding ceilings-at
 returns c = search needs
@@ -28,4 +31,4 @@ returns c = search needs
 pub ceilings-at-spec : {M : Type 1} → statement M
 ceilings-at-spec =
     tie.close
-    (tie.spec add-result add-result-2 add-result-3 add-result-4 mul-result add-result-5 returns)
+    (tie.spec add-result add-result-2 add-result-3 add-result-4 mul-result add-result-5 add-result-6 returns)

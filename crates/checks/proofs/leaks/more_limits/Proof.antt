@@ -48,7 +48,7 @@ slice-aggregate-ceilings-on-7 c = search needs
 
 ceilings-on-requires : tie.Need-ceilings-on-requires
 ceilings-on-requires c κs =
-    (c .before .before .before .before .before .before .before .before .before .before .before .before .before .before .before .before .before .before .before .before .before .before .before .pre .0, (c .before .before .before .before .before .before .before .before .before .before .before .before .before .before .before .before .before .before .before .before .before .before .before .pre .1 .0, (limits-room _ _ _ _ _ _ (c .before .before .before .before .before .before .before .before .before .before .before .before .before .before .before .before .before .before .before .before .before .before .before .pre .1 .1 .1) (omega (arith, c .before .before .before .before .before .before .before .before .before .before .before .before .before .before .before .before .before .before .before .before .before .before .before .pre .0 .ready .limits .ceilings)) (c .before .before .before .before .before .before .before .before .before .before .before .before .before .words16-16384 .ensures) (c .before .before .before .before .before .before .before .before .before .before .before .before .words16-258 .ensures), mask-room _ _ _ _ _ _ _ _ (omega (arith, c .before .before .before .before .before .before .before .before .before .before .before .before .before .before .before .before .before .before .before .before .before .before .before .pre .1 .1 .0)) (omega (arith, c .before .before .before .before .before .before .before .before .before .before .before .before .before .before .before .before .before .before .before .before .before .before .before .pre .1 .1 .0)) (c .before .before .before .before .before .before .before .before .before .before .before .words64-1024 .ensures) (c .before .before .before .before .before .before .before .before .before .before .words64-512 .ensures) (c .before .before .before .before .before .before .before .before .before .words64-10242 .ensures) (c .before .before .before .before .before .before .before .before .words64-5122 .ensures) (c .before .before .before .before .before .before .before .words64-5123 .ensures))))
+    (c .before .before .before .before .before .before .before .before .before .before .before .before .before .before .before .before .before .before .before .before .before .before .pre .0, (c .before .before .before .before .before .before .before .before .before .before .before .before .before .before .before .before .before .before .before .before .before .before .pre .1 .0, (limits-room _ _ _ _ _ _ (c .before .before .before .before .before .before .before .before .before .before .before .before .before .before .before .before .before .before .before .before .before .before .pre .1 .1 .1) (omega (arith, c .before .before .before .before .before .before .before .before .before .before .before .before .before .before .before .before .before .before .before .before .before .before .pre .0 .ready .limits .ceilings)) (c .before .before .before .before .before .before .before .before .before .before .before .before .before .words16-16384 .ensures) (c .before .before .before .before .before .before .before .before .before .before .before .before .words16-258 .ensures), mask-room _ _ _ _ _ _ _ _ (omega (arith, c .before .before .before .before .before .before .before .before .before .before .before .before .before .before .before .before .before .before .before .before .before .before .pre .1 .1 .0)) (omega (arith, c .before .before .before .before .before .before .before .before .before .before .before .before .before .before .before .before .before .before .before .before .before .before .pre .1 .1 .0)) (c .before .before .before .before .before .before .before .before .before .before .before .words64-1024 .ensures) (c .before .before .before .before .before .before .before .before .before .before .words64-512 .ensures) (c .before .before .before .before .before .before .before .before .before .words64-10242 .ensures) (c .before .before .before .before .before .before .before .before .words64-5122 .ensures) (c .before .before .before .before .before .before .before .words64-5123 .ensures))))
 
 returns : tie.Need-returns
 returns c = search needs

@@ -24,8 +24,8 @@ slice-aggregate-space-verdict-3 c = search needs
 
 space-verdict-requires : tie.Need-space-verdict-requires
 space-verdict-requires c κs =
-    let l = c .before .before .before .before .before .before .before .before .before .before .before .before .before .before .before .before .before .pre .0 .ready .limits in
-    (c .before .before .before .before .before .before .before .before .before .before .before .before .before .before .before .before .before .pre .0, (omega (arith, l .rows .1, c .before .before .before .before .before .before .row-words16 .ensures .room), (rule-room _ _ _ l (c .before .before .before .before .before .row-words162 .ensures) (c .before .before .before .before .row-words163 .ensures), c .before .before .before .before .before .before .before .before .before .before .before .before .before .before .before .before .before .pre .1)))
+    let l = c .before .before .before .before .before .before .before .before .before .before .before .before .before .before .before .before .pre .0 .ready .limits in
+    (c .before .before .before .before .before .before .before .before .before .before .before .before .before .before .before .before .pre .0, (rule-room _ _ _ l (c .before .before .before .before .before .row-words162 .ensures) (c .before .before .before .before .row-words163 .ensures), c .before .before .before .before .before .before .before .before .before .before .before .before .before .before .before .before .pre .1))
 
 same-length : tie.Need-same-length
 same-length c = search needs

@@ -21,13 +21,13 @@ use Rattle.model.proofs.Exact.Entries.{bad-none, ceiling-none}
 use Rattle.answers.proofs.Passing.{passed, safe-only}
 use Rattle.rooms.specs.Rooms.{row-room}
 use Rattle.lists.specs.Ready.{Ready}
-use Rattle.positions.specs.Positions.{Ends, Owners}
+use Rattle.positions.specs.Positions.{Ends}
 use Rattle.rules.specs.Derived.{Rule-tables}
 use Rattle.mailed.specs.Mailed.{mailed-then-counters}
 use Rattle.mailed.proofs.Mailing.{then-counters-refuse, counters-fit}
 use Rattle.checks.specs.Order.{taken, under-ceilings, from-3, from-4, from-5, from-6, from-7, from-8, from-22, from-10, from-11, from-14}
 use Rattle.checks.proofs.Answering.{in-order, goes-by, ends-with, scopes-refuse, under-refuses, ceiling-told, ceilings-told}
-use Rattle.checks.proofs.Laying.{program-passes, ready, ceilings-whole, few, few-counters, ends, owners}
+use Rattle.checks.proofs.Laying.{program-passes, ready, ceilings-whole, few, few-counters, ends}
 use borrow.Author.Needs.{needs}
 use Rattle.checks.proofs.order.words_verdict.Statement.{statement}
 use Rattle.checks.proofs.order.words_verdict.Tie as tie
@@ -145,12 +145,6 @@ returns-5 c = ends-with _ _ _ _ _ _ _ _ (goes-7 (c .before .before .before)) (c 
 row-words16-requires-2 : tie.Need-row-words16-requires-2
 row-words16-requires-2 c κs = search needs
 
-slice-aggregate-fill-inners : tie.Need-slice-aggregate-fill-inners
-slice-aggregate-fill-inners c = search needs
-
-slice-aggregate-fill-inners-2 : tie.Need-slice-aggregate-fill-inners-2
-slice-aggregate-fill-inners-2 c = search needs
-
 entries-pass : (c : tie.Else5) → Passes (c .before .before .before .before .before .before .before .before .before .before .before .before .before .before .before .before .before .before .before .before .before .before .before .before .before .before .before) (λ ws s. entry-check s (program ws s) (tables ws s))
 entries-pass c = passed _ _ _ (entry-refuses _ _ _) (c .before .before .entry-check .ensures) (c .before .is-safe5 .ensures) (not-false _ (c .if5 .left))
 
@@ -161,15 +155,8 @@ goes-8 c = goes-by _ _ _ (goes-7 (c .before .before .before)) (entries-pass c)
 all-ready : (c : tie.Else5) → Ready (c .before .before .before .before .before .before .before .before .before .before .before .before .before .before .before .before .before .before .before .before .before .before .before .before .before .before .before .args .ws .now) (c .before .before .before .before .before .before .before .before .before .before .before .before .before .before .before .before .before .before .before .before .before .before .before .before .before .before .before .args .s)
 all-ready c = ready _ _ (c .before .before .before .before .before .before .before .before .before .before .before .before .before .before .before .before .before .before .before .before .before .before .before .before .before .before .before .pre .0) (program-passes _ (rows-pass (c .before .before .before .before .before .before .before .before .before .before .before .before .before .before .before .before .before .before .before .before .before)) (names-pass (c .before .before .before .before .before .before .before .before .before .before .before .before .before .before .before)) (scopes-pass (c .before .before .before .before .before .before))) (entries-pass c)
 
-fill-inners-requires : tie.Need-fill-inners-requires
-fill-inners-requires c κs =
-    (c .before .before .before .before .before .before .before .before .before .before .before .before .before .before .before .before .before .before .before .before .before .before .before .before .before .before .before .before .before .before .pre .0 .program, (rows-pass (c .before .before .before .before .before .before .before .before .before .before .before .before .before .before .before .before .before .before .before .before .before .before .before .before), (c .before .before .before .before .before .before .before .before .before .before .before .before .before .before .before .fill-ends .ensures, omega (arith, c .before .before .before .before .before .before .before .before .before .before .before .before .before .before .before .before .before .before .before .before .before .before .before .before .before .before .before .before .before .before .pre .0 .limits .rows .1, c .before .before .row-words162 .ensures .room))))
-
 row-words16-requires-3 : tie.Need-row-words16-requires-3
 row-words16-requires-3 c κs = search needs
-
-row-words16-requires-4 : tie.Need-row-words16-requires-4
-row-words16-requires-4 c κs = search needs
 
 slice-aggregate-open-verdict : tie.Need-slice-aggregate-open-verdict
 slice-aggregate-open-verdict c = search needs
@@ -180,20 +167,14 @@ slice-aggregate-open-verdict-2 c = search needs
 slice-aggregate-open-verdict-3 : tie.Need-slice-aggregate-open-verdict-3
 slice-aggregate-open-verdict-3 c = search needs
 
-slice-aggregate-open-verdict-4 : tie.Need-slice-aggregate-open-verdict-4
-slice-aggregate-open-verdict-4 c = search needs
-
--- the tables of the layout are as long as they were made
+-- the table of the layout is as long as it was made
 afters-long : (c : tie.After-fill-ends) → length (c .fill-ends .last .1 .1 .0) ≡ row-room
 afters-long c = c .fill-ends .kept .1 .1 .0 ∙ c .before .before .row-words16 .ensures .room
 
-owners-long : (c : tie.After-fill-inners) → length (c .fill-inners .last .1 .1 .1 .0) ≡ row-room
-owners-long c = c .fill-inners .kept .1 .1 .1 .0 ∙ c .before .before .before .row-words162 .ensures .room
-
 open-verdict-requires : tie.Need-open-verdict-requires
 open-verdict-requires c κs =
-    let r = c .before .before .before .before .before .before .before .before .before .before .before .before .before .before .before .before .before .before .before .before .before .before .before .before .before .before .before .before .before .before .before .before .before .before .before .before .before .before .before .pre .0 .limits in
-    (omega arith, (all-ready (c .before .before .before .before .before .before .before .before .before .before .before .before), (ends _ _ _ (omega (arith, r .rows .1, afters-long (c .before .before .before .before .before .before .before .before .before .before .before .before .before .before .before .before .before .before .before .before .before .before .before .before))) (c .before .before .before .before .before .before .before .before .before .before .before .before .before .before .before .before .before .before .before .before .before .before .before .before .fill-ends .ensures), (owners _ _ _ (omega (arith, r .rows .1, owners-long (c .before .before .before .before .before .before .before .before))) (c .before .before .before .before .before .before .before .before .fill-inners .ensures), (c .before .before .before .before .before .before .before .before .before .before .before .before .before .before .before .before .before .before .before .before .before .before .before .before .before .before .before .before .before .before .before .before .before .before .before .before .before .before .before .pre .1, (omega (arith, r .names .1, c .before .before .before .before .before .before .row-words163 .ensures .room), omega (arith, r .states, c .before .before .before .before .before .row-words164 .ensures .room)))))))
+    let r = c .before .before .before .before .before .before .before .before .before .before .before .before .before .before .before .before .before .before .before .before .before .before .before .before .before .before .before .before .before .before .before .before .before .pre .0 .limits in
+    (omega arith, (all-ready (c .before .before .before .before .before .before), (ends _ _ _ (omega (arith, r .rows .1, afters-long (c .before .before .before .before .before .before .before .before .before .before .before .before .before .before .before .before .before .before))) (c .before .before .before .before .before .before .before .before .before .before .before .before .before .before .before .before .before .before .fill-ends .ensures), (c .before .before .before .before .before .before .before .before .before .before .before .before .before .before .before .before .before .before .before .before .before .before .before .before .before .before .before .before .before .before .before .before .before .pre .1, (omega (arith, r .names .1, c .before .before .before .before .before .row-words162 .ensures .room), omega (arith, r .states, c .before .before .before .before .row-words163 .ensures .room))))))
 
 is-safe-requires-6 : tie.Need-is-safe-requires-6
 is-safe-requires-6 c κs = search needs
@@ -203,10 +184,10 @@ same-length c = search needs
 
 returns-6 : tie.Need-returns-6
 unfolding from-8
-returns-6 c = ends-with _ _ _ _ _ _ _ _ (goes-8 (c .before .before .before .before .before .before .before .before .before .before .before .before .before .before .before .before .before .before .before)) (c .before .before .before .before .before .before .open-verdict .ensures .0) (c .before .is-safe6 .ensures) (not-true _ (c .if6 .taken))
+returns-6 c = ends-with _ _ _ _ _ _ _ _ (goes-8 (c .before .before .before .before .before .before .before .before .before .before .before .before .before)) (c .before .before .before .before .before .before .open-verdict .ensures .0) (c .before .is-safe6 .ensures) (not-true _ (c .if6 .taken))
 
-row-words16-requires-5 : tie.Need-row-words16-requires-5
-row-words16-requires-5 c κs = search needs
+row-words16-requires-4 : tie.Need-row-words16-requires-4
+row-words16-requires-4 c κs = search needs
 
 words16-512-requires-2 : tie.Need-words16-512-requires-2
 words16-512-requires-2 c κs = search needs
@@ -217,17 +198,17 @@ slice-aggregate-fill-letters c = search needs
 slice-aggregate-fill-letters-2 : tie.Need-slice-aggregate-fill-letters-2
 slice-aggregate-fill-letters-2 c = search needs
 
-closed-pass : (c : tie.Else6) → Passes (c .before .before .before .before .before .before .before .before .before .before .before .before .before .before .before .before .before .before .before .before .before .before .before .before .before .before .before .before .before .before .before .before .before .before .before .before .before .before .before .before .before .before .before .before .before .before) (λ ws s. open-check s (program ws s) (tables ws s))
+closed-pass : (c : tie.Else6) → Passes (c .before .before .before .before .before .before .before .before .before .before .before .before .before .before .before .before .before .before .before .before .before .before .before .before .before .before .before .before .before .before .before .before .before .before .before .before .before .before .before .before) (λ ws s. open-check s (program ws s) (tables ws s))
 closed-pass c = passed _ _ _ (open-refuses _ _ _) (c .before .before .before .before .before .before .open-verdict .ensures .0) (c .before .is-safe6 .ensures) (not-false _ (c .if6 .left))
 
-goes-22 : (c : tie.Else6) → Goes (c .before .before .before .before .before .before .before .before .before .before .before .before .before .before .before .before .before .before .before .before .before .before .before .before .before .before .before .before .before .before .before .before .before .before .before .before .before .before .before .before .before .before .before .before .before .before) from-22
+goes-22 : (c : tie.Else6) → Goes (c .before .before .before .before .before .before .before .before .before .before .before .before .before .before .before .before .before .before .before .before .before .before .before .before .before .before .before .before .before .before .before .before .before .before .before .before .before .before .before .before) from-22
 unfolding from-8
-goes-22 c = goes-by _ _ _ (goes-8 (c .before .before .before .before .before .before .before .before .before .before .before .before .before .before .before .before .before .before .before)) (closed-pass c)
+goes-22 c = goes-by _ _ _ (goes-8 (c .before .before .before .before .before .before .before .before .before .before .before .before .before)) (closed-pass c)
 
 fill-letters-requires : tie.Need-fill-letters-requires
 fill-letters-requires c κs =
-    let r = c .before .before .before .before .before .before .before .before .before .before .before .before .before .before .before .before .before .before .before .before .before .before .before .before .before .before .before .before .before .before .before .before .before .before .before .before .before .before .before .before .before .before .before .before .before .before .before .before .before .before .pre .0 .limits in
-    (all-ready (c .before .before .before .before .before .before .before .before .before .before .before .before .before .before .before .before .before .before .before .before .before .before .before), (omega (arith, r .rows .1, c .before .before .before .row-words165 .ensures .room), omega (arith, r .mails, c .before .before .words16-5122 .ensures .room)))
+    let r = c .before .before .before .before .before .before .before .before .before .before .before .before .before .before .before .before .before .before .before .before .before .before .before .before .before .before .before .before .before .before .before .before .before .before .before .before .before .before .before .before .before .before .before .before .pre .0 .limits in
+    (all-ready (c .before .before .before .before .before .before .before .before .before .before .before .before .before .before .before .before .before), (omega (arith, r .rows .1, c .before .before .before .row-words164 .ensures .room), omega (arith, r .mails, c .before .before .words16-5122 .ensures .room)))
 
 slice-aggregate-counters-verdict : tie.Need-slice-aggregate-counters-verdict
 slice-aggregate-counters-verdict c = search needs
@@ -236,7 +217,7 @@ slice-aggregate-counters-verdict-2 : tie.Need-slice-aggregate-counters-verdict-2
 slice-aggregate-counters-verdict-2 c = search needs
 
 counters-verdict-requires : tie.Need-counters-verdict-requires
-counters-verdict-requires c κs = (all-ready (c .before .before .before .before .before .before .before .before .before .before .before .before .before .before .before .before .before .before .before .before .before .before .before .before .before .before .before .before), c .before .before .before .before .fill-letters .ensures)
+counters-verdict-requires c κs = (all-ready (c .before .before .before .before .before .before .before .before .before .before .before .before .before .before .before .before .before .before .before .before .before .before), c .before .before .before .before .fill-letters .ensures)
 
 is-safe-requires-7 : tie.Need-is-safe-requires-7
 is-safe-requires-7 c κs = search needs
@@ -254,24 +235,24 @@ slice-aggregate-counter-count c = search needs
 slice-aggregate-counter-count-2 : tie.Need-slice-aggregate-counter-count-2
 slice-aggregate-counter-count-2 c = search needs
 
-both-pass : (c : tie.Else7) → Passes (c .before .before .before .before .before .before .before .before .before .before .before .before .before .before .before .before .before .before .before .before .before .before .before .before .before .before .before .before .before .before .before .before .before .before .before .before .before .before .before .before .before .before .before .before .before .before .before .before .before .before .before .before .before .before .before .before .before .before) (λ ws s. mailed-then-counters s (program ws s) (tables ws s))
+both-pass : (c : tie.Else7) → Passes (c .before .before .before .before .before .before .before .before .before .before .before .before .before .before .before .before .before .before .before .before .before .before .before .before .before .before .before .before .before .before .before .before .before .before .before .before .before .before .before .before .before .before .before .before .before .before .before .before .before .before .before .before) (λ ws s. mailed-then-counters s (program ws s) (tables ws s))
 both-pass c = passed _ _ _ (then-counters-refuse _ _ _) (c .before .before .counters-verdict .ensures) (c .before .is-safe7 .ensures) (not-false _ (c .if7 .left))
 
-counters-pass : (c : tie.Else7) → Passes (c .before .before .before .before .before .before .before .before .before .before .before .before .before .before .before .before .before .before .before .before .before .before .before .before .before .before .before .before .before .before .before .before .before .before .before .before .before .before .before .before .before .before .before .before .before .before .before .before .before .before .before .before .before .before .before .before .before .before) (λ ws s. counter-check present s (program ws s) (tables ws s))
+counters-pass : (c : tie.Else7) → Passes (c .before .before .before .before .before .before .before .before .before .before .before .before .before .before .before .before .before .before .before .before .before .before .before .before .before .before .before .before .before .before .before .before .before .before .before .before .before .before .before .before .before .before .before .before .before .before .before .before .before .before .before .before) (λ ws s. counter-check present s (program ws s) (tables ws s))
 counters-pass c = counters-fit _ _ _ (both-pass c)
 
-goes-10 : (c : tie.Else7) → Goes (c .before .before .before .before .before .before .before .before .before .before .before .before .before .before .before .before .before .before .before .before .before .before .before .before .before .before .before .before .before .before .before .before .before .before .before .before .before .before .before .before .before .before .before .before .before .before .before .before .before .before .before .before .before .before .before .before .before .before) from-10
+goes-10 : (c : tie.Else7) → Goes (c .before .before .before .before .before .before .before .before .before .before .before .before .before .before .before .before .before .before .before .before .before .before .before .before .before .before .before .before .before .before .before .before .before .before .before .before .before .before .before .before .before .before .before .before .before .before .before .before .before .before .before .before) from-10
 unfolding from-22
 goes-10 c = goes-by _ _ _ (goes-22 (c .before .before .before .before .before .before .before .before .before .before .before .before)) (both-pass c)
 
 counter-count-requires : tie.Need-counter-count-requires
-counter-count-requires c κs = (all-ready (c .before .before .before .before .before .before .before .before .before .before .before .before .before .before .before .before .before .before .before .before .before .before .before .before .before .before .before .before .before .before .before .before .before), c .before .before .before .before .before .before .before .before .before .fill-letters .ensures)
+counter-count-requires c κs = (all-ready (c .before .before .before .before .before .before .before .before .before .before .before .before .before .before .before .before .before .before .before .before .before .before .before .before .before .before .before), c .before .before .before .before .before .before .before .before .before .fill-letters .ensures)
 
 counters-few : (c : tie.After-counter-count) → c .counter-count .result ≤ maxCounters
 counters-few c = few-counters _ _ _ (c .counter-count .ensures) (few _ _ _ (counters-pass (c .before .before .before)))
 
 ceiling-check-requires : tie.Need-ceiling-check-requires
-ceiling-check-requires c κs = (ceilings-whole _ _ (c .before .before .before .before .before .before .before .before .before .before .before .before .before .before .before .before .before .before .before .before .before .before .before .before .before .before .before .before .before .before .before .before .before .before .before .before .before .before .before .before .before .before .before .before .before .before .before .before .before .before .before .before .before .before .before .before .before .before .before .before .before .pre .0), counters-few c)
+ceiling-check-requires c κs = (ceilings-whole _ _ (c .before .before .before .before .before .before .before .before .before .before .before .before .before .before .before .before .before .before .before .before .before .before .before .before .before .before .before .before .before .before .before .before .before .before .before .before .before .before .before .before .before .before .before .before .before .before .before .before .before .before .before .before .before .before .before .pre .0), counters-few c)
 
 is-safe-requires-8 : tie.Need-is-safe-requires-8
 is-safe-requires-8 c κs = search needs
@@ -283,138 +264,66 @@ returns-8 : tie.Need-returns-8
 unfolding from-10
 returns-8 c = ends-with _ _ _ _ _ _ _ _ (goes-10 (c .before .before .before .before .before .before)) (ceiling-told _ _ _ _ (c .before .before .ceiling-check .ensures) (c .before .before .before .counter-count .ensures)) (c .before .is-safe8 .ensures) (not-true _ (c .if8 .taken))
 
-words64-1024-requires : tie.Need-words64-1024-requires
-words64-1024-requires c κs = search needs
-
-slice-aggregate-fill-names : tie.Need-slice-aggregate-fill-names
-slice-aggregate-fill-names c = search needs
-
-fill-names-requires : tie.Need-fill-names-requires
-fill-names-requires c κs = (all-ready (c .before .before .before .before .before .before .before .before .before .before .before .before .before .before .before .before .before .before .before .before .before .before .before .before .before .before .before .before .before .before .before .before .before .before .before .before .before .before .before), omega (arith, c .before .before .before .before .before .before .before .before .before .before .before .before .before .before .before .before .before .before .before .before .before .before .before .before .before .before .before .before .before .before .before .before .before .before .before .before .before .before .before .before .before .before .before .before .before .before .before .before .before .before .before .before .before .before .before .before .before .before .before .before .before .before .before .before .before .before .pre .0 .limits .names .1, c .before .words64-1024 .ensures .room))
-
 width-requires : tie.Need-width-requires
 width-requires c κs = search needs
 
-form-passes : (c : tie.Else8) → Passes (c .before .before .before .before .before .before .before .before .before .before .before .before .before .before .before .before .before .before .before .before .before .before .before .before .before .before .before .before .before .before .before .before .before .before .before .before .before .before .before .before .before .before .before .before .before .before .before .before .before .before .before .before .before .before .before .before .before .before .before .before .before .before .before .before) (λ ws s. ceiling-check ws s (counter-count (program ws s) (tables ws s)))
+form-passes : (c : tie.Else8) → Passes (c .before .before .before .before .before .before .before .before .before .before .before .before .before .before .before .before .before .before .before .before .before .before .before .before .before .before .before .before .before .before .before .before .before .before .before .before .before .before .before .before .before .before .before .before .before .before .before .before .before .before .before .before .before .before .before .before .before .before) (λ ws s. ceiling-check ws s (counter-count (program ws s) (tables ws s)))
 form-passes c = passed _ _ _ (ceiling-refuses _ _ _) (ceiling-told _ _ _ _ (c .before .before .ceiling-check .ensures) (c .before .before .before .counter-count .ensures)) (c .before .is-safe8 .ensures) (not-false _ (c .if8 .left))
 
-goes-11 : (c : tie.Else8) → Goes (c .before .before .before .before .before .before .before .before .before .before .before .before .before .before .before .before .before .before .before .before .before .before .before .before .before .before .before .before .before .before .before .before .before .before .before .before .before .before .before .before .before .before .before .before .before .before .before .before .before .before .before .before .before .before .before .before .before .before .before .before .before .before .before .before) from-11
+goes-11 : (c : tie.Else8) → Goes (c .before .before .before .before .before .before .before .before .before .before .before .before .before .before .before .before .before .before .before .before .before .before .before .before .before .before .before .before .before .before .before .before .before .before .before .before .before .before .before .before .before .before .before .before .before .before .before .before .before .before .before .before .before .before .before .before .before .before) from-11
 unfolding from-10
 goes-11 c = goes-by _ _ _ (goes-10 (c .before .before .before .before .before .before)) (form-passes c)
 
-slice-aggregate-ceilings-verdict : tie.Need-slice-aggregate-ceilings-verdict
-slice-aggregate-ceilings-verdict c = sym (afters-long (c .before .before .before .before .before .before .before .before .before .before .before .before .before .before .before .before .before .before .before .before .before .before .before .before .before .before .before .before .before .before .before .before .before .before .before .before .before .before .before .before .before .before .before .before .before .before .before .before .before .before .before .before .before .before .before))
+slice-aggregate-system-verdict : tie.Need-slice-aggregate-system-verdict
+slice-aggregate-system-verdict c = sym (afters-long (c .before .before .before .before .before .before .before .before .before .before .before .before .before .before .before .before .before .before .before .before .before .before .before .before .before .before .before .before .before .before .before .before .before .before .before .before .before .before .before .before .before .before .before .before .before))
 
-slice-aggregate-ceilings-verdict-2 : tie.Need-slice-aggregate-ceilings-verdict-2
-slice-aggregate-ceilings-verdict-2 c = sym (owners-long (c .before .before .before .before .before .before .before .before .before .before .before .before .before .before .before .before .before .before .before .before .before .before .before .before .before .before .before .before .before .before .before .before .before .before .before .before .before .before .before .before))
+slice-aggregate-system-verdict-2 : tie.Need-slice-aggregate-system-verdict-2
+slice-aggregate-system-verdict-2 c = sym (c .before .before .before .before .before .before .before .before .before .before .before .before .before .before .before .before .before .before .before .before .before .before .before .before .before .before .before .open-verdict .kept .1 .1 .1 .1 .0 ∙ c .before .before .before .before .before .before .before .before .before .before .before .before .before .before .before .before .before .before .before .before .before .before .before .before .before .before .before .before .before .before .before .before .before .row-words162 .ensures .room)
 
-slice-aggregate-ceilings-verdict-3 : tie.Need-slice-aggregate-ceilings-verdict-3
-slice-aggregate-ceilings-verdict-3 c = sym (c .before .before .before .before .before .before .before .before .before .before .before .before .before .before .before .before .before .before .before .before .before .before .before .before .before .before .before .before .before .before .before .before .open-verdict .kept .1 .1 .1 .1 .1 .0 ∙ c .before .before .before .before .before .before .before .before .before .before .before .before .before .before .before .before .before .before .before .before .before .before .before .before .before .before .before .before .before .before .before .before .before .before .before .before .before .before .before .row-words163 .ensures .room)
+slice-aggregate-system-verdict-3 : tie.Need-slice-aggregate-system-verdict-3
+slice-aggregate-system-verdict-3 c = sym (c .before .before .before .before .before .before .before .before .before .before .before .before .before .before .before .before .before .before .fill-letters .kept .1 .1 .0 ∙ c .before .before .before .before .before .before .before .before .before .before .before .before .before .before .before .before .before .before .before .before .before .before .row-words164 .ensures .room)
 
-slice-aggregate-ceilings-verdict-4 : tie.Need-slice-aggregate-ceilings-verdict-4
-slice-aggregate-ceilings-verdict-4 c = search needs
+slice-aggregate-system-verdict-4 : tie.Need-slice-aggregate-system-verdict-4
+slice-aggregate-system-verdict-4 c = sym (c .before .before .before .before .before .before .before .before .before .before .before .before .before .before .before .before .before .before .before .fill-letters .kept .1 .1 .1 .0 ∙ c .before .before .before .before .before .before .before .before .before .before .before .before .before .before .before .before .before .before .before .before .before .before .words16-5122 .ensures .room)
 
-slice-aggregate-ceilings-verdict-5 : tie.Need-slice-aggregate-ceilings-verdict-5
-slice-aggregate-ceilings-verdict-5 c = sym (c .before .before .before .before .before .before .before .before .before .before .before .before .before .before .before .before .before .before .before .before .before .before .before .before .fill-letters .kept .1 .1 .0 ∙ c .before .before .before .before .before .before .before .before .before .before .before .before .before .before .before .before .before .before .before .before .before .before .before .before .before .before .before .before .row-words165 .ensures .room)
+slice-aggregate-system-verdict-5 : tie.Need-slice-aggregate-system-verdict-5
+slice-aggregate-system-verdict-5 c = sym (c .before .before .before .before .before .before .before .before .before .before .before .before .before .before .before .before .before .before .before .before .before .before .before .before .before .before .before .before .before .before .before .open-verdict .kept .1 .1 .1 .1 .1 .1 .0 ∙ c .before .before .before .before .before .before .before .before .before .before .before .before .before .before .before .before .before .before .before .before .before .before .before .before .before .before .before .before .before .before .before .before .before .before .before .before .row-words163 .ensures .room)
 
-slice-aggregate-ceilings-verdict-6 : tie.Need-slice-aggregate-ceilings-verdict-6
-slice-aggregate-ceilings-verdict-6 c = sym (c .before .before .before .before .before .before .before .before .before .before .before .before .before .before .before .before .before .before .before .before .before .before .before .before .before .fill-letters .kept .1 .1 .1 .0 ∙ c .before .before .before .before .before .before .before .before .before .before .before .before .before .before .before .before .before .before .before .before .before .before .before .before .before .before .before .before .words16-5122 .ensures .room)
-
-slice-aggregate-ceilings-verdict-7 : tie.Need-slice-aggregate-ceilings-verdict-7
-slice-aggregate-ceilings-verdict-7 c = sym (c .before .before .before .before .before .before .before .before .before .before .before .before .before .before .before .before .before .before .before .before .before .before .before .before .before .before .before .before .before .before .before .before .before .before .before .before .before .open-verdict .kept .1 .1 .1 .1 .1 .1 .1 .0 ∙ c .before .before .before .before .before .before .before .before .before .before .before .before .before .before .before .before .before .before .before .before .before .before .before .before .before .before .before .before .before .before .before .before .before .before .before .before .before .before .before .before .before .before .before .row-words164 .ensures .room)
-
-ceilings-verdict-requires : tie.Need-ceilings-verdict-requires
-ceilings-verdict-requires c κs =
-    let safe = safe-only _ (sym (c .before .before .before .before .before .before .before .before .before .before .before .before .before .before .before .before .before .before .before .before .before .before .before .before .before .before .before .before .before .before .before .before .is-safe6 .ensures) ∙ not-false _ (c .before .before .before .before .before .before .before .before .before .before .before .before .before .before .before .before .before .before .before .before .before .before .before .before .before .before .before .before .before .before .before .if6 .left)) in (
-      omega arith,
+system-verdict-requires : tie.Need-system-verdict-requires
+system-verdict-requires c κs =
+    let safe = safe-only _ (sym (c .before .before .before .before .before .before .before .before .before .before .before .before .before .before .before .before .before .before .before .before .before .before .before .before .before .before .before .is-safe6 .ensures) ∙ not-false _ (c .before .before .before .before .before .before .before .before .before .before .before .before .before .before .before .before .before .before .before .before .before .before .before .before .before .before .if6 .left)) in (
+      all-ready (c .before .before .before .before .before .before .before .before .before .before .before .before .before .before .before .before .before .before .before .before .before .before .before .before .before .before .before .before .before .before .before .before .before .before .before .before .before .before .before),
       (
         record {
-          ready = all-ready (c .before .before .before .before .before .before .before .before .before .before .before .before .before .before .before .before .before .before .before .before .before .before .before .before .before .before .before .before .before .before .before .before .before .before .before .before .before .before .before .before .before .before .before .before .before .before .before .before .before .before);
-          closed = closed-pass (c .before .before .before .before .before .before .before .before .before .before .before .before .before .before .before .before .before .before .before .before .before .before .before .before .before .before .before .before .before .before .before);
-          few = few _ _ _ (counters-pass (c .before .before .before .before .before .before .before .before .before .before .before .before .before .before .before .before .before .before .before));
-          ends = ends _ _ _ (omega (arith, c .before .before .before .before .before .before .before .before .before .before .before .before .before .before .before .before .before .before .before .before .before .before .before .before .before .before .before .before .before .before .before .before .before .before .before .before .before .before .before .before .before .before .before .before .before .before .before .before .before .before .before .before .before .before .before .before .before .before .before .before .before .before .before .before .before .before .before .before .before .before .before .before .before .before .before .before .before .pre .0 .limits .rows .1, afters-long (c .before .before .before .before .before .before .before .before .before .before .before .before .before .before .before .before .before .before .before .before .before .before .before .before .before .before .before .before .before .before .before .before .before .before .before .before .before .before .before .before .before .before .before .before .before .before .before .before .before .before .before .before .before .before .before .before .before .before .before .before .before .before))) (c .before .before .before .before .before .before .before .before .before .before .before .before .before .before .before .before .before .before .before .before .before .before .before .before .before .before .before .before .before .before .before .before .before .before .before .before .before .before .before .before .before .before .before .before .before .before .before .before .before .before .before .before .before .before .before .before .before .before .before .before .before .before .fill-ends .ensures);
-          owners = owners _ _ _ (omega (arith, c .before .before .before .before .before .before .before .before .before .before .before .before .before .before .before .before .before .before .before .before .before .before .before .before .before .before .before .before .before .before .before .before .before .before .before .before .before .before .before .before .before .before .before .before .before .before .before .before .before .before .before .before .before .before .before .before .before .before .before .before .before .before .before .before .before .before .before .before .before .before .before .before .before .before .before .before .before .pre .0 .limits .rows .1, owners-long (c .before .before .before .before .before .before .before .before .before .before .before .before .before .before .before .before .before .before .before .before .before .before .before .before .before .before .before .before .before .before .before .before .before .before .before .before .before .before .before .before .before .before .before .before .before .before))) (c .before .before .before .before .before .before .before .before .before .before .before .before .before .before .before .before .before .before .before .before .before .before .before .before .before .before .before .before .before .before .before .before .before .before .before .before .before .before .before .before .before .before .before .before .before .before .fill-inners .ensures);
-          flow-starts = c .before .before .before .before .before .before .before .before .before .before .before .before .before .before .before .before .before .before .before .before .before .before .before .before .before .before .before .before .before .before .before .before .before .before .before .before .before .open-verdict .ensures .1 .0 safe;
-          flow-width = c .before .before .before .before .before .before .before .before .width .ensures;
-          flow-sets = c .before .before .before .before .before .before .before .before .before .before .before .before .before .before .before .before .before .before .before .before .before .before .before .before .before .before .before .before .before .before .before .before .before .before .before .before .before .open-verdict .ensures .1 .1 .0 safe;
-          name-letters = c .before .before .before .before .before .before .before .before .before .before .fill-names .ensures;
-          class-letters = c .before .before .before .before .before .before .before .before .before .before .before .before .before .before .before .before .before .before .before .before .before .before .before .before .before .before .fill-letters .ensures;
-          branch-bits = c .before .before .before .before .before .before .before .before .before .before .before .before .before .before .before .before .before .before .before .before .before .before .before .before .before .before .before .before .before .before .before .before .before .before .before .before .before .open-verdict .ensures .1 .1 .1 safe;
+          named = λ names letters. record {
+            ready = all-ready (c .before .before .before .before .before .before .before .before .before .before .before .before .before .before .before .before .before .before .before .before .before .before .before .before .before .before .before .before .before .before .before .before .before .before .before .before .before .before .before);
+            closed = closed-pass (c .before .before .before .before .before .before .before .before .before .before .before .before .before .before .before .before .before .before .before .before .before .before .before .before .before .before);
+            few = few _ _ _ (counters-pass (c .before .before .before .before .before .before .before .before .before .before .before .before .before .before));
+            ends = ends _ _ _ (omega (arith, c .before .before .before .before .before .before .before .before .before .before .before .before .before .before .before .before .before .before .before .before .before .before .before .before .before .before .before .before .before .before .before .before .before .before .before .before .before .before .before .before .before .before .before .before .before .before .before .before .before .before .before .before .before .before .before .before .before .before .before .before .before .before .before .before .before .before .pre .0 .limits .rows .1, afters-long (c .before .before .before .before .before .before .before .before .before .before .before .before .before .before .before .before .before .before .before .before .before .before .before .before .before .before .before .before .before .before .before .before .before .before .before .before .before .before .before .before .before .before .before .before .before .before .before .before .before .before .before))) (c .before .before .before .before .before .before .before .before .before .before .before .before .before .before .before .before .before .before .before .before .before .before .before .before .before .before .before .before .before .before .before .before .before .before .before .before .before .before .before .before .before .before .before .before .before .before .before .before .before .before .before .fill-ends .ensures);
+            flow-starts = c .before .before .before .before .before .before .before .before .before .before .before .before .before .before .before .before .before .before .before .before .before .before .before .before .before .before .before .before .before .before .before .before .open-verdict .ensures .1 .0 safe;
+            flow-width = c .before .before .before .before .before .before .before .width .ensures;
+            flow-sets = c .before .before .before .before .before .before .before .before .before .before .before .before .before .before .before .before .before .before .before .before .before .before .before .before .before .before .before .before .before .before .before .before .open-verdict .ensures .1 .1 .0 safe;
+            name-letters = letters;
+            class-letters = c .before .before .before .before .before .before .before .before .before .before .before .before .before .before .before .before .before .before .before .before .before .fill-letters .ensures;
+            branch-bits = c .before .before .before .before .before .before .before .before .before .before .before .before .before .before .before .before .before .before .before .before .before .before .before .before .before .before .before .before .before .before .before .before .open-verdict .ensures .1 .1 .1 safe;
+          };
         },
         record {
-          counted = c .before .before .before .before .before .before .before .before .before .before .before .before .before .before .before .before .counter-count .ensures;
-          in-form = ceiling-none _ _ _ .0 (passed _ _ _ (ceiling-refuses _ _ _) (c .before .before .before .before .before .before .before .before .before .before .before .before .before .before .before .ceiling-check .ensures) (c .before .before .before .before .before .before .before .before .before .before .before .before .before .before .is-safe8 .ensures) (not-false _ (c .before .before .before .before .before .before .before .before .before .before .before .before .before .if8 .left)));
-          bads = bad-none _ _ _ .0 (bads-pass (c .before .before .before .before .before .before .before .before .before .before .before .before .before .before .before .before .before .before .before .before .before .before .before .before .before .before .before .before .before .before .before .before .before .before .before .before .before .before .before .before .before .before .before .before .before .before .before .before .before .before .before .before .before));
+          counted = c .before .before .before .before .before .before .before .before .before .before .before .counter-count .ensures;
+          in-form = ceiling-none _ _ _ .0 (passed _ _ _ (ceiling-refuses _ _ _) (c .before .before .before .before .before .before .before .before .before .before .ceiling-check .ensures) (c .before .before .before .before .before .before .before .before .before .is-safe8 .ensures) (not-false _ (c .before .before .before .before .before .before .before .before .if8 .left)));
+          bads = bad-none _ _ _ .0 (bads-pass (c .before .before .before .before .before .before .before .before .before .before .before .before .before .before .before .before .before .before .before .before .before .before .before .before .before .before .before .before .before .before .before .before .before .before .before .before .before .before .before .before .before .before));
         },
       ),
     )
 
-is-safe-requires-9 : tie.Need-is-safe-requires-9
-is-safe-requires-9 c κs = search needs
-
 same-length-4 : tie.Need-same-length-4
-same-length-4 c = c .before .before .before .before .before .before .before .before .before .before .before .before .before .before .before .before .before .before .before .before .before .before .before .before .before .before .before .before .before .before .before .before .before .before .before .before .before .before .before .before .open-verdict .kept .1 .1 .1 .1 .1 .1 .0
-
-returns-9 : tie.Need-returns-9
-unfolding from-11
-returns-9 c = ends-with _ _ _ _ _ _ _ _ (goes-11 (c .before .before .before .before .before .before .before .before .before .before .before .before .before .before .before .before)) (ceilings-told _ _ _ _ (c .before .before .ceilings-verdict .ensures .0) (c .before .before .before .before .before .before .before .before .before .before .before .before .before .before .before .before .before .before .before .counter-count .ensures)) (c .before .is-safe9 .ensures) (not-true _ (c .if9 .taken))
-
-ceilings-pass : (c : tie.Else9) → Passes (c .before .before .before .before .before .before .before .before .before .before .before .before .before .before .before .before .before .before .before .before .before .before .before .before .before .before .before .before .before .before .before .before .before .before .before .before .before .before .before .before .before .before .before .before .before .before .before .before .before .before .before .before .before .before .before .before .before .before .before .before .before .before .before .before .before .before .before .before .before .before .before .before .before .before .before .before .before .before .before .before) (λ ws s. under-ceilings ws s (counter-count (program ws s) (tables ws s)))
-ceilings-pass c = passed _ _ _ (under-refuses _ _ (form-passes (c .before .before .before .before .before .before .before .before .before .before .before .before .before .before .before .before))) (ceilings-told _ _ _ _ (c .before .before .ceilings-verdict .ensures .0) (c .before .before .before .before .before .before .before .before .before .before .before .before .before .before .before .before .before .before .before .counter-count .ensures)) (c .before .is-safe9 .ensures) (not-false _ (c .if9 .left))
-
-goes-14 : (c : tie.Else9) → Goes (c .before .before .before .before .before .before .before .before .before .before .before .before .before .before .before .before .before .before .before .before .before .before .before .before .before .before .before .before .before .before .before .before .before .before .before .before .before .before .before .before .before .before .before .before .before .before .before .before .before .before .before .before .before .before .before .before .before .before .before .before .before .before .before .before .before .before .before .before .before .before .before .before .before .before .before .before .before .before .before .before) from-14
-unfolding from-11
-goes-14 c = goes-by _ _ _ (goes-11 (c .before .before .before .before .before .before .before .before .before .before .before .before .before .before .before .before)) (ceilings-pass c)
-
-slice-aggregate-listing-verdict : tie.Need-slice-aggregate-listing-verdict
-slice-aggregate-listing-verdict c = sym (afters-long (c .before .before .before .before .before .before .before .before .before .before .before .before .before .before .before .before .before .before .before .before .before .before .before .before .before .before .before .before .before .before .before .before .before .before .before .before .before .before .before .before .before .before .before .before .before .before .before .before .before .before .before .before .before .before .before .before .before .before .before .before .before .before .before .before .before .before .before))
-
-slice-aggregate-listing-verdict-2 : tie.Need-slice-aggregate-listing-verdict-2
-slice-aggregate-listing-verdict-2 c = sym (owners-long (c .before .before .before .before .before .before .before .before .before .before .before .before .before .before .before .before .before .before .before .before .before .before .before .before .before .before .before .before .before .before .before .before .before .before .before .before .before .before .before .before .before .before .before .before .before .before .before .before .before .before .before .before))
-
-slice-aggregate-listing-verdict-3 : tie.Need-slice-aggregate-listing-verdict-3
-slice-aggregate-listing-verdict-3 c = sym (c .before .before .before .before .before .before .before .before .before .before .before .before .before .before .before .before .before .before .before .before .before .before .before .before .before .before .before .before .before .before .before .before .before .before .before .before .before .before .before .before .before .before .before .before .open-verdict .kept .1 .1 .1 .1 .1 .0 ∙ c .before .before .before .before .before .before .before .before .before .before .before .before .before .before .before .before .before .before .before .before .before .before .before .before .before .before .before .before .before .before .before .before .before .before .before .before .before .before .before .before .before .before .before .before .before .before .before .before .before .before .before .row-words163 .ensures .room)
-
-slice-aggregate-listing-verdict-4 : tie.Need-slice-aggregate-listing-verdict-4
-slice-aggregate-listing-verdict-4 c = search needs
-
-slice-aggregate-listing-verdict-5 : tie.Need-slice-aggregate-listing-verdict-5
-slice-aggregate-listing-verdict-5 c = sym (c .before .before .before .before .before .before .before .before .before .before .before .before .before .before .before .before .before .before .before .before .before .before .before .before .before .before .before .before .before .before .before .before .before .before .before .before .fill-letters .kept .1 .1 .0 ∙ c .before .before .before .before .before .before .before .before .before .before .before .before .before .before .before .before .before .before .before .before .before .before .before .before .before .before .before .before .before .before .before .before .before .before .before .before .before .before .before .before .row-words165 .ensures .room)
-
-slice-aggregate-listing-verdict-6 : tie.Need-slice-aggregate-listing-verdict-6
-slice-aggregate-listing-verdict-6 c = sym (c .before .before .before .before .before .before .before .before .before .before .before .before .before .before .before .before .before .before .before .before .before .before .before .before .before .before .before .before .before .before .before .before .before .before .before .before .before .fill-letters .kept .1 .1 .1 .0 ∙ c .before .before .before .before .before .before .before .before .before .before .before .before .before .before .before .before .before .before .before .before .before .before .before .before .before .before .before .before .before .before .before .before .before .before .before .before .before .before .before .before .words16-5122 .ensures .room)
-
-slice-aggregate-listing-verdict-7 : tie.Need-slice-aggregate-listing-verdict-7
-slice-aggregate-listing-verdict-7 c = sym (c .before .before .before .before .before .before .before .before .before .before .before .before .before .before .before .before .before .before .before .before .before .before .before .before .before .before .before .before .before .before .before .before .before .before .before .before .before .before .before .before .before .before .before .before .before .before .before .before .before .open-verdict .kept .1 .1 .1 .1 .1 .1 .1 .0 ∙ c .before .before .before .before .before .before .before .before .before .before .before .before .before .before .before .before .before .before .before .before .before .before .before .before .before .before .before .before .before .before .before .before .before .before .before .before .before .before .before .before .before .before .before .before .before .before .before .before .before .before .before .before .before .before .before .row-words164 .ensures .room)
-
-listing-verdict-requires : tie.Need-listing-verdict-requires
-listing-verdict-requires c κs =
-    let safe = safe-only _ (sym (c .before .before .before .before .before .before .before .before .before .before .before .before .before .before .before .before .before .before .before .before .before .before .before .before .before .before .before .before .before .before .before .before .before .before .before .before .before .before .before .before .before .before .before .before .before .is-safe6 .ensures) ∙ not-false _ (c .before .before .before .before .before .before .before .before .before .before .before .before .before .before .before .before .before .before .before .before .before .before .before .before .before .before .before .before .before .before .before .before .before .before .before .before .before .before .before .before .before .before .before .before .if6 .left)) in (
-      record {
-        ready = all-ready (c .before .before .before .before .before .before .before .before .before .before .before .before .before .before .before .before .before .before .before .before .before .before .before .before .before .before .before .before .before .before .before .before .before .before .before .before .before .before .before .before .before .before .before .before .before .before .before .before .before .before .before .before .before .before .before .before .before .before .before .before .before .before .before);
-        closed = closed-pass (c .before .before .before .before .before .before .before .before .before .before .before .before .before .before .before .before .before .before .before .before .before .before .before .before .before .before .before .before .before .before .before .before .before .before .before .before .before .before .before .before .before .before .before .before);
-        few = few _ _ _ (counters-pass (c .before .before .before .before .before .before .before .before .before .before .before .before .before .before .before .before .before .before .before .before .before .before .before .before .before .before .before .before .before .before .before .before));
-        ends = ends _ _ _ (omega (arith, c .before .before .before .before .before .before .before .before .before .before .before .before .before .before .before .before .before .before .before .before .before .before .before .before .before .before .before .before .before .before .before .before .before .before .before .before .before .before .before .before .before .before .before .before .before .before .before .before .before .before .before .before .before .before .before .before .before .before .before .before .before .before .before .before .before .before .before .before .before .before .before .before .before .before .before .before .before .before .before .before .before .before .before .before .before .before .before .before .before .before .pre .0 .limits .rows .1, afters-long (c .before .before .before .before .before .before .before .before .before .before .before .before .before .before .before .before .before .before .before .before .before .before .before .before .before .before .before .before .before .before .before .before .before .before .before .before .before .before .before .before .before .before .before .before .before .before .before .before .before .before .before .before .before .before .before .before .before .before .before .before .before .before .before .before .before .before .before .before .before .before .before .before .before .before .before))) (c .before .before .before .before .before .before .before .before .before .before .before .before .before .before .before .before .before .before .before .before .before .before .before .before .before .before .before .before .before .before .before .before .before .before .before .before .before .before .before .before .before .before .before .before .before .before .before .before .before .before .before .before .before .before .before .before .before .before .before .before .before .before .before .before .before .before .before .before .before .before .before .before .before .before .before .fill-ends .ensures);
-        owners = owners _ _ _ (omega (arith, c .before .before .before .before .before .before .before .before .before .before .before .before .before .before .before .before .before .before .before .before .before .before .before .before .before .before .before .before .before .before .before .before .before .before .before .before .before .before .before .before .before .before .before .before .before .before .before .before .before .before .before .before .before .before .before .before .before .before .before .before .before .before .before .before .before .before .before .before .before .before .before .before .before .before .before .before .before .before .before .before .before .before .before .before .before .before .before .before .before .before .pre .0 .limits .rows .1, owners-long (c .before .before .before .before .before .before .before .before .before .before .before .before .before .before .before .before .before .before .before .before .before .before .before .before .before .before .before .before .before .before .before .before .before .before .before .before .before .before .before .before .before .before .before .before .before .before .before .before .before .before .before .before .before .before .before .before .before .before .before))) (c .before .before .before .before .before .before .before .before .before .before .before .before .before .before .before .before .before .before .before .before .before .before .before .before .before .before .before .before .before .before .before .before .before .before .before .before .before .before .before .before .before .before .before .before .before .before .before .before .before .before .before .before .before .before .before .before .before .before .before .fill-inners .ensures);
-        flow-starts = c .before .before .before .before .before .before .before .before .before .before .before .before .before .before .before .before .before .before .before .before .before .before .before .before .before .before .before .before .before .before .before .before .before .before .before .before .before .before .before .before .before .before .before .before .before .before .before .before .before .before .open-verdict .ensures .1 .0 safe;
-        flow-width = c .before .before .before .before .before .before .before .before .before .before .before .before .before .before .before .before .before .before .before .before .before .width .ensures;
-        flow-sets = c .before .before .before .before .before .before .before .before .before .before .before .before .before .before .before .before .before .before .before .before .before .before .before .before .before .before .before .before .before .before .before .before .before .before .before .before .before .before .before .before .before .before .before .before .before .before .before .before .before .before .open-verdict .ensures .1 .1 .0 safe;
-        name-letters = c .before .before .before .before .before .before .before .before .before .before .before .before .before .before .before .before .before .before .before .before .before .before .before .fill-names .ensures;
-        class-letters = c .before .before .before .before .before .before .before .before .before .before .before .before .before .before .before .before .before .before .before .before .before .before .before .before .before .before .before .before .before .before .before .before .before .before .before .before .before .before .before .fill-letters .ensures;
-        branch-bits = c .before .before .before .before .before .before .before .before .before .before .before .before .before .before .before .before .before .before .before .before .before .before .before .before .before .before .before .before .before .before .before .before .before .before .before .before .before .before .before .before .before .before .before .before .before .before .before .before .before .before .open-verdict .ensures .1 .1 .1 safe;
-      },
-      c .before .before .before .before .before .before .before .before .before .before .before .before .ceilings-verdict .ensures .1 (safe-only _ (sym (c .before .before .before .before .before .before .before .before .before .before .before .is-safe9 .ensures) ∙ not-false _ (c .before .before .before .before .before .before .before .before .before .before .if9 .left))),
-    )
+same-length-4 c = c .before .before .before .before .before .before .before .before .before .before .before .before .before .before .before .before .before .before .before .before .before .before .before .before .before .before .before .before .before .before .before .before .before .before .before .open-verdict .kept .1 .1 .1 .1 .1 .0
 
 same-length-5 : tie.Need-same-length-5
-same-length-5 c = c .before .before .before .before .before .before .before .before .before .before .before .before .before .before .before .before .before .before .before .before .before .before .before .before .before .before .before .before .before .before .before .before .before .before .before .before .before .before .before .before .before .before .before .before .before .before .before .before .before .before .before .before .before .open-verdict .kept .1 .1 .1 .1 .1 .1 .0
+same-length-5 c = search needs
 
-same-length-6 : tie.Need-same-length-6
-same-length-6 c = search needs
-
-returns-10 : tie.Need-returns-10
-unfolding from-14
-returns-10 c = (c .before .before .listing-verdict .ensures .0 ∙ sym (ap answer (goes-14 (c .before .before .before .before .before .before .before .before .before .before .before .before .before))), c .before .before .listing-verdict .ensures .1)
+returns-9 : tie.Need-returns-9
+returns-9 c = (c .before .before .system-verdict .ensures .0 ∙ sym (ap answer (goes-11 (c .before .before .before .before .before .before .before .before .before .before .before))), c .before .before .system-verdict .ensures .1)
 
 pub words-verdict-spec : {M : Type 1} → statement M
 words-verdict-spec =
@@ -443,20 +352,15 @@ words-verdict-spec =
     is-safe-requires-5
     returns-5
     row-words16-requires-2
-    slice-aggregate-fill-inners
-    slice-aggregate-fill-inners-2
-    fill-inners-requires
     row-words16-requires-3
-    row-words16-requires-4
     slice-aggregate-open-verdict
     slice-aggregate-open-verdict-2
     slice-aggregate-open-verdict-3
-    slice-aggregate-open-verdict-4
     open-verdict-requires
     is-safe-requires-6
     same-length
     returns-6
-    row-words16-requires-5
+    row-words16-requires-4
     words16-512-requires-2
     slice-aggregate-fill-letters
     slice-aggregate-fill-letters-2
@@ -474,29 +378,13 @@ words-verdict-spec =
     is-safe-requires-8
     same-length-3
     returns-8
-    words64-1024-requires
-    slice-aggregate-fill-names
-    fill-names-requires
     width-requires
-    slice-aggregate-ceilings-verdict
-    slice-aggregate-ceilings-verdict-2
-    slice-aggregate-ceilings-verdict-3
-    slice-aggregate-ceilings-verdict-4
-    slice-aggregate-ceilings-verdict-5
-    slice-aggregate-ceilings-verdict-6
-    slice-aggregate-ceilings-verdict-7
-    ceilings-verdict-requires
-    is-safe-requires-9
+    slice-aggregate-system-verdict
+    slice-aggregate-system-verdict-2
+    slice-aggregate-system-verdict-3
+    slice-aggregate-system-verdict-4
+    slice-aggregate-system-verdict-5
+    system-verdict-requires
     same-length-4
-    returns-9
-    slice-aggregate-listing-verdict
-    slice-aggregate-listing-verdict-2
-    slice-aggregate-listing-verdict-3
-    slice-aggregate-listing-verdict-4
-    slice-aggregate-listing-verdict-5
-    slice-aggregate-listing-verdict-6
-    slice-aggregate-listing-verdict-7
-    listing-verdict-requires
     same-length-5
-    same-length-6
-    returns-10)
+    returns-9)

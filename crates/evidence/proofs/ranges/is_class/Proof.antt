@@ -1,7 +1,8 @@
 use borrow.Author.Needs.{needs}
 use Rattle.model.specs.Words.{columns}
 use Rattle.model.specs.Rows.{program}
-use Rattle.evidence.proofs.Tags.{class-spawn, class-start}
+use Rattle.model.specs.Heads.{is-class}
+use Rattle.evidence.proofs.Tags.{with-tag, without-tag}
 use Rattle.evidence.proofs.ranges.is_class.Statement.{statement}
 use Rattle.evidence.proofs.ranges.is_class.Tie as tie
 
@@ -9,11 +10,12 @@ tag-requires : tie.Need-tag-requires
 tag-requires c κs = search needs
 
 returns : tie.Need-returns
-returns c = class-spawn _ _ _ (c .before .tag .ensures) (c .if1 .taken)
+unfolding is-class
+returns c = with-tag _ _ _ (c .before .tag .ensures) 6 (c .if1 .taken)
 
 returns-2 : tie.Need-returns-2
-unfolding program columns
-returns-2 c = class-start _ _ _ (c .before .before .tag .ensures) (c .before .if1 .left)
+unfolding is-class program columns
+returns-2 c = without-tag _ _ _ (c .before .before .tag .ensures) 6 (c .before .if1 .left)
 
 pub is-class-spec : {M : Type 1} → statement M
 is-class-spec = tie.close (tie.spec tag-requires returns returns-2)

@@ -1,0 +1,172 @@
+// The rules of all states, kept where they are few: so that whoever goes over the states again and again derives them
+// once. One state's stand behind another's, in the two lists that hold the rules of one state.
+use lists::word;
+use model::Sizes;
+use state_rules::state_rules;
+ghost use mathlib.Core.Path.{_≡_};
+ghost use mathlib.Core.Bool.{true};
+ghost use Prim.Native.Nat.{_+_, _≤_, _<_};
+ghost use lib.ListN.{length, getD, set};
+ghost use Rattle.model.specs.Rows.{program};
+ghost use Rattle.model.specs.Tables.{tables};
+ghost use Rattle.rules.specs.Derived.{Rule-tables, Rule-room};
+ghost use Rattle.kept_rules.specs.Kept.{Same-below, Room-from, Rules-from, Rules-at, Kept-rules};
+
+// Whether the rules of all states so far are kept, and up to where in the lists.
+pub struct Kept {
+    pub all: bool,
+    pub used: usize,
+}
+
+// From where up to where the rules of a state stand.
+pub struct Found {
+    pub first: usize,
+    pub end: usize,
+}
+
+// No state's rules are kept yet; and none will be where there are too few words to say where each state's begin.
+pub fn none_kept(states: usize, first_at: &mut [u16]) -> Kept
+    ensures { λ k. ⌜ k .used ≡ 0 ⌝ }
+    ensures { λ k. ⌜ (k .all ≡ true →
+        (states < length (now («first_at» .exit))) × (getD (now («first_at» .exit)) 0 0 ≡ 0)) ⌝ }
+{
+    if states >= first_at.len() {
+        return Kept {
+            all: false,
+            used: 0,
+        };
+    }
+    first_at[0] = 0;
+    Kept { all: true, used: 0 }
+}
+
+// The m rules of state i, which stand behind those kept, are kept too where they end within the first `spare` words;
+// else none are, and the next state's go to the front.
+pub fn keep(k: Kept, spare: usize, i: usize, m: usize, first_at: &mut [u16]) -> Kept
+    requires { ⌜ (k .used ≤ spare) × (spare < 65536) ⌝ }
+    requires { ⌜ (k .all ≡ true → i + 1 < length (now «first_at»)) ⌝ }
+    requires { ⌜ (i < 65536) × (m ≤ 65536) ⌝ }
+    ensures { λ r. ⌜ r .used ≤ spare ⌝ }
+    ensures { λ r. ⌜ (r .all ≡ true → (k .all ≡ true) × (r .used ≡ k .used + m) ×
+        (now («first_at» .exit) ≡ set (now («first_at» .entry)) (i + 1) (k .used + m))) ⌝ }
+{
+    let none = Kept {
+        all: false,
+        used: 0,
+    };
+    if !k.all {
+        return none;
+    }
+    let end = k.used + m;
+    if end > spare {
+        return none;
+    }
+    let next = i + 1;
+    first_at[next] = end as u16;
+    Kept {
+        all: true,
+        used: end,
+    }
+}
+
+// The rules of state i, derived into the lists from `first` on.
+pub fn rules_from(
+    ws: &[u16],
+    s: Sizes,
+    afters: &[u16],
+    flow_at: &[u16],
+    w: usize,
+    flows: &[u64],
+    names: &[u64],
+    letter_at: &[u16],
+    letters: &[u16],
+    branches: &[u16],
+    at: &[u16],
+    i: usize,
+    first: usize,
+    tos: &mut [u16],
+    others: &mut [u16],
+) -> usize
+    requires { ⌜ Rule-tables (now ws) s (now afters) (now «flow_at») w (now flows) (now names)
+        (now «letter_at») (now letters) (now branches) ⌝ }
+    requires { ⌜ (i < s .states) × (first < 65536) ⌝ }
+    requires { ⌜ Room-from s first (now tos) (now others) ⌝ }
+    ensures { λ m. ⌜ Rules-from (program (now (ws .entry)) s) (tables (now (ws .entry)) s) i first (now (tos .exit))
+        (now (others .exit)) m ⌝ }
+    ensures { λ _. ⌜ Same-below first (now (tos .entry)) (now (tos .exit)) ×
+        Same-below first (now (others .entry)) (now (others .exit)) ⌝ }
+{
+    state_rules(
+        ws,
+        s,
+        afters,
+        flow_at,
+        w,
+        flows,
+        names,
+        letter_at,
+        letters,
+        branches,
+        at,
+        i,
+        &mut tos[first..],
+        &mut others[first..],
+    )
+}
+
+// The rules of state i, where they are kept; else derived into the lists from the front on.
+pub fn rules_again(
+    ws: &[u16],
+    s: Sizes,
+    afters: &[u16],
+    flow_at: &[u16],
+    w: usize,
+    flows: &[u64],
+    names: &[u64],
+    letter_at: &[u16],
+    letters: &[u16],
+    branches: &[u16],
+    kept: Kept,
+    first_at: &[u16],
+    at: &[u16],
+    i: usize,
+    tos: &mut [u16],
+    others: &mut [u16],
+) -> Found
+    requires { ⌜ Rule-tables (now ws) s (now afters) (now «flow_at») w (now flows) (now names)
+        (now «letter_at») (now letters) (now branches) ⌝ }
+    requires { ⌜ Kept-rules (program (now ws) s) (tables (now ws) s) (s .states) kept (now «first_at») (now tos)
+        (now others) ⌝ }
+    requires { ⌜ i < s .states ⌝ }
+    requires { ⌜ Rule-room s (now tos) (now others) ⌝ }
+    ensures { λ f. ⌜ Rules-at (program (now (ws .entry)) s) (tables (now (ws .entry)) s) i (now (tos .exit))
+        (now (others .exit)) (f .first) (f .end) ⌝ }
+    ensures { λ _. ⌜ Kept-rules (program (now (ws .entry)) s) (tables (now (ws .entry)) s) (s .states) kept
+        (now («first_at» .entry)) (now (tos .exit)) (now (others .exit)) ⌝ }
+{
+    if kept.all {
+        let next = i + 1;
+        return Found {
+            first: word(first_at, i),
+            end: word(first_at, next),
+        };
+    }
+    let end = rules_from(
+        ws,
+        s,
+        afters,
+        flow_at,
+        w,
+        flows,
+        names,
+        letter_at,
+        letters,
+        branches,
+        at,
+        i,
+        0,
+        tos,
+        others,
+    );
+    Found { first: 0, end }
+}
