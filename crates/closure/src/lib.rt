@@ -5,6 +5,7 @@ use lists::state_location;
 use lists::tables_at;
 use matching::builds::fill_builds;
 use matching::patterns::fill_patterns;
+use matching::patterns::keep_patterns;
 use model::Sizes;
 use model::Verdict;
 use onward::guess_class;
@@ -28,14 +29,14 @@ ghost use Rattle.lists.specs.Ready.{Ready};
 ghost use Rattle.positions.specs.Positions.{Ends};
 ghost use Rattle.positions.specs.Branches.{Branch-bits};
 ghost use Rattle.values.specs.Values.{Flow-sets, Mail-sets};
-ghost use Rattle.matching.specs.Patterns.{Matches};
+ghost use Rattle.matching.specs.Patterns.{Matches, May-sets};
 ghost use Rattle.codes.specs.Codes.{Codes};
 ghost use Rattle.stated.specs.Stated.{Stated};
 ghost use Rattle.closure.specs.Told.{first-open, Told, states-verdict};
 ghost use Rattle.closure.specs.Lent.{Indexed, Cleared, Unsettled};
 
 // The tables that the states are told by: where each name's entries begin, the sets of names and classes, the sets of
-// constructor patterns.
+// constructor patterns, which are kept behind those of the names.
 fn fill_tables(
     ws: &[u16],
     s: Sizes,
@@ -57,12 +58,14 @@ fn fill_tables(
     ensures { λ _. ⌜ Mail-sets (program (now (ws .entry)) s) (tables (now (ws .entry)) s) (now (mail .exit)) ⌝ }
     ensures { λ _. ⌜ Matches (program (now (ws .entry)) s) (tables (now (ws .entry)) s)
         (now (may .exit)) (now (held .exit)) 0 ⌝ }
+    ensures { λ _. ⌜ May-sets (program (now (ws .entry)) s) (tables (now (ws .entry)) s) (now (flow .exit)) ⌝ }
 {
     fill_starts(ws, s, starts);
     fill_flow(ws, s, flow);
     fill_mail(ws, s, mail);
     fill_builds(ws, s, firsts, nexts);
     fill_patterns(ws, s, afters, flow, firsts, nexts, may, held);
+    keep_patterns(ws, s, may, flow);
 }
 
 // The bits of state i, LACKS where it lacks something, by what its head asks.
@@ -147,8 +150,8 @@ fn states_verdict(s: Sizes, i: usize) -> Verdict
     Verdict::Open(place)
 }
 
-// Refusal 8. Where it is none, `starts` and `flow` have the values of the names, and `branches` has for each state the
-// bits of the branches that may match.
+// Refusal 8. Where it is none, `starts` and `flow` have the values of the names, `flow` behind them those that patterns
+// may match, and `branches` has for each state the bits of the branches that may match.
 pub fn open_check(
     ws: &[u16],
     s: Sizes,
@@ -175,6 +178,8 @@ pub fn open_check(
         Starts (tables (now (ws .entry)) s .flow) (s .names) (now (starts .exit))) ⌝ }
     ensures { λ v. ⌜ (v ≡ Safe →
         Flow-sets (program (now (ws .entry)) s) (tables (now (ws .entry)) s) (now (flow .exit))) ⌝ }
+    ensures { λ v. ⌜ (v ≡ Safe →
+        May-sets (program (now (ws .entry)) s) (tables (now (ws .entry)) s) (now (flow .exit))) ⌝ }
     ensures { λ v. ⌜ (v ≡ Safe →
         Branch-bits (program (now (ws .entry)) s) (tables (now (ws .entry)) s) (now (branches .exit))) ⌝ }
 {

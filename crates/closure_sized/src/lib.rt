@@ -25,6 +25,7 @@ ghost use Rattle.lists.specs.Ready.{Ready};
 ghost use Rattle.positions.specs.Positions.{Ends};
 ghost use Rattle.positions.specs.Branches.{Branch-bits};
 ghost use Rattle.values.specs.Values.{Flow-sets};
+ghost use Rattle.matching.specs.Patterns.{May-sets};
 ghost use Rattle.closure_sized.specs.Flow.{Flow-room};
 
 // Refusal 8 of a small message.
@@ -46,6 +47,8 @@ fn small_open(
         Starts (tables (now (ws .entry)) s .flow) (s .names) (now (starts .exit))) ⌝ }
     ensures { λ v. ⌜ (v ≡ Safe →
         Flow-sets (program (now (ws .entry)) s) (tables (now (ws .entry)) s) (now (flow .exit))) ⌝ }
+    ensures { λ v. ⌜ (v ≡ Safe →
+        May-sets (program (now (ws .entry)) s) (tables (now (ws .entry)) s) (now (flow .exit))) ⌝ }
     ensures { λ v. ⌜ (v ≡ Safe →
         Branch-bits (program (now (ws .entry)) s) (tables (now (ws .entry)) s) (now (branches .exit))) ⌝ }
 {
@@ -93,6 +96,8 @@ fn middle_open(
     ensures { λ v. ⌜ (v ≡ Safe →
         Flow-sets (program (now (ws .entry)) s) (tables (now (ws .entry)) s) (now (flow .exit))) ⌝ }
     ensures { λ v. ⌜ (v ≡ Safe →
+        May-sets (program (now (ws .entry)) s) (tables (now (ws .entry)) s) (now (flow .exit))) ⌝ }
+    ensures { λ v. ⌜ (v ≡ Safe →
         Branch-bits (program (now (ws .entry)) s) (tables (now (ws .entry)) s) (now (branches .exit))) ⌝ }
 {
     let mut mail = words64_1285();
@@ -137,6 +142,8 @@ fn large_open(
         Starts (tables (now (ws .entry)) s .flow) (s .names) (now (starts .exit))) ⌝ }
     ensures { λ v. ⌜ (v ≡ Safe →
         Flow-sets (program (now (ws .entry)) s) (tables (now (ws .entry)) s) (now (flow .exit))) ⌝ }
+    ensures { λ v. ⌜ (v ≡ Safe →
+        May-sets (program (now (ws .entry)) s) (tables (now (ws .entry)) s) (now (flow .exit))) ⌝ }
     ensures { λ v. ⌜ (v ≡ Safe →
         Branch-bits (program (now (ws .entry)) s) (tables (now (ws .entry)) s) (now (branches .exit))) ⌝ }
 {
@@ -186,6 +193,8 @@ pub fn open_verdict(
         Starts (tables (now (ws .entry)) s .flow) (s .names) (now (starts .exit))) ⌝ }
     ensures { λ v. ⌜ (v ≡ Safe →
         Flow-sets (program (now (ws .entry)) s) (tables (now (ws .entry)) s) (now (flow .exit))) ⌝ }
+    ensures { λ v. ⌜ (v ≡ Safe →
+        May-sets (program (now (ws .entry)) s) (tables (now (ws .entry)) s) (now (flow .exit))) ⌝ }
     ensures { λ v. ⌜ (v ≡ Safe →
         Branch-bits (program (now (ws .entry)) s) (tables (now (ws .entry)) s) (now (branches .exit))) ⌝ }
 {

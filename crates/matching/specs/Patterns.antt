@@ -78,6 +78,26 @@ pub record Matched (p : Program) (t : Tables) (may held : List ℕ) (q : ℕ) : 
 pub record Matches (p : Program) (t : Tables) (may held : List ℕ) (x : ℕ) : Type 0 where
   pub at : (q : ℕ) → x ≤ q → q < size p → Matched p t may held q
 
+-- row q is a constructor pattern or a held name
+unfoldable pub has-set : Program → ℕ → Bool
+has-set p q = eqb (tag p q) 31 || eqb (tag p q) 33
+
+-- t is u, and behind the sets of the names set V + q is that of row q of `may`, for each constructor pattern and held
+-- name before row x
+pub record Kept (p : Program) (may u : List ℕ) (x : ℕ) (t : List ℕ) : Type 0 where
+  pub long : length t ≡ length u
+  pub names : (n v : ℕ) → n < p .names → v < 64 * width (size p) →
+      member t (width (size p)) n v ≡ member u (width (size p)) n v
+  pub kept : (q v : ℕ) → q < x → has-set p q ≡ true → v < 64 * width (size p) →
+      member t (width (size p)) (p .names + q) v ≡ member may (width (size p)) q v
+
+-- the sets of patterns kept behind those of the names' values: set V + q has the values that the constructor pattern or
+-- held name at row q may match
+pub record May-sets (p : Program) (t : Tables) (flow : List ℕ) : Type 0 where
+  pub row : (q : ℕ) → q < size p → Row flow (width (size p)) (p .names + q)
+  pub has : (d q v : ℕ) → q < size p → (tag p q ≡ 31) ⊎ (tag p q ≡ 33) → Pattern p d q → v < 64 * width (size p) →
+      member flow (width (size p)) (p .names + q) v ≡ may-match p t d q v
+
 -- nothing is in the sets before x
 pub record Clear (w x : ℕ) (sets : List ℕ) : Type 0 where
   pub none : (n v : ℕ) → n < x → v < 64 * w → member sets w n v ≡ false
