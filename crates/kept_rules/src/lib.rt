@@ -79,7 +79,7 @@ pub fn rules_from(
     flows: &[u64],
     names: &[u64],
     letter_at: &[u16],
-    letters: &[u16],
+    letters: &[u64],
     branches: &[u16],
     at: &[u16],
     i: usize,
@@ -90,7 +90,7 @@ pub fn rules_from(
     requires { ⌜ Rule-tables (now ws) s (now afters) (now «flow_at») w (now flows) (now names)
         (now «letter_at») (now letters) (now branches) ⌝ }
     requires { ⌜ (i < s .states) × (first < 65536) ⌝ }
-    requires { ⌜ Room-from s first (now tos) (now others) ⌝ }
+    requires { ⌜ Room-from (now ws) s first (now tos) (now others) ⌝ }
     ensures { λ m. ⌜ Rules-from (program (now (ws .entry)) s) (tables (now (ws .entry)) s) i first (now (tos .exit))
         (now (others .exit)) m ⌝ }
     ensures { λ _. ⌜ Same-below first (now (tos .entry)) (now (tos .exit)) ×
@@ -124,7 +124,7 @@ pub fn rules_again(
     flows: &[u64],
     names: &[u64],
     letter_at: &[u16],
-    letters: &[u16],
+    letters: &[u64],
     branches: &[u16],
     kept: Kept,
     first_at: &[u16],
@@ -138,7 +138,7 @@ pub fn rules_again(
     requires { ⌜ Kept-rules (program (now ws) s) (tables (now ws) s) (s .states) kept (now «first_at») (now tos)
         (now others) ⌝ }
     requires { ⌜ i < s .states ⌝ }
-    requires { ⌜ Rule-room s (now tos) (now others) ⌝ }
+    requires { ⌜ Rule-room (now ws) s (now tos) (now others) ⌝ }
     ensures { λ f. ⌜ Rules-at (program (now (ws .entry)) s) (tables (now (ws .entry)) s) i (now (tos .exit))
         (now (others .exit)) (f .first) (f .end) ⌝ }
     ensures { λ _. ⌜ Kept-rules (program (now (ws .entry)) s) (tables (now (ws .entry)) s) (s .states) kept

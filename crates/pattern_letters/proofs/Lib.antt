@@ -1,2 +1,3 @@
 pub mod Entries
-pub mod Letters
+pub mod Lessening
+pub mod Fitting

@@ -5,7 +5,7 @@ use model::TAG_FROM;
 use model::TAG_TO;
 use onward::guess_class;
 use state_rules::state_rules;
-use system_letters::counter_count;
+use system_letters::letter_count;
 use system_totals::Totals;
 use system_totals::state_head;
 use system_totals::third_tag;
@@ -99,7 +99,7 @@ fn write_rules(
     flows: &[u64],
     names: &[u64],
     letter_at: &[u16],
-    letters: &[u16],
+    letters: &[u64],
     branches: &[u16],
     at: &mut [u16],
     tos: &mut [u16],
@@ -107,7 +107,7 @@ fn write_rules(
 ) -> usize
     requires { ⌜ Rule-tables (now ws) s (now afters) (now «flow_at») w (now flows) (now names) (now «letter_at»)
         (now letters) (now branches) ⌝ }
-    requires { ⌜ Rule-room s (now tos) (now others) ⌝ }
+    requires { ⌜ Rule-room (now ws) s (now tos) (now others) ⌝ }
     requires { ⌜ Room (now out) n 0 (lines (rules (program (now ws) s) (tables (now ws) s))) ⌝ }
     ensures { λ e. ⌜ Put (now (out .entry)) (now (out .exit)) n 0 e
         (lines (rules (program (now (ws .entry)) s) (tables (now (ws .entry)) s))) ⌝ }
@@ -164,7 +164,7 @@ pub fn write_listing(
     flows: &[u64],
     names: &[u64],
     letter_at: &[u16],
-    letters: &[u16],
+    letters: &[u64],
     branches: &[u16],
     at: &mut [u16],
     tos: &mut [u16],
@@ -172,7 +172,7 @@ pub fn write_listing(
 )
     requires { ⌜ Rule-tables (now ws) s (now afters) (now «flow_at») w (now flows) (now names) (now «letter_at»)
         (now letters) (now branches) ⌝ }
-    requires { ⌜ Rule-room s (now tos) (now others) ⌝ }
+    requires { ⌜ Rule-room (now ws) s (now tos) (now others) ⌝ }
     requires { ⌜ n ≡ counted (rules (program (now ws) s) (tables (now ws) s)) ⌝ }
     requires { ⌜ (n .rules < 4294967296) × (n .rows < 4294967296) ⌝ }
     requires { ⌜ length (system-words (program (now ws) s) (tables (now ws) s)) ≤ length (now out) ⌝ }
@@ -180,7 +180,7 @@ pub fn write_listing(
         written (system-words (program (now (ws .entry)) s) (tables (now (ws .entry)) s)) (now (out .entry)) ⌝ }
 {
     let rows = n.rows;
-    let count = counter_count(ws, s, letter_at, letters) - s.states;
+    let count = letter_count(ws, s, letter_at);
     write_sizes(out, s.states, count, n.rules, rows);
     write_rules(
         out,

@@ -23,7 +23,7 @@ pub fn space_verdict(
     flows: &[u64],
     names: &[u64],
     letter_at: &[u16],
-    letters: &[u16],
+    letters: &[u64],
     branches: &[u16],
     n: Totals,
     at: &mut [u16],
@@ -33,7 +33,7 @@ pub fn space_verdict(
 ) -> Verdict
     requires { ⌜ Rule-tables (now ws) s (now afters) (now «flow_at») w (now flows) (now names) (now «letter_at»)
         (now letters) (now branches) ⌝ }
-    requires { ⌜ Rule-room s (now tos) (now others) ⌝ }
+    requires { ⌜ Rule-room (now ws) s (now tos) (now others) ⌝ }
     requires { ⌜ Totalled (program (now ws) s) (tables (now ws) s) n ⌝ }
     ensures { λ v. ⌜ v ≡
         answer (space-check (program (now (ws .entry)) s) (tables (now (ws .entry)) s) (length (now (lent .entry)))) ⌝ }
