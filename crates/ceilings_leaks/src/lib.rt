@@ -76,7 +76,7 @@ pub fn fill_groups(
     flows: &[u64],
     names: &[u64],
     letter_at: &[u16],
-    letters: &[u16],
+    letters: &[u64],
     branches: &[u16],
     n: usize,
     limits: &[u16],
@@ -93,7 +93,7 @@ pub fn fill_groups(
     requires { ⌜ Rule-tables (now ws) s (now afters) (now «flow_at») w (now flows) (now names)
         (now «letter_at») (now letters) (now branches) ⌝ }
     requires { ⌜ Ceilings-ready (now ws) s n (now limits) (now starts) (now holders) (now unbounded) ⌝ }
-    requires { ⌜ Room-from s spare (now tos) (now others) × (length (now tos) ≤ 65536) ⌝ }
+    requires { ⌜ Room-from (now ws) s spare (now tos) (now others) × (length (now tos) ≤ 65536) ⌝ }
     requires { ⌜ s .states * 8 ≤ length (now group) ⌝ }
     ensures { λ _. ⌜ Groups-upto (program (now (ws .entry)) s) (tables (now (ws .entry)) s) (now (limits .entry))
         (s .ceilings) n (s .states) (now (group .exit)) ⌝ }
@@ -160,7 +160,7 @@ pub fn leak_check(
     flows: &[u64],
     names: &[u64],
     letter_at: &[u16],
-    letters: &[u16],
+    letters: &[u64],
     branches: &[u16],
     n: usize,
     limits: &[u16],
@@ -184,7 +184,7 @@ pub fn leak_check(
     requires { ⌜ Kept-rules (program (now ws) s) (tables (now ws) s) (s .states) kept (now «first_at») (now tos)
         (now others) ⌝ }
     requires { ⌜ s .states * 8 ≤ length (now group) ⌝ }
-    requires { ⌜ Rooms s n (now tos) (now others) (now short) (now more) ⌝ }
+    requires { ⌜ Rooms (now ws) s n (now tos) (now others) (now short) (now more) ⌝ }
     ensures { λ r. ⌜ r ≡
         answer (leak-check (now (ws .entry)) s (ceilings-of (now (ws .entry)) s n)
         (rules (program (now (ws .entry)) s) (tables (now (ws .entry)) s))) ⌝ }

@@ -2,20 +2,16 @@
 use crate::system::system_verdict;
 use answers::is_safe;
 use bads::bad_check;
-use ceilings_form::entries::ceiling_check;
 use closure_sized::open_verdict;
 use evidence::entries::entry_check;
 use grammar::row_check;
 use layout::ends::fill_ends;
-use mailed::counters_verdict;
 use model::Sizes;
 use model::Verdict;
 use rooms::row_words16;
 use rooms::words16_512;
 use scopes::names::name_check;
 use scopes::scope::scope_check;
-use system_letters::counter_count;
-use system_letters::fill_letters;
 use values::width;
 ghost use mathlib.Core.Path.{_≡_};
 ghost use lib.ListN.{length};
@@ -62,31 +58,6 @@ pub fn words_verdict(ws: &[u16], s: Sizes, flow: &mut [u64], lent: &mut [u32]) -
     if !is_safe(open) {
         return open;
     }
-    let mut letter_at = row_words16();
-    let mut letters = words16_512();
-    fill_letters(ws, s, &mut letter_at, &mut letters);
-    // 22, then 9
-    let counters = counters_verdict(ws, s, &letter_at, &letters);
-    if !is_safe(counters) {
-        return counters;
-    }
-    let n = counter_count(ws, s, &letter_at, &letters);
-    let form = ceiling_check(ws, s, n);
-    if !is_safe(form) {
-        return form;
-    }
     let w = width(s);
-    system_verdict(
-        ws,
-        s,
-        &afters,
-        &starts,
-        w,
-        flow,
-        &letter_at,
-        &letters,
-        &branches,
-        n,
-        lent,
-    )
+    system_verdict(ws, s, &afters, &starts, w, flow, &branches, lent)
 }

@@ -1,46 +1,81 @@
-// Refusals 11 to 14, over room for the letters of names by need; after none the listing is written.
+// Refusals 22 and 9 to 14: the letters that mail allows are counted and listed, and those below stand on them; after
+// none the listing is written. The room for names and sets of letters is by need.
 use crate::leaks::ceilings_verdict;
-use crate::listing::listing_verdict;
 use answers::is_safe;
+use ceilings_form::entries::ceiling_check;
+use letter_codes::fill_codes;
+use letter_sets::fill_letters;
+use mailed::counters_verdict;
+use model::MAX_ARITY;
+use model::MAX_COUNTERS;
+use model::OTHER_HEADS;
 use model::Sizes;
 use model::Verdict;
+use rooms::letter_codes;
+use rooms::letter_sets;
+use rooms::row_words16;
 use rooms::words64_130;
+use rooms::words64_256;
 use rooms::words64_1024;
+use rooms::words64_1285;
 use system_letters::fill_names;
+use system_letters::letter_width;
 ghost use mathlib.Core.Path.{_≡_};
 ghost use Prim.Native.Nat.{_*_, _≤_};
 ghost use lib.ListN.{length};
+ghost use Rattle.model.specs.Limits.{maxCounters};
+ghost use Rattle.model.specs.Rows.{program};
+ghost use Rattle.model.specs.Tables.{tables};
 ghost use Rattle.model.specs.Verify.{answer};
 ghost use Rattle.lists.specs.Ready.{Ready};
+ghost use Rattle.values.specs.Values.{Empty};
+ghost use Rattle.system_letters.specs.Letters.{Name-heads, Class-letters, letter-width, allowed-set};
+ghost use Rattle.letter_codes.specs.Codes.{Coded};
+ghost use Rattle.letter_sets.specs.Sets.{Letter-room};
 ghost use Rattle.system_space.specs.Space.{words-after};
-ghost use Rattle.checks.specs.Order.{from-11};
-ghost use Rattle.checks.specs.Scratch.{Numbered, Unnamed};
+ghost use Rattle.checks.specs.Order.{from-22, from-11};
+ghost use Rattle.checks.specs.Scratch.{Closed-tables, Numbered};
 
-// Over a lent set of letters for each name.
-fn named_verdict(
+// The digits of a letter: its number, and the head of each argument.
+const DIGITS: usize = MAX_ARITY + 1;
+
+// How many sets of letters there are: one for each digit and head, and one for each mail entry.
+fn set_count(ws: &[u16], s: Sizes) -> usize
+    requires { ⌜ Ready (now ws) s ⌝ }
+    ensures { λ n. ⌜ n ≡ allowed-set (program (now (ws .entry)) s) (s .mails) ⌝ }
+{
+    let heads = s.constructors + OTHER_HEADS;
+    DIGITS * heads + s.mails
+}
+
+// Refusals 11 to 14 over lent sets of letters.
+fn lettered_verdict(
     ws: &[u16],
     s: Sizes,
     afters: &[u16],
     flow_at: &[u16],
     w: usize,
     flows: &[u64],
-    names: &mut [u64],
+    names: &[u64],
     letter_at: &[u16],
-    letters: &[u16],
+    codes: &[u64],
     branches: &[u16],
     n: usize,
+    letters: &mut [u64],
     lent: &mut [u32],
 ) -> Verdict
-    requires { ⌜ Ready (now ws) s ⌝ }
-    requires { ⌜ Unnamed (now ws) s (now afters) (now «flow_at») w (now flows) (now «letter_at»)
-        (now letters) (now branches) ⌝ }
-    requires { ⌜ Numbered (now ws) s n ⌝ }
-    requires { ⌜ s .names * 2 ≤ length (now names) ⌝ }
+    requires { ⌜ Closed-tables (now ws) s (now afters) (now «flow_at») w (now flows) (now branches) ⌝ }
+    requires { ⌜ Name-heads (program (now ws) s) (tables (now ws) s) (now names) ⌝ }
+    requires { ⌜ Class-letters (program (now ws) s) (tables (now ws) s) (now «letter_at») ⌝ }
+    requires { ⌜ Coded (program (now ws) s) (tables (now ws) s) (now codes) ⌝ }
+    requires { ⌜ Numbered (now ws) s n × (n ≤ maxCounters) ⌝ }
+    requires { ⌜ Empty (letter-width (program (now ws) s) (tables (now ws) s)) (now letters) ⌝ }
+    requires { ⌜ Letter-room (program (now ws) s) (tables (now ws) s) (now letters) ⌝ }
     ensures { λ v. ⌜ v ≡ answer (from-11 (now (ws .entry)) s (length (now (lent .entry)))) ⌝ }
     ensures { λ v. ⌜ now (lent .exit) ≡ words-after v (now (ws .entry)) s (now (lent .entry)) ⌝ }
 {
-    fill_names(ws, s, names);
-    let leaks = ceilings_verdict(
+    fill_letters(ws, s, names, letter_at, codes, letters);
+    ceilings_verdict(
         32,
         ws,
         s,
@@ -53,13 +88,37 @@ fn named_verdict(
         letters,
         branches,
         n,
-    );
-    let held = leaks.verdict;
-    if !is_safe(held) {
-        return held;
-    }
-    let totals = leaks.totals;
-    listing_verdict(
+        lent,
+    )
+}
+
+// Refusals 11 to 14 of few letters.
+fn few_letters(
+    ws: &[u16],
+    s: Sizes,
+    afters: &[u16],
+    flow_at: &[u16],
+    w: usize,
+    flows: &[u64],
+    names: &[u64],
+    letter_at: &[u16],
+    codes: &[u64],
+    branches: &[u16],
+    n: usize,
+    lent: &mut [u32],
+) -> Verdict
+    requires { ⌜ Closed-tables (now ws) s (now afters) (now «flow_at») w (now flows) (now branches) ⌝ }
+    requires { ⌜ Name-heads (program (now ws) s) (tables (now ws) s) (now names) ⌝ }
+    requires { ⌜ Class-letters (program (now ws) s) (tables (now ws) s) (now «letter_at») ⌝ }
+    requires { ⌜ Coded (program (now ws) s) (tables (now ws) s) (now codes) ⌝ }
+    requires { ⌜ Numbered (now ws) s n × (n ≤ maxCounters) ⌝ }
+    requires { ⌜ allowed-set (program (now ws) s) (s .mails) * letter-width (program (now ws) s) (tables (now ws) s)
+        ≤ 256 ⌝ }
+    ensures { λ v. ⌜ v ≡ answer (from-11 (now (ws .entry)) s (length (now (lent .entry)))) ⌝ }
+    ensures { λ v. ⌜ now (lent .exit) ≡ words-after v (now (ws .entry)) s (now (lent .entry)) ⌝ }
+{
+    let mut letters = words64_256();
+    lettered_verdict(
         ws,
         s,
         afters,
@@ -68,14 +127,218 @@ fn named_verdict(
         flows,
         names,
         letter_at,
-        letters,
+        codes,
         branches,
-        totals,
+        n,
+        &mut letters,
         lent,
     )
 }
 
-// Of few names.
+// Refusals 11 to 14 of more.
+fn more_letters(
+    ws: &[u16],
+    s: Sizes,
+    afters: &[u16],
+    flow_at: &[u16],
+    w: usize,
+    flows: &[u64],
+    names: &[u64],
+    letter_at: &[u16],
+    codes: &[u64],
+    branches: &[u16],
+    n: usize,
+    lent: &mut [u32],
+) -> Verdict
+    requires { ⌜ Closed-tables (now ws) s (now afters) (now «flow_at») w (now flows) (now branches) ⌝ }
+    requires { ⌜ Name-heads (program (now ws) s) (tables (now ws) s) (now names) ⌝ }
+    requires { ⌜ Class-letters (program (now ws) s) (tables (now ws) s) (now «letter_at») ⌝ }
+    requires { ⌜ Coded (program (now ws) s) (tables (now ws) s) (now codes) ⌝ }
+    requires { ⌜ Numbered (now ws) s n × (n ≤ maxCounters) ⌝ }
+    requires { ⌜ allowed-set (program (now ws) s) (s .mails) * letter-width (program (now ws) s) (tables (now ws) s)
+        ≤ 1285 ⌝ }
+    ensures { λ v. ⌜ v ≡ answer (from-11 (now (ws .entry)) s (length (now (lent .entry)))) ⌝ }
+    ensures { λ v. ⌜ now (lent .exit) ≡ words-after v (now (ws .entry)) s (now (lent .entry)) ⌝ }
+{
+    let mut letters = words64_1285();
+    lettered_verdict(
+        ws,
+        s,
+        afters,
+        flow_at,
+        w,
+        flows,
+        names,
+        letter_at,
+        codes,
+        branches,
+        n,
+        &mut letters,
+        lent,
+    )
+}
+
+// Refusals 11 to 14 of any number.
+fn all_letters(
+    ws: &[u16],
+    s: Sizes,
+    afters: &[u16],
+    flow_at: &[u16],
+    w: usize,
+    flows: &[u64],
+    names: &[u64],
+    letter_at: &[u16],
+    codes: &[u64],
+    branches: &[u16],
+    n: usize,
+    lent: &mut [u32],
+) -> Verdict
+    requires { ⌜ Closed-tables (now ws) s (now afters) (now «flow_at») w (now flows) (now branches) ⌝ }
+    requires { ⌜ Name-heads (program (now ws) s) (tables (now ws) s) (now names) ⌝ }
+    requires { ⌜ Class-letters (program (now ws) s) (tables (now ws) s) (now «letter_at») ⌝ }
+    requires { ⌜ Coded (program (now ws) s) (tables (now ws) s) (now codes) ⌝ }
+    requires { ⌜ Numbered (now ws) s n × (n ≤ maxCounters) ⌝ }
+    ensures { λ v. ⌜ v ≡ answer (from-11 (now (ws .entry)) s (length (now (lent .entry)))) ⌝ }
+    ensures { λ v. ⌜ now (lent .exit) ≡ words-after v (now (ws .entry)) s (now (lent .entry)) ⌝ }
+{
+    let mut letters = letter_sets();
+    lettered_verdict(
+        ws,
+        s,
+        afters,
+        flow_at,
+        w,
+        flows,
+        names,
+        letter_at,
+        codes,
+        branches,
+        n,
+        &mut letters,
+        lent,
+    )
+}
+
+// Refusals 11 to 14 over the least room for sets of letters that fits.
+fn sets_verdict(
+    ws: &[u16],
+    s: Sizes,
+    afters: &[u16],
+    flow_at: &[u16],
+    w: usize,
+    flows: &[u64],
+    names: &[u64],
+    letter_at: &[u16],
+    codes: &[u64],
+    branches: &[u16],
+    n: usize,
+    lent: &mut [u32],
+) -> Verdict
+    requires { ⌜ Closed-tables (now ws) s (now afters) (now «flow_at») w (now flows) (now branches) ⌝ }
+    requires { ⌜ Name-heads (program (now ws) s) (tables (now ws) s) (now names) ⌝ }
+    requires { ⌜ Class-letters (program (now ws) s) (tables (now ws) s) (now «letter_at») ⌝ }
+    requires { ⌜ Coded (program (now ws) s) (tables (now ws) s) (now codes) ⌝ }
+    requires { ⌜ Numbered (now ws) s n × (n ≤ maxCounters) ⌝ }
+    ensures { λ v. ⌜ v ≡ answer (from-11 (now (ws .entry)) s (length (now (lent .entry)))) ⌝ }
+    ensures { λ v. ⌜ now (lent .exit) ≡ words-after v (now (ws .entry)) s (now (lent .entry)) ⌝ }
+{
+    let words = set_count(ws, s) * letter_width(ws, s, letter_at);
+    if words <= 256 {
+        return few_letters(
+            ws,
+            s,
+            afters,
+            flow_at,
+            w,
+            flows,
+            names,
+            letter_at,
+            codes,
+            branches,
+            n,
+            lent,
+        );
+    }
+    if words <= 1285 {
+        return more_letters(
+            ws,
+            s,
+            afters,
+            flow_at,
+            w,
+            flows,
+            names,
+            letter_at,
+            codes,
+            branches,
+            n,
+            lent,
+        );
+    }
+    all_letters(
+        ws,
+        s,
+        afters,
+        flow_at,
+        w,
+        flows,
+        names,
+        letter_at,
+        codes,
+        branches,
+        n,
+        lent,
+    )
+}
+
+// Refusals 22 and 9 to 14 over a lent set of heads for each name.
+fn named_verdict(
+    ws: &[u16],
+    s: Sizes,
+    afters: &[u16],
+    flow_at: &[u16],
+    w: usize,
+    flows: &[u64],
+    names: &mut [u64],
+    branches: &[u16],
+    lent: &mut [u32],
+) -> Verdict
+    requires { ⌜ Closed-tables (now ws) s (now afters) (now «flow_at») w (now flows) (now branches) ⌝ }
+    requires { ⌜ s .names * 2 ≤ length (now names) ⌝ }
+    ensures { λ v. ⌜ v ≡ answer (from-22 (now (ws .entry)) s (length (now (lent .entry)))) ⌝ }
+    ensures { λ v. ⌜ now (lent .exit) ≡ words-after v (now (ws .entry)) s (now (lent .entry)) ⌝ }
+{
+    fill_names(ws, s, names);
+    let mut letter_at = row_words16();
+    let mut codes = letter_codes();
+    let l = fill_codes(ws, s, names, MAX_COUNTERS, &mut letter_at, &mut codes);
+    // 22, then 9
+    let counters = counters_verdict(ws, s, l);
+    if !is_safe(counters) {
+        return counters;
+    }
+    let n = s.states + l;
+    let form = ceiling_check(ws, s, n);
+    if !is_safe(form) {
+        return form;
+    }
+    sets_verdict(
+        ws,
+        s,
+        afters,
+        flow_at,
+        w,
+        flows,
+        names,
+        &letter_at,
+        &codes,
+        branches,
+        n,
+        lent,
+    )
+}
+
+// Refusals 22 and 9 to 14 of few names.
 fn few_names(
     ws: &[u16],
     s: Sizes,
@@ -83,38 +346,19 @@ fn few_names(
     flow_at: &[u16],
     w: usize,
     flows: &[u64],
-    letter_at: &[u16],
-    letters: &[u16],
     branches: &[u16],
-    n: usize,
     lent: &mut [u32],
 ) -> Verdict
-    requires { ⌜ Ready (now ws) s ⌝ }
-    requires { ⌜ Unnamed (now ws) s (now afters) (now «flow_at») w (now flows) (now «letter_at»)
-        (now letters) (now branches) ⌝ }
-    requires { ⌜ Numbered (now ws) s n ⌝ }
+    requires { ⌜ Closed-tables (now ws) s (now afters) (now «flow_at») w (now flows) (now branches) ⌝ }
     requires { ⌜ s .names ≤ 64 ⌝ }
-    ensures { λ v. ⌜ v ≡ answer (from-11 (now (ws .entry)) s (length (now (lent .entry)))) ⌝ }
+    ensures { λ v. ⌜ v ≡ answer (from-22 (now (ws .entry)) s (length (now (lent .entry)))) ⌝ }
     ensures { λ v. ⌜ now (lent .exit) ≡ words-after v (now (ws .entry)) s (now (lent .entry)) ⌝ }
 {
     let mut names = words64_130();
-    named_verdict(
-        ws,
-        s,
-        afters,
-        flow_at,
-        w,
-        flows,
-        &mut names,
-        letter_at,
-        letters,
-        branches,
-        n,
-        lent,
-    )
+    named_verdict(ws, s, afters, flow_at, w, flows, &mut names, branches, lent)
 }
 
-// Of any number.
+// Refusals 22 and 9 to 14 of any number of names.
 fn all_names(
     ws: &[u16],
     s: Sizes,
@@ -122,37 +366,18 @@ fn all_names(
     flow_at: &[u16],
     w: usize,
     flows: &[u64],
-    letter_at: &[u16],
-    letters: &[u16],
     branches: &[u16],
-    n: usize,
     lent: &mut [u32],
 ) -> Verdict
-    requires { ⌜ Ready (now ws) s ⌝ }
-    requires { ⌜ Unnamed (now ws) s (now afters) (now «flow_at») w (now flows) (now «letter_at»)
-        (now letters) (now branches) ⌝ }
-    requires { ⌜ Numbered (now ws) s n ⌝ }
-    ensures { λ v. ⌜ v ≡ answer (from-11 (now (ws .entry)) s (length (now (lent .entry)))) ⌝ }
+    requires { ⌜ Closed-tables (now ws) s (now afters) (now «flow_at») w (now flows) (now branches) ⌝ }
+    ensures { λ v. ⌜ v ≡ answer (from-22 (now (ws .entry)) s (length (now (lent .entry)))) ⌝ }
     ensures { λ v. ⌜ now (lent .exit) ≡ words-after v (now (ws .entry)) s (now (lent .entry)) ⌝ }
 {
     let mut names = words64_1024();
-    named_verdict(
-        ws,
-        s,
-        afters,
-        flow_at,
-        w,
-        flows,
-        &mut names,
-        letter_at,
-        letters,
-        branches,
-        n,
-        lent,
-    )
+    named_verdict(ws, s, afters, flow_at, w, flows, &mut names, branches, lent)
 }
 
-// Refusals 11 to 14 of a message of n counters.
+// Refusals 22 and 9 to 14 over the least room for heads of names that fits.
 pub fn system_verdict(
     ws: &[u16],
     s: Sizes,
@@ -160,45 +385,15 @@ pub fn system_verdict(
     flow_at: &[u16],
     w: usize,
     flows: &[u64],
-    letter_at: &[u16],
-    letters: &[u16],
     branches: &[u16],
-    n: usize,
     lent: &mut [u32],
 ) -> Verdict
-    requires { ⌜ Ready (now ws) s ⌝ }
-    requires { ⌜ Unnamed (now ws) s (now afters) (now «flow_at») w (now flows) (now «letter_at»)
-        (now letters) (now branches) ⌝ }
-    requires { ⌜ Numbered (now ws) s n ⌝ }
-    ensures { λ v. ⌜ v ≡ answer (from-11 (now (ws .entry)) s (length (now (lent .entry)))) ⌝ }
+    requires { ⌜ Closed-tables (now ws) s (now afters) (now «flow_at») w (now flows) (now branches) ⌝ }
+    ensures { λ v. ⌜ v ≡ answer (from-22 (now (ws .entry)) s (length (now (lent .entry)))) ⌝ }
     ensures { λ v. ⌜ now (lent .exit) ≡ words-after v (now (ws .entry)) s (now (lent .entry)) ⌝ }
 {
     if s.names <= 64 {
-        return few_names(
-            ws,
-            s,
-            afters,
-            flow_at,
-            w,
-            flows,
-            letter_at,
-            letters,
-            branches,
-            n,
-            lent,
-        );
+        return few_names(ws, s, afters, flow_at, w, flows, branches, lent);
     }
-    all_names(
-        ws,
-        s,
-        afters,
-        flow_at,
-        w,
-        flows,
-        letter_at,
-        letters,
-        branches,
-        n,
-        lent,
-    )
+    all_names(ws, s, afters, flow_at, w, flows, branches, lent)
 }

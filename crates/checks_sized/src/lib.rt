@@ -1,12 +1,13 @@
-// The values of names in three sizes by the rows and names, so that a small message does not pay for a large one.
+// The values of names and patterns in three sizes by the rows and names, so that a small message does not pay for a
+// large one.
 pub mod verdict;
 
 use checks::order::words_verdict;
 use model::Sizes;
 use model::Verdict;
-use rooms::name_sets;
-use rooms::words64_130;
-use rooms::words64_1285;
+use rooms::flow_sets;
+use rooms::words64_256;
+use rooms::words64_2560;
 ghost use mathlib.Core.Path.{_≡_};
 ghost use Prim.Native.Nat.{_≤_};
 ghost use lib.ListN.{length};
@@ -23,7 +24,7 @@ fn small_flow(ws: &[u16], s: Sizes, lent: &mut [u32]) -> Verdict
     ensures { λ v. ⌜ v ≡ answer (message-check present (taken (now (ws .entry)) s) (length (now (lent .entry)))) ⌝ }
     ensures { λ v. ⌜ now (lent .exit) ≡ words-after v (now (ws .entry)) s (now (lent .entry)) ⌝ }
 {
-    let mut flow = words64_130();
+    let mut flow = words64_256();
     words_verdict(ws, s, &mut flow, lent)
 }
 
@@ -34,7 +35,7 @@ fn middle_flow(ws: &[u16], s: Sizes, lent: &mut [u32]) -> Verdict
     ensures { λ v. ⌜ v ≡ answer (message-check present (taken (now (ws .entry)) s) (length (now (lent .entry)))) ⌝ }
     ensures { λ v. ⌜ now (lent .exit) ≡ words-after v (now (ws .entry)) s (now (lent .entry)) ⌝ }
 {
-    let mut flow = words64_1285();
+    let mut flow = words64_2560();
     words_verdict(ws, s, &mut flow, lent)
 }
 
@@ -44,7 +45,7 @@ fn large_flow(ws: &[u16], s: Sizes, lent: &mut [u32]) -> Verdict
     ensures { λ v. ⌜ v ≡ answer (message-check present (taken (now (ws .entry)) s) (length (now (lent .entry)))) ⌝ }
     ensures { λ v. ⌜ now (lent .exit) ≡ words-after v (now (ws .entry)) s (now (lent .entry)) ⌝ }
 {
-    let mut flow = name_sets();
+    let mut flow = flow_sets();
     words_verdict(ws, s, &mut flow, lent)
 }
 

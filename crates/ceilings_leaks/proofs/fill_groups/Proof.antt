@@ -42,7 +42,7 @@ rules-from-requires : tie.Need-rules-from-requires Inv-loop μ-loop
 rules-from-requires c κs =
     let h = c .before .before .before .before .before .before .before .before .loop .inv in
     let room = c .before .before .before .before .before .before .before .before .before .before .before .before .before .before .before .before .before .before .before .before .before .before .before .before .before .before .before .before .before .before .before .pre .1 .1 .0 in
-    (c .before .before .before .before .before .before .before .before .before .before .before .before .before .before .before .before .before .before .before .before .before .before .before .before .before .before .before .before .before .before .before .pre .0, ((c .before .before .before .before .before .before .before .loop-test .taken, omega (arith, h .6, spare-low _ _ _ _ (room .0) (room .1))), room-later _ _ _ _ (room .0) _ _ _ (h .6) (h .2 .tos-long) (h .2 .others-long)))
+    (c .before .before .before .before .before .before .before .before .before .before .before .before .before .before .before .before .before .before .before .before .before .before .before .before .before .before .before .before .before .before .before .pre .0, ((c .before .before .before .before .before .before .before .loop-test .taken, omega (arith, h .6, spare-low _ _ _ _ _ (room .0) (room .1))), room-later _ _ _ _ _ (room .0) _ _ _ (h .6) (h .2 .tos-long) (h .2 .others-long)))
 
 state-head-requires : tie.Need-state-head-requires Inv-loop μ-loop
 state-head-requires c κs = c .before .before .before .before .before .before .before .before .before .before .before .before .before .before .before .before .before .before .before .before .before .before .before .before .before .before .before .before .before .before .before .before .before .before .before .before .pre .0 .ready
@@ -67,7 +67,7 @@ effect-kind-requires c κs = search needs
 begins : (c : tie.After-rules-from Inv-loop μ-loop) → (c .before .before .before .before .before .before .before .before .before .loop .kept .used ≤ length (c .before .before .before .before .before .before .before .before .before .loop .tos)) × (c .before .before .before .before .before .before .before .before .before .loop .kept .used ≤ length (c .before .before .before .before .before .before .before .before .before .loop .others))
 begins c =
     let h = c .before .before .before .before .before .before .before .before .before .loop .inv in
-    starts-low _ _ (c .before .before .before .before .before .before .before .before .before .loop .tos) (c .before .before .before .before .before .before .before .before .before .loop .others) (room-later _ _ _ _ (c .before .before .before .before .before .before .before .before .before .before .before .before .before .before .before .before .before .before .before .before .before .before .before .before .before .before .before .before .before .before .before .before .pre .1 .1 .0 .0) _ _ _ (h .6) (h .2 .tos-long) (h .2 .others-long))
+    starts-low _ _ _ (c .before .before .before .before .before .before .before .before .before .loop .tos) (c .before .before .before .before .before .before .before .before .before .loop .others) (room-later _ _ _ _ _ (c .before .before .before .before .before .before .before .before .before .before .before .before .before .before .before .before .before .before .before .before .before .before .before .before .before .before .before .before .before .before .before .before .pre .1 .1 .0 .0) _ _ _ (h .6) (h .2 .tos-long) (h .2 .others-long))
 
 mul-put-group : tie.Need-mul-put-group Inv-loop μ-loop
 mul-put-group c = record { fits = omega (arith, begins (c .before .before .before .before .before .before .before) .0, c .before .before .before .before .before .before .before .before .before .before .before .before .before .before .before .before .loop .inv .2 .tos-long, c .before .before .before .before .before .before .before .before .before .before .before .before .before .before .before .before .before .before .before .before .before .before .before .before .before .before .before .before .before .before .before .before .before .before .before .before .before .before .before .pre .1 .1 .0 .1) }
@@ -102,7 +102,7 @@ keep-requires : tie.Need-keep-requires Inv-loop μ-loop
 keep-requires c κs =
     let h = c .before .before .before .before .before .before .before .before .before .before .before .before .before .before .before .before .before .before .before .before .before .before .before .before .before .loop .inv in
     let room = c .before .before .before .before .before .before .before .before .before .before .before .before .before .before .before .before .before .before .before .before .before .before .before .before .before .before .before .before .before .before .before .before .before .before .before .before .before .before .before .before .before .before .before .before .before .before .before .before .pre .1 .1 .0 in
-    ((h .6, spare-low _ _ _ _ (room .0) (room .1)), ((λ all. omega (arith, h .7 all, c .before .before .before .before .before .before .before .before .before .before .before .before .before .before .before .before .before .before .before .before .before .before .before .before .loop-test .taken)), (omega (arith, c .before .before .before .before .before .before .before .before .before .before .before .before .before .before .before .before .before .before .before .before .before .before .before .before .loop-test .taken, c .before .before .before .before .before .before .before .before .before .before .before .before .before .before .before .before .before .before .before .before .before .before .before .before .before .before .before .before .before .before .before .before .before .before .before .before .before .before .before .before .before .before .before .before .before .before .before .before .pre .0 .ready .limits .states), few (c .before .before .before .before .before .before .before .before .before .before .before .before .before .before .before .before))))
+    ((h .6, spare-low _ _ _ _ _ (room .0) (room .1)), ((λ all. omega (arith, h .7 all, c .before .before .before .before .before .before .before .before .before .before .before .before .before .before .before .before .before .before .before .before .before .before .before .before .loop-test .taken)), (omega (arith, c .before .before .before .before .before .before .before .before .before .before .before .before .before .before .before .before .before .before .before .before .before .before .before .before .loop-test .taken, c .before .before .before .before .before .before .before .before .before .before .before .before .before .before .before .before .before .before .before .before .before .before .before .before .before .before .before .before .before .before .before .before .before .before .before .before .before .before .before .before .before .before .before .before .before .before .before .before .pre .0 .ready .limits .states), few (c .before .before .before .before .before .before .before .before .before .before .before .before .before .before .before .before))))
 
 add-i : tie.Need-add-i Inv-loop μ-loop
 add-i c = record { fits = omega (arith, c .before .before .before .before .before .before .before .before .before .before .before .before .before .before .before .before .before .before .before .before .before .before .before .before .before .before .before .loop-test .taken, c .before .before .before .before .before .before .before .before .before .before .before .before .before .before .before .before .before .before .before .before .before .before .before .before .before .before .before .before .before .before .before .before .before .before .before .before .before .before .before .before .before .before .before .before .before .before .before .before .before .before .before .pre .0 .ready .limits .states) }

@@ -22,7 +22,8 @@ use Rattle.ceilings.proofs.Begun.{begun, room-all, row-at}
 use Rattle.ceilings_covers.specs.Covers.{named, passes}
 use Rattle.ceilings_covers.proofs.Covering.{candidate-covers, covers-not}
 use Rattle.ceilings_groups.proofs.Settling.{settles}
-use Rattle.ceilings_leaks.proofs.Leaking.{counted-at, leaks, by-state, by-step, step-at, Walk, Left-of, walk-start, walk-end, walk-limit, walk-settled, rules-start, rules-turn, rules-leak, rules-done, unused, covered, led-out, left-start, left-low, left-surely, left-next, left-covers, left-none, ceiling-turn, states-few, step-shape, leak-safe, leak-refused-at, state-none, beside-at, named-next, first-low, whole-of, rooms-of}
+use Rattle.system_totals.proofs.Walk.{room-kept}
+use Rattle.ceilings_leaks.proofs.Leaking.{counted-at, leaks, by-state, by-step, step-at, Walk, Left-of, walk-start, walk-end, walk-limit, walk-settled, rules-start, rules-turn, rules-leak, rules-done, unused, covered, led-out, left-start, left-low, left-surely, left-next, left-covers, left-none, ceiling-turn, states-few, step-shape, leak-safe, leak-refused-at, state-none, beside-at, named-next, first-low, whole-of}
 use Rattle.ceilings_leaks.proofs.leak_check.Statement.{statement}
 use Rattle.ceilings_leaks.proofs.leak_check.Tie as tie
 
@@ -130,7 +131,7 @@ rules-again-requires c κs =
     let p = c .before .before .before .before .before .before .before .before .before .before .before .before .before .before .before .before .before .before .before .before .before .before .before .before .before .before .before .before .before .before .before .before .before .before .before .before .before .before .before .before .pre in
     let h = c .before .before .before .before .before .before .before .before .before .before .states .inv in
     let l = c .before .before .before .before .before .before .before .before .before .before .before .before .before .before .before .before .before .before .before .before .ceilings .inv in
-    (p .0, (h .4, (c .before .before .before .before .before .before .before .if1 .left, rooms-of _ _ _ _ _ (p .1 .1 .1 .1 .1 .rules) (h .2 ∙ l .2) (h .3 ∙ l .3))))
+    (p .0, (h .4, (c .before .before .before .before .before .before .before .if1 .left, room-kept _ _ _ _ _ _ (p .1 .1 .1 .1 .1 .rules) (h .2 ∙ l .2) (h .3 ∙ l .3))))
 
 kind-at-requires : tie.Need-kind-at-requires Inv-loop μ-loop Inv-candidates μ-candidates Inv-rules μ-rules Inv-states μ-states Inv-ceilings μ-ceilings
 kind-at-requires c κs = (c .before .before .before .before .before .before .before .before .before .before .before .before .before .before .before .before .before .before .before .before .before .before .before .before .before .before .before .before .before .before .before .before .before .before .before .before .before .before .before .before .before .before .before .before .before .pre .0 .ready, c .before .before .before .before .before .before .before .before .before .before .before .before .if1 .left)
