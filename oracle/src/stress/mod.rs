@@ -6,6 +6,7 @@ pub mod flow;
 pub mod growth;
 pub mod held;
 pub mod honest;
+pub mod letters;
 pub mod long;
 pub mod rows;
 pub mod sends;
@@ -29,10 +30,16 @@ fn sample(name: &str, about: &'static str, verdict: u32, message: Result<Vec<u8>
 
 /// Messages that make each check work hard.
 pub fn hostile() -> Result<Vec<Sample>, String> {
-    Ok([rows::hostile()?, sums::hostile()?, flow::hostile()?, held::hostile()?, sends::hostile()?, long::hostile()?]
-        .into_iter()
-        .flatten()
-        .collect())
+    let kinds = [
+        rows::hostile()?,
+        sums::hostile()?,
+        flow::hostile()?,
+        held::hostile()?,
+        sends::hostile()?,
+        letters::hostile()?,
+        long::hostile()?,
+    ];
+    Ok(kinds.into_iter().flatten().collect())
 }
 
 /// Rows, flow, mail, states, ceilings and ceiling entries of a message; zeros if it is not whole.
