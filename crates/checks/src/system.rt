@@ -17,7 +17,6 @@ use rooms::row_words16;
 use rooms::words64_130;
 use rooms::words64_256;
 use rooms::words64_1024;
-use rooms::words64_1285;
 use system_letters::fill_names;
 use system_letters::letter_width;
 ghost use mathlib.Core.Path.{_≡_};
@@ -156,11 +155,11 @@ fn more_letters(
     requires { ⌜ Coded (program (now ws) s) (tables (now ws) s) (now codes) ⌝ }
     requires { ⌜ Numbered (now ws) s n × (n ≤ maxCounters) ⌝ }
     requires { ⌜ allowed-set (program (now ws) s) (s .mails) * letter-width (program (now ws) s) (tables (now ws) s)
-        ≤ 1285 ⌝ }
+        ≤ 1024 ⌝ }
     ensures { λ v. ⌜ v ≡ answer (from-11 (now (ws .entry)) s (length (now (lent .entry)))) ⌝ }
     ensures { λ v. ⌜ now (lent .exit) ≡ words-after v (now (ws .entry)) s (now (lent .entry)) ⌝ }
 {
-    let mut letters = words64_1285();
+    let mut letters = words64_1024();
     lettered_verdict(
         ws,
         s,
@@ -219,8 +218,10 @@ fn all_letters(
     )
 }
 
-// Refusals 11 to 14 over the least room for sets of letters that fits.
+// Refusals 11 to 14 over the least room for sets of letters that fits, which that for `most` words or more may be. It
+// calls itself for the next size: each size has a frame of its own (DECISIONS 46).
 fn sets_verdict(
+    most: usize,
     ws: &[u16],
     s: Sizes,
     afters: &[u16],
@@ -234,6 +235,7 @@ fn sets_verdict(
     n: usize,
     lent: &mut [u32],
 ) -> Verdict
+    requires { ⌜ 1 ≤ most ⌝ }
     requires { ⌜ Closed-tables (now ws) s (now afters) (now «flow_at») w (now flows) (now branches) ⌝ }
     requires { ⌜ Name-heads (program (now ws) s) (tables (now ws) s) (now names) ⌝ }
     requires { ⌜ Class-letters (program (now ws) s) (tables (now ws) s) (now «letter_at») ⌝ }
@@ -242,40 +244,59 @@ fn sets_verdict(
     ensures { λ v. ⌜ v ≡ answer (from-11 (now (ws .entry)) s (length (now (lent .entry)))) ⌝ }
     ensures { λ v. ⌜ now (lent .exit) ≡ words-after v (now (ws .entry)) s (now (lent .entry)) ⌝ }
 {
+    if most >= 4096 {
+        return all_letters(
+            ws,
+            s,
+            afters,
+            flow_at,
+            w,
+            flows,
+            names,
+            letter_at,
+            codes,
+            branches,
+            n,
+            lent,
+        );
+    }
     let words = set_count(ws, s) * letter_width(ws, s, letter_at);
-    if words <= 256 {
-        return few_letters(
-            ws,
-            s,
-            afters,
-            flow_at,
-            w,
-            flows,
-            names,
-            letter_at,
-            codes,
-            branches,
-            n,
-            lent,
-        );
+    if words <= most {
+        if most <= 256 {
+            return few_letters(
+                ws,
+                s,
+                afters,
+                flow_at,
+                w,
+                flows,
+                names,
+                letter_at,
+                codes,
+                branches,
+                n,
+                lent,
+            );
+        }
+        if most <= 1024 {
+            return more_letters(
+                ws,
+                s,
+                afters,
+                flow_at,
+                w,
+                flows,
+                names,
+                letter_at,
+                codes,
+                branches,
+                n,
+                lent,
+            );
+        }
     }
-    if words <= 1285 {
-        return more_letters(
-            ws,
-            s,
-            afters,
-            flow_at,
-            w,
-            flows,
-            names,
-            letter_at,
-            codes,
-            branches,
-            n,
-            lent,
-        );
-    }
-    all_letters(
+    sets_verdict(
+        4 * most,
         ws,
         s,
         afters,
@@ -323,6 +344,7 @@ fn named_verdict(
         return form;
     }
     sets_verdict(
+        256,
         ws,
         s,
         afters,

@@ -73,7 +73,7 @@ slice-aggregate-sets-verdict-2 c = search needs
 sets-verdict-requires : tie.Need-sets-verdict-requires
 sets-verdict-requires c κs =
     let all = all-counted _ _ _ (c .before .before .before .before .before .before .before .before .before .before .before .before .before .fill-codes .ensures .0) (counters-fit _ _ _ (passed _ _ _ (then-counters-refuse _ _ _) (c .before .before .before .before .before .before .before .before .before .before .counters-verdict .ensures) (c .before .before .before .before .before .before .before .before .before .is-safe .ensures) (not-false _ (c .before .before .before .before .before .before .before .before .if1 .left)))) in
-    (c .before .before .before .before .before .before .before .before .before .before .before .before .before .before .before .before .before .before .before .before .before .before .before .before .before .before .before .before .before .before .pre .0, (c .before .before .before .before .before .before .before .before .before .before .before .before .before .before .before .before .before .before .before .before .before .fill-names .ensures, (c .before .before .before .before .before .before .before .before .before .before .before .before .before .fill-codes .ensures .1 .0 (omega (arith, all .1)), (c .before .before .before .before .before .before .before .before .before .before .before .before .before .fill-codes .ensures .1 .1 (omega (arith, all .1)), (record { counted = all .0; in-form = ceiling-none _ _ _ .0 (passed _ _ _ (ceiling-refuses _ _ _) (c .before .before .before .before .before .before .ceiling-check .ensures) (c .before .before .before .before .before .is-safe2 .ensures) (not-false _ (c .before .before .before .before .if2 .left))); bads = c .before .before .before .before .before .before .before .before .before .before .before .before .before .before .before .before .before .before .before .before .before .before .before .before .before .before .before .before .before .before .pre .0 .bads }, all .1)))))
+    (omega arith, (c .before .before .before .before .before .before .before .before .before .before .before .before .before .before .before .before .before .before .before .before .before .before .before .before .before .before .before .before .before .before .pre .0, (c .before .before .before .before .before .before .before .before .before .before .before .before .before .before .before .before .before .before .before .before .before .fill-names .ensures, (c .before .before .before .before .before .before .before .before .before .before .before .before .before .fill-codes .ensures .1 .0 (omega (arith, all .1)), (c .before .before .before .before .before .before .before .before .before .before .before .before .before .fill-codes .ensures .1 .1 (omega (arith, all .1)), (record { counted = all .0; in-form = ceiling-none _ _ _ .0 (passed _ _ _ (ceiling-refuses _ _ _) (c .before .before .before .before .before .before .ceiling-check .ensures) (c .before .before .before .before .before .is-safe2 .ensures) (not-false _ (c .before .before .before .before .if2 .left))); bads = c .before .before .before .before .before .before .before .before .before .before .before .before .before .before .before .before .before .before .before .before .before .before .before .before .before .before .before .before .before .before .pre .0 .bads }, all .1))))))
 
 same-length-3 : tie.Need-same-length-3
 same-length-3 c = c .before .before .before .before .before .before .before .before .before .before .before .before .before .before .before .before .before .before .before .before .before .before .before .before .fill-names .kept .1 .1 .0
