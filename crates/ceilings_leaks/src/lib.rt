@@ -73,7 +73,7 @@ pub fn fill_groups(
     afters: &[u16],
     flow_at: &[u16],
     w: usize,
-    flows: &[u64],
+    fitting: &[u64],
     names: &[u64],
     letter_at: &[u16],
     letters: &[u64],
@@ -90,7 +90,7 @@ pub fn fill_groups(
     first_at: &mut [u16],
     group: &mut [u64],
 ) -> Gathered
-    requires { ⌜ Rule-tables (now ws) s (now afters) (now «flow_at») w (now flows) (now names)
+    requires { ⌜ Rule-tables (now ws) s (now afters) (now «flow_at») w (now fitting) (now names)
         (now «letter_at») (now letters) (now branches) ⌝ }
     requires { ⌜ Ceilings-ready (now ws) s n (now limits) (now starts) (now holders) (now unbounded) ⌝ }
     requires { ⌜ Room-from (now ws) s spare (now tos) (now others) × (length (now tos) ≤ 65536) ⌝ }
@@ -114,7 +114,7 @@ pub fn fill_groups(
             afters,
             flow_at,
             w,
-            flows,
+            fitting,
             names,
             letter_at,
             letters,
@@ -157,7 +157,7 @@ pub fn leak_check(
     afters: &[u16],
     flow_at: &[u16],
     w: usize,
-    flows: &[u64],
+    fitting: &[u64],
     names: &[u64],
     letter_at: &[u16],
     letters: &[u64],
@@ -176,7 +176,7 @@ pub fn leak_check(
     short: &mut [u64],
     more: &mut [u64],
 ) -> Verdict
-    requires { ⌜ Rule-tables (now ws) s (now afters) (now «flow_at») w (now flows) (now names)
+    requires { ⌜ Rule-tables (now ws) s (now afters) (now «flow_at») w (now fitting) (now names)
         (now «letter_at») (now letters) (now branches) ⌝ }
     requires { ⌜ Ceilings-ready (now ws) s n (now limits) (now starts) (now holders) (now unbounded) ⌝ }
     requires { ⌜ Groups-upto (program (now ws) s) (tables (now ws) s) (now limits) (s .ceilings) n (s .states)
@@ -220,7 +220,7 @@ pub fn leak_check(
                 afters,
                 flow_at,
                 w,
-                flows,
+                fitting,
                 names,
                 letter_at,
                 letters,

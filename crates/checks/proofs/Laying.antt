@@ -1,12 +1,14 @@
 -- What one layer's tables say is what the next one asks.
-use Prim.Native.Nat.{ℕ, _+_, _*_, _≤_, _<_}
+use Prim.Native.Nat.{ℕ, _+_, _*_, _-_, _/_, _≤_, _<_}
+use native.Mathlib.Nat.{mul-le-mul-left, mul-le-mul-right}
+use native.Mathlib.Decide.{ℕ-discrete}
 use native.Mathlib.Omega.{arith}
-use mathlib.Core.Path.{_≡_, sym, ap, _∙_}
+use mathlib.Core.Path.{_≡_, refl, sym, ap, _∙_}
 use mathlib.Core.List.{List}
 use mathlib.Core.Option.{none}
 use lib.ListN.{length, length-drop}
 use lib.Dec.{eqb}
-use Rattle.rooms.specs.Rooms.{letter-words, limit-room}
+use Rattle.rooms.specs.Rooms.{letter-sets, limit-room}
 use Rattle.model.specs.declared.Sizes.{Sizes}
 use Rattle.model.specs.Verdict.{_>>_}
 use Rattle.model.specs.Words.{columns}
@@ -37,7 +39,8 @@ use Rattle.system_letters.specs.Letters.{Name-heads, Class-letters, letter-widt
 use Rattle.letter_codes.specs.Codes.{capped}
 use Rattle.letter_codes.proofs.Capped.{capped-few}
 use Rattle.letter_sets.specs.Sets.{Letter-room}
-use Rattle.rules.specs.Derived.{Rule-room, Rule-tables}
+use Rattle.rules.specs.Derived.{read-set, owner-at, Rule-room, Reads, Rule-tables}
+use Rattle.pattern_letters.specs.Picked.{Match-tables, Owners-room}
 use Rattle.kept_rules.specs.Kept.{Room-from}
 use Rattle.model.specs.Demands.{Within-limits}
 use Rattle.checks.specs.Scratch.{Limits-room, Mask-room, Numbered, Closed-tables, Rules-fit}
@@ -137,45 +140,64 @@ unfolding counter-count tables entries columns
 states-few ws s n e = omega (arith, e)
 
 -- all that the rules are derived from
-module _ (ws : List ℕ) (s : Sizes) (afters flow-at : List ℕ) (w : ℕ) (flows branches : List ℕ) (c : Closed-tables ws s afters flow-at w flows branches) where
-  pub rule-tables : (n : ℕ) (names letter-at letters : List ℕ) → Numbered ws s n → n ≤ maxCounters → Name-heads (program ws s) (tables ws s) names → Class-letters (program ws s) (tables ws s) letter-at → Letter-sets (program ws s) (tables ws s) letters → Rule-tables ws s afters flow-at w flows names letter-at letters branches
-  rule-tables n names letter-at letters h l a b d =
+module _ (ws : List ℕ) (s : Sizes) (afters flow-at : List ℕ) (w : ℕ) (fitting branches : List ℕ) (c : Closed-tables ws s afters flow-at w fitting branches) where
+  pub match-tables : (names : List ℕ) → Name-heads (program ws s) (tables ws s) names → Match-tables ws s w fitting names
+  match-tables names a = record { ready = c .ready; name-width = c .name-width; fitting-sets = c .fitting-sets; name-heads = a }
+
+  pub rule-tables : (n : ℕ) (names letter-at letters : List ℕ) → Numbered ws s n → n ≤ maxCounters → Name-heads (program ws s) (tables ws s) names → Class-letters (program ws s) (tables ws s) letter-at → Letter-sets (program ws s) (tables ws s) letters → Reads (program ws s) (tables ws s) letters → Rule-tables ws s afters flow-at w fitting names letter-at letters branches
+  rule-tables n names letter-at letters h l a b d e =
       record {
         ready = c .ready;
         closed = c .closed;
-        few = let e = h .counted in omega arith;
+        few = let k = h .counted in omega arith;
         ends = c .ends;
         flow-starts = c .flow-starts;
-        flow-width = c .flow-width;
-        flow-sets = c .flow-sets;
-        may-sets = c .may-sets;
+        name-width = c .name-width;
+        fitting-sets = c .fitting-sets;
         name-heads = a;
         class-letters = b;
         letter-sets = d;
+        reads = e;
         branch-bits = c .branch-bits;
       }
 
+-- no message needs more words for sets of letters: where there are more letters there are fewer states
+sets-words : (r k n w : ℕ) → r ≤ 1106 + k → k + n ≤ 1024 → w ≡ n / 64 + 1 → r * w + k ≤ 18802
+sets-words r k n w a b e =
+    let d = 17 - w in
+    let wide : w ≤ 17 = omega arith in
+    let few : k ≤ 64 * d = omega arith in
+    let x : r * w ≤ (1106 + k) * w = mul-le-mul-right w a in
+    let y : k * w ≤ 64 * d * w = mul-le-mul-right w few in
+    let z : d * w ≤ d * 16 = elim (ℕ-discrete w 17) [ yes q ↦ omega (arith, none d w q refl) | no q ↦ mul-le-mul-left d (omega arith) ] in
+    omega arith
+  where
+    none : (d w : ℕ) → w ≡ 17 → d ≡ 17 - w → d * w ≡ 0
+    none d w q e = let z : d ≡ 0 = omega arith in rw z (omega arith)
+
 -- the sets of letters, and their words
 module _ (ws : List ℕ) (s : Sizes) where
-  pub sets-most : Ready ws s → allowed-set (program ws s) (s .mails) ≤ (maxArity + 1) * (maxConstructors + 2) + maxMails
-  unfolding allowed-set head-count program columns
-  sets-most h = let a = h .limits .constructors in let b = h .limits .mails in omega arith
+  pub words-most : Ready ws s → counter-count (program ws s) (tables ws s) ≤ maxCounters → owner-at (program ws s) (tables ws s) (s .states) ≤ letter-sets
+  unfolding owner-at read-set allowed-set head-count letter-width counter-count program tables entries columns
+  words-most h few =
+      let a = h .limits .constructors in
+      let b = h .limits .mails in
+      sets-words (9 * (s .constructors + 2) + s .mails + s .states) (s .states) (letter-count (program ws s) (tables ws s)) (letter-count (program ws s) (tables ws s) / 64 + 1) (omega arith) (omega arith) refl
 
-  pub words-most : (n : ℕ) → n ≡ counter-count (program ws s) (tables ws s) → n ≤ maxCounters → letter-width (program ws s) (tables ws s) ≤ letter-words
-  unfolding letter-width counter-count
-  words-most n e h = omega arith
+  pub words-told : (m w n : ℕ) → m ≡ 9 * (s .constructors + 2) + s .mails + s .states → w ≡ letter-width (program ws s) (tables ws s) → n ≡ m * w + s .states → n ≡ owner-at (program ws s) (tables ws s) (s .states)
+  unfolding owner-at read-set allowed-set head-count program tables entries columns
+  words-told m w n e f g = g ∙ rw (e, f)
 
-  pub letters-room : (n : ℕ) (letters : List ℕ) → Cleared n letters → allowed-set (program ws s) (s .mails) * letter-width (program ws s) (tables ws s) ≤ n → Letter-room (program ws s) (tables ws s) letters
-  unfolding tables entries columns
-  letters-room n letters h b = sets-fit _ _ (allowed-set (program ws s) (s .mails)) (letter-width (program ws s) (tables ws s)) n letters h (omega arith) (omega arith) b
+  -- a cleared table with so many words has room for all of it
+  pub letters-room : (n : ℕ) (letters : List ℕ) → Cleared n letters → owner-at (program ws s) (tables ws s) (s .states) ≤ n → Letter-room (program ws s) (tables ws s) letters × Owners-room (program ws s) (tables ws s) letters
+  unfolding owner-at read-set tables entries columns
+  letters-room n letters h b =
+      let z : allowed-set (program ws s) (s .mails) * letter-width (program ws s) (tables ws s) ≤ (allowed-set (program ws s) (s .mails) + s .states) * letter-width (program ws s) (tables ws s) = mul-le-mul-right (letter-width (program ws s) (tables ws s)) (omega arith) in
+      (sets-fit _ _ (allowed-set (program ws s) (s .mails)) (letter-width (program ws s) (tables ws s)) n letters h (omega arith) (omega arith) (omega arith), record { room = let q = h .room in omega arith })
 
-  pub sets-told : (d : ℕ) → d ≡ (maxArity + 1) * (s .constructors + 2) + s .mails → d ≡ allowed-set (program ws s) (s .mails)
-  unfolding allowed-set head-count program columns
-  sets-told d e = e
-
--- a product of equals
-pub product-told : (a b x y : ℕ) → a ≡ x → b ≡ y → a * b ≡ x * y
-product-told a b x y e f = rw (e, f)
+-- a table that keeps its length keeps its room
+pub owners-kept : (ws : List ℕ) (s : Sizes) (u v : List ℕ) → Owners-room (program ws s) (tables ws s) u → length v ≡ length u → Owners-room (program ws s) (tables ws s) v
+owners-kept ws s u v r e = record { room = omega (arith, r .room) }
 
 -- what `fill_codes` has counted, where refusal 9 finds nothing
 module _ (ws : List ℕ) (s : Sizes) (l : ℕ) (e : l ≡ capped maxCounters (letter-count (program ws s) (tables ws s))) (h : counter-check present s (program ws s) (tables ws s) ≡ none) where

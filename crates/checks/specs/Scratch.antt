@@ -15,8 +15,8 @@ use Rattle.lists.specs.Lists.{Starts}
 use Rattle.lists.specs.Ready.{Ready}
 use Rattle.positions.specs.Positions.{Ends}
 use Rattle.positions.specs.Branches.{Branch-bits}
-use Rattle.values.specs.Values.{width, Flow-sets}
-use Rattle.matching.specs.Patterns.{May-sets}
+use Rattle.values.specs.Values.{width}
+use Rattle.matching.specs.Patterns.{Fitting-sets}
 use Rattle.ceilings_form.specs.Parts as ceilings
 use Rattle.ceilings_form.specs.Limits.{In-form, Starts-table}
 use Rattle.ceilings.specs.Table.{Limits-table}
@@ -51,16 +51,15 @@ pub record Limited (ws : List ℕ) (s : Sizes) (n : ℕ) (limits ceiling-at : Li
 
 -- the bads of a message that passes 1 to 8, and the tables that refusal 8 leaves
 pub record Closed-tables (ws : List ℕ) (s : Sizes) (afters flow-at : List ℕ) (w : ℕ)
-    (flows branches : List ℕ) : Type 0 where
+    (fitting branches : List ℕ) : Type 0 where
   pub ready : Ready ws s
   pub whole : ceilings.Whole ws s
   pub bads : Bads-in-form ws s
   pub closed : open-check s (program ws s) (tables ws s) ≡ none
   pub ends : Ends (program ws s) afters
   pub flow-starts : Starts (tables ws s .flow) (s .names) flow-at
-  pub flow-width : w ≡ width (s .rows)
-  pub flow-sets : Flow-sets (program ws s) (tables ws s) flows
-  pub may-sets : May-sets (program ws s) (tables ws s) flows
+  pub name-width : w ≡ width (s .names)
+  pub fitting-sets : Fitting-sets (program ws s) (tables ws s) fitting
   pub branch-bits : Branch-bits (program ws s) (tables ws s) branches
 
 -- the rules of any state fit behind `spare` of so many words

@@ -78,7 +78,7 @@ fn leaks_on(
     afters: &[u16],
     flow_at: &[u16],
     w: usize,
-    flows: &[u64],
+    fitting: &[u64],
     names: &[u64],
     letter_at: &[u16],
     letters: &[u64],
@@ -95,7 +95,7 @@ fn leaks_on(
     tos: &mut [u16],
     others: &mut [u16],
 ) -> Leaks
-    requires { ⌜ Rule-tables (now ws) s (now afters) (now «flow_at») w (now flows) (now names)
+    requires { ⌜ Rule-tables (now ws) s (now afters) (now «flow_at») w (now fitting) (now names)
         (now «letter_at») (now letters) (now branches) ⌝ }
     requires { ⌜ Limited (now ws) s n (now limits) (now «ceiling_at») ⌝ }
     requires { ⌜ Mask-room n (now holders) (now unbounded) (now group) (now short) (now more) ⌝ }
@@ -114,7 +114,7 @@ fn leaks_on(
         afters,
         flow_at,
         w,
-        flows,
+        fitting,
         names,
         letter_at,
         letters,
@@ -138,7 +138,7 @@ fn leaks_on(
         afters,
         flow_at,
         w,
-        flows,
+        fitting,
         names,
         letter_at,
         letters,
@@ -168,7 +168,7 @@ fn ceilings_on(
     afters: &[u16],
     flow_at: &[u16],
     w: usize,
-    flows: &[u64],
+    fitting: &[u64],
     names: &[u64],
     letter_at: &[u16],
     letters: &[u64],
@@ -186,7 +186,7 @@ fn ceilings_on(
     others: &mut [u16],
     lent: &mut [u32],
 ) -> Verdict
-    requires { ⌜ Rule-tables (now ws) s (now afters) (now «flow_at») w (now flows) (now names)
+    requires { ⌜ Rule-tables (now ws) s (now afters) (now «flow_at») w (now fitting) (now names)
         (now «letter_at») (now letters) (now branches) ⌝ }
     requires { ⌜ Numbered (now ws) s n ⌝ }
     requires { ⌜ Limits-room s n (now limits) (now «ceiling_at») × (n < length (now sums)) ⌝ }
@@ -211,7 +211,7 @@ fn ceilings_on(
         afters,
         flow_at,
         w,
-        flows,
+        fitting,
         names,
         letter_at,
         letters,
@@ -239,7 +239,7 @@ fn ceilings_on(
         afters,
         flow_at,
         w,
-        flows,
+        fitting,
         names,
         letter_at,
         letters,
@@ -259,7 +259,7 @@ fn few_limits(
     afters: &[u16],
     flow_at: &[u16],
     w: usize,
-    flows: &[u64],
+    fitting: &[u64],
     names: &[u64],
     letter_at: &[u16],
     letters: &[u64],
@@ -267,7 +267,7 @@ fn few_limits(
     n: usize,
     lent: &mut [u32],
 ) -> Verdict
-    requires { ⌜ Rule-tables (now ws) s (now afters) (now «flow_at») w (now flows) (now names)
+    requires { ⌜ Rule-tables (now ws) s (now afters) (now «flow_at») w (now fitting) (now names)
         (now «letter_at») (now letters) (now branches) ⌝ }
     requires { ⌜ Numbered (now ws) s n ⌝ }
     requires { ⌜ (n ≤ 32) × (n * s .ceilings ≤ 2048) ⌝ }
@@ -290,7 +290,7 @@ fn few_limits(
         afters,
         flow_at,
         w,
-        flows,
+        fitting,
         names,
         letter_at,
         letters,
@@ -317,7 +317,7 @@ fn more_limits(
     afters: &[u16],
     flow_at: &[u16],
     w: usize,
-    flows: &[u64],
+    fitting: &[u64],
     names: &[u64],
     letter_at: &[u16],
     letters: &[u64],
@@ -325,7 +325,7 @@ fn more_limits(
     n: usize,
     lent: &mut [u32],
 ) -> Verdict
-    requires { ⌜ Rule-tables (now ws) s (now afters) (now «flow_at») w (now flows) (now names)
+    requires { ⌜ Rule-tables (now ws) s (now afters) (now «flow_at») w (now fitting) (now names)
         (now «letter_at») (now letters) (now branches) ⌝ }
     requires { ⌜ Numbered (now ws) s n ⌝ }
     requires { ⌜ (n ≤ 128) × (n * s .ceilings ≤ 16384) ⌝ }
@@ -348,7 +348,7 @@ fn more_limits(
         afters,
         flow_at,
         w,
-        flows,
+        fitting,
         names,
         letter_at,
         letters,
@@ -375,7 +375,7 @@ fn all_limits(
     afters: &[u16],
     flow_at: &[u16],
     w: usize,
-    flows: &[u64],
+    fitting: &[u64],
     names: &[u64],
     letter_at: &[u16],
     letters: &[u64],
@@ -383,7 +383,7 @@ fn all_limits(
     n: usize,
     lent: &mut [u32],
 ) -> Verdict
-    requires { ⌜ Rule-tables (now ws) s (now afters) (now «flow_at») w (now flows) (now names)
+    requires { ⌜ Rule-tables (now ws) s (now afters) (now «flow_at») w (now fitting) (now names)
         (now «letter_at») (now letters) (now branches) ⌝ }
     requires { ⌜ Numbered (now ws) s n ⌝ }
     ensures { λ v. ⌜ v ≡ answer (below-ceilings (now (ws .entry)) s n (length (now (lent .entry)))) ⌝ }
@@ -405,7 +405,7 @@ fn all_limits(
         afters,
         flow_at,
         w,
-        flows,
+        fitting,
         names,
         letter_at,
         letters,
@@ -434,7 +434,7 @@ pub fn ceilings_verdict(
     afters: &[u16],
     flow_at: &[u16],
     w: usize,
-    flows: &[u64],
+    fitting: &[u64],
     names: &[u64],
     letter_at: &[u16],
     letters: &[u64],
@@ -443,7 +443,7 @@ pub fn ceilings_verdict(
     lent: &mut [u32],
 ) -> Verdict
     requires { ⌜ 1 ≤ most ⌝ }
-    requires { ⌜ Rule-tables (now ws) s (now afters) (now «flow_at») w (now flows) (now names)
+    requires { ⌜ Rule-tables (now ws) s (now afters) (now «flow_at») w (now fitting) (now names)
         (now «letter_at») (now letters) (now branches) ⌝ }
     requires { ⌜ Numbered (now ws) s n ⌝ }
     ensures { λ v. ⌜ v ≡ answer (below-ceilings (now (ws .entry)) s n (length (now (lent .entry)))) ⌝ }
@@ -456,7 +456,7 @@ pub fn ceilings_verdict(
             afters,
             flow_at,
             w,
-            flows,
+            fitting,
             names,
             letter_at,
             letters,
@@ -475,7 +475,7 @@ pub fn ceilings_verdict(
                     afters,
                     flow_at,
                     w,
-                    flows,
+                    fitting,
                     names,
                     letter_at,
                     letters,
@@ -493,7 +493,7 @@ pub fn ceilings_verdict(
                     afters,
                     flow_at,
                     w,
-                    flows,
+                    fitting,
                     names,
                     letter_at,
                     letters,
@@ -511,7 +511,7 @@ pub fn ceilings_verdict(
         afters,
         flow_at,
         w,
-        flows,
+        fitting,
         names,
         letter_at,
         letters,

@@ -3,6 +3,7 @@
 use crate::leaks::ceilings_verdict;
 use answers::is_safe;
 use ceilings_form::entries::ceiling_check;
+use kept_letters::fill_reads;
 use letter_codes::fill_codes;
 use letter_sets::fill_letters;
 use mailed::counters_verdict;
@@ -20,15 +21,19 @@ use rooms::words64_1024;
 use system_letters::fill_names;
 use system_letters::letter_width;
 ghost use mathlib.Core.Path.{_≡_};
-ghost use Prim.Native.Nat.{_*_, _≤_};
+ghost use Prim.Native.Nat.{_+_, _*_, _≤_};
 ghost use lib.ListN.{length};
-ghost use Rattle.model.specs.Limits.{maxCounters};
+ghost use Rattle.model.specs.Limits.{present, maxCounters};
+ghost use Rattle.model.specs.Demands.{Within-limits};
 ghost use Rattle.model.specs.Rows.{program};
 ghost use Rattle.model.specs.Tables.{tables};
 ghost use Rattle.model.specs.Verify.{answer};
 ghost use Rattle.lists.specs.Ready.{Ready};
 ghost use Rattle.values.specs.Values.{Empty};
-ghost use Rattle.system_letters.specs.Letters.{Name-heads, Class-letters, letter-width, allowed-set};
+ghost use Rattle.system_letters.specs.Letters.{Name-heads, Class-letters, letter-width};
+ghost use Rattle.model.specs.Counters.{counter-count};
+ghost use Rattle.rules.specs.Derived.{owner-at};
+ghost use Rattle.pattern_letters.specs.Picked.{Owners-room};
 ghost use Rattle.letter_codes.specs.Codes.{Coded};
 ghost use Rattle.letter_sets.specs.Sets.{Letter-room};
 ghost use Rattle.system_space.specs.Space.{words-after};
@@ -38,13 +43,25 @@ ghost use Rattle.checks.specs.Scratch.{Closed-tables, Numbered};
 // The digits of a letter: its number, and the head of each argument.
 const DIGITS: usize = MAX_ARITY + 1;
 
-// How many sets of letters there are: one for each digit and head, and one for each mail entry.
-fn set_count(ws: &[u16], s: Sizes) -> usize
-    requires { ⌜ Ready (now ws) s ⌝ }
-    ensures { λ n. ⌜ n ≡ allowed-set (program (now (ws .entry)) s) (s .mails) ⌝ }
+// How many sets of letters there are: one for each digit and head, for each mail entry, and for each state.
+fn set_count(s: Sizes) -> usize
+    requires { ⌜ Within-limits present s ⌝ }
+    ensures { λ n. ⌜ n ≡ 9 * (s .constructors + 2) + s .mails + s .states ⌝ }
 {
     let heads = s.constructors + OTHER_HEADS;
-    DIGITS * heads + s.mails
+    DIGITS * heads + s.mails + s.states
+}
+
+// How many words they take, and behind them a word for each state.
+fn letter_words(ws: &[u16], s: Sizes, letter_at: &[u16]) -> usize
+    requires { ⌜ Ready (now ws) s ⌝ }
+    requires { ⌜ Class-letters (program (now ws) s) (tables (now ws) s) (now «letter_at») ⌝ }
+    requires { ⌜ counter-count (program (now ws) s) (tables (now ws) s) ≤ maxCounters ⌝ }
+    ensures { λ n. ⌜ n ≡ owner-at (program (now (ws .entry)) s) (tables (now (ws .entry)) s) (s .states) ⌝ }
+{
+    let sets = set_count(s);
+    let words = letter_width(ws, s, letter_at);
+    sets * words + s.states
 }
 
 // Refusals 11 to 14 over lent sets of letters.
@@ -54,7 +71,7 @@ fn lettered_verdict(
     afters: &[u16],
     flow_at: &[u16],
     w: usize,
-    flows: &[u64],
+    fitting: &[u64],
     names: &[u64],
     letter_at: &[u16],
     codes: &[u64],
@@ -63,17 +80,19 @@ fn lettered_verdict(
     letters: &mut [u64],
     lent: &mut [u32],
 ) -> Verdict
-    requires { ⌜ Closed-tables (now ws) s (now afters) (now «flow_at») w (now flows) (now branches) ⌝ }
+    requires { ⌜ Closed-tables (now ws) s (now afters) (now «flow_at») w (now fitting) (now branches) ⌝ }
     requires { ⌜ Name-heads (program (now ws) s) (tables (now ws) s) (now names) ⌝ }
     requires { ⌜ Class-letters (program (now ws) s) (tables (now ws) s) (now «letter_at») ⌝ }
     requires { ⌜ Coded (program (now ws) s) (tables (now ws) s) (now codes) ⌝ }
     requires { ⌜ Numbered (now ws) s n × (n ≤ maxCounters) ⌝ }
     requires { ⌜ Empty (letter-width (program (now ws) s) (tables (now ws) s)) (now letters) ⌝ }
     requires { ⌜ Letter-room (program (now ws) s) (tables (now ws) s) (now letters) ⌝ }
+    requires { ⌜ Owners-room (program (now ws) s) (tables (now ws) s) (now letters) ⌝ }
     ensures { λ v. ⌜ v ≡ answer (from-11 (now (ws .entry)) s (length (now (lent .entry)))) ⌝ }
     ensures { λ v. ⌜ now (lent .exit) ≡ words-after v (now (ws .entry)) s (now (lent .entry)) ⌝ }
 {
     fill_letters(ws, s, names, letter_at, codes, letters);
+    fill_reads(ws, s, afters, w, fitting, names, letter_at, letters);
     ceilings_verdict(
         32,
         ws,
@@ -81,7 +100,7 @@ fn lettered_verdict(
         afters,
         flow_at,
         w,
-        flows,
+        fitting,
         names,
         letter_at,
         letters,
@@ -98,7 +117,7 @@ fn few_letters(
     afters: &[u16],
     flow_at: &[u16],
     w: usize,
-    flows: &[u64],
+    fitting: &[u64],
     names: &[u64],
     letter_at: &[u16],
     codes: &[u64],
@@ -106,13 +125,12 @@ fn few_letters(
     n: usize,
     lent: &mut [u32],
 ) -> Verdict
-    requires { ⌜ Closed-tables (now ws) s (now afters) (now «flow_at») w (now flows) (now branches) ⌝ }
+    requires { ⌜ Closed-tables (now ws) s (now afters) (now «flow_at») w (now fitting) (now branches) ⌝ }
     requires { ⌜ Name-heads (program (now ws) s) (tables (now ws) s) (now names) ⌝ }
     requires { ⌜ Class-letters (program (now ws) s) (tables (now ws) s) (now «letter_at») ⌝ }
     requires { ⌜ Coded (program (now ws) s) (tables (now ws) s) (now codes) ⌝ }
     requires { ⌜ Numbered (now ws) s n × (n ≤ maxCounters) ⌝ }
-    requires { ⌜ allowed-set (program (now ws) s) (s .mails) * letter-width (program (now ws) s) (tables (now ws) s)
-        ≤ 256 ⌝ }
+    requires { ⌜ owner-at (program (now ws) s) (tables (now ws) s) (s .states) ≤ 256 ⌝ }
     ensures { λ v. ⌜ v ≡ answer (from-11 (now (ws .entry)) s (length (now (lent .entry)))) ⌝ }
     ensures { λ v. ⌜ now (lent .exit) ≡ words-after v (now (ws .entry)) s (now (lent .entry)) ⌝ }
 {
@@ -123,7 +141,7 @@ fn few_letters(
         afters,
         flow_at,
         w,
-        flows,
+        fitting,
         names,
         letter_at,
         codes,
@@ -141,7 +159,7 @@ fn more_letters(
     afters: &[u16],
     flow_at: &[u16],
     w: usize,
-    flows: &[u64],
+    fitting: &[u64],
     names: &[u64],
     letter_at: &[u16],
     codes: &[u64],
@@ -149,13 +167,12 @@ fn more_letters(
     n: usize,
     lent: &mut [u32],
 ) -> Verdict
-    requires { ⌜ Closed-tables (now ws) s (now afters) (now «flow_at») w (now flows) (now branches) ⌝ }
+    requires { ⌜ Closed-tables (now ws) s (now afters) (now «flow_at») w (now fitting) (now branches) ⌝ }
     requires { ⌜ Name-heads (program (now ws) s) (tables (now ws) s) (now names) ⌝ }
     requires { ⌜ Class-letters (program (now ws) s) (tables (now ws) s) (now «letter_at») ⌝ }
     requires { ⌜ Coded (program (now ws) s) (tables (now ws) s) (now codes) ⌝ }
     requires { ⌜ Numbered (now ws) s n × (n ≤ maxCounters) ⌝ }
-    requires { ⌜ allowed-set (program (now ws) s) (s .mails) * letter-width (program (now ws) s) (tables (now ws) s)
-        ≤ 1024 ⌝ }
+    requires { ⌜ owner-at (program (now ws) s) (tables (now ws) s) (s .states) ≤ 1024 ⌝ }
     ensures { λ v. ⌜ v ≡ answer (from-11 (now (ws .entry)) s (length (now (lent .entry)))) ⌝ }
     ensures { λ v. ⌜ now (lent .exit) ≡ words-after v (now (ws .entry)) s (now (lent .entry)) ⌝ }
 {
@@ -166,7 +183,7 @@ fn more_letters(
         afters,
         flow_at,
         w,
-        flows,
+        fitting,
         names,
         letter_at,
         codes,
@@ -184,7 +201,7 @@ fn all_letters(
     afters: &[u16],
     flow_at: &[u16],
     w: usize,
-    flows: &[u64],
+    fitting: &[u64],
     names: &[u64],
     letter_at: &[u16],
     codes: &[u64],
@@ -192,7 +209,7 @@ fn all_letters(
     n: usize,
     lent: &mut [u32],
 ) -> Verdict
-    requires { ⌜ Closed-tables (now ws) s (now afters) (now «flow_at») w (now flows) (now branches) ⌝ }
+    requires { ⌜ Closed-tables (now ws) s (now afters) (now «flow_at») w (now fitting) (now branches) ⌝ }
     requires { ⌜ Name-heads (program (now ws) s) (tables (now ws) s) (now names) ⌝ }
     requires { ⌜ Class-letters (program (now ws) s) (tables (now ws) s) (now «letter_at») ⌝ }
     requires { ⌜ Coded (program (now ws) s) (tables (now ws) s) (now codes) ⌝ }
@@ -207,7 +224,7 @@ fn all_letters(
         afters,
         flow_at,
         w,
-        flows,
+        fitting,
         names,
         letter_at,
         codes,
@@ -227,7 +244,7 @@ fn sets_verdict(
     afters: &[u16],
     flow_at: &[u16],
     w: usize,
-    flows: &[u64],
+    fitting: &[u64],
     names: &[u64],
     letter_at: &[u16],
     codes: &[u64],
@@ -236,7 +253,7 @@ fn sets_verdict(
     lent: &mut [u32],
 ) -> Verdict
     requires { ⌜ 1 ≤ most ⌝ }
-    requires { ⌜ Closed-tables (now ws) s (now afters) (now «flow_at») w (now flows) (now branches) ⌝ }
+    requires { ⌜ Closed-tables (now ws) s (now afters) (now «flow_at») w (now fitting) (now branches) ⌝ }
     requires { ⌜ Name-heads (program (now ws) s) (tables (now ws) s) (now names) ⌝ }
     requires { ⌜ Class-letters (program (now ws) s) (tables (now ws) s) (now «letter_at») ⌝ }
     requires { ⌜ Coded (program (now ws) s) (tables (now ws) s) (now codes) ⌝ }
@@ -251,7 +268,7 @@ fn sets_verdict(
             afters,
             flow_at,
             w,
-            flows,
+            fitting,
             names,
             letter_at,
             codes,
@@ -260,7 +277,7 @@ fn sets_verdict(
             lent,
         );
     }
-    let words = set_count(ws, s) * letter_width(ws, s, letter_at);
+    let words = letter_words(ws, s, letter_at);
     if words <= most {
         if most <= 256 {
             return few_letters(
@@ -269,7 +286,7 @@ fn sets_verdict(
                 afters,
                 flow_at,
                 w,
-                flows,
+                fitting,
                 names,
                 letter_at,
                 codes,
@@ -285,7 +302,7 @@ fn sets_verdict(
                 afters,
                 flow_at,
                 w,
-                flows,
+                fitting,
                 names,
                 letter_at,
                 codes,
@@ -302,7 +319,7 @@ fn sets_verdict(
         afters,
         flow_at,
         w,
-        flows,
+        fitting,
         names,
         letter_at,
         codes,
@@ -319,12 +336,12 @@ fn named_verdict(
     afters: &[u16],
     flow_at: &[u16],
     w: usize,
-    flows: &[u64],
+    fitting: &[u64],
     names: &mut [u64],
     branches: &[u16],
     lent: &mut [u32],
 ) -> Verdict
-    requires { ⌜ Closed-tables (now ws) s (now afters) (now «flow_at») w (now flows) (now branches) ⌝ }
+    requires { ⌜ Closed-tables (now ws) s (now afters) (now «flow_at») w (now fitting) (now branches) ⌝ }
     requires { ⌜ s .names * 2 ≤ length (now names) ⌝ }
     ensures { λ v. ⌜ v ≡ answer (from-22 (now (ws .entry)) s (length (now (lent .entry)))) ⌝ }
     ensures { λ v. ⌜ now (lent .exit) ≡ words-after v (now (ws .entry)) s (now (lent .entry)) ⌝ }
@@ -350,7 +367,7 @@ fn named_verdict(
         afters,
         flow_at,
         w,
-        flows,
+        fitting,
         names,
         &letter_at,
         &codes,
@@ -367,17 +384,27 @@ fn few_names(
     afters: &[u16],
     flow_at: &[u16],
     w: usize,
-    flows: &[u64],
+    fitting: &[u64],
     branches: &[u16],
     lent: &mut [u32],
 ) -> Verdict
-    requires { ⌜ Closed-tables (now ws) s (now afters) (now «flow_at») w (now flows) (now branches) ⌝ }
+    requires { ⌜ Closed-tables (now ws) s (now afters) (now «flow_at») w (now fitting) (now branches) ⌝ }
     requires { ⌜ s .names ≤ 64 ⌝ }
     ensures { λ v. ⌜ v ≡ answer (from-22 (now (ws .entry)) s (length (now (lent .entry)))) ⌝ }
     ensures { λ v. ⌜ now (lent .exit) ≡ words-after v (now (ws .entry)) s (now (lent .entry)) ⌝ }
 {
     let mut names = words64_130();
-    named_verdict(ws, s, afters, flow_at, w, flows, &mut names, branches, lent)
+    named_verdict(
+        ws,
+        s,
+        afters,
+        flow_at,
+        w,
+        fitting,
+        &mut names,
+        branches,
+        lent,
+    )
 }
 
 // Refusals 22 and 9 to 14 of any number of names.
@@ -387,16 +414,26 @@ fn all_names(
     afters: &[u16],
     flow_at: &[u16],
     w: usize,
-    flows: &[u64],
+    fitting: &[u64],
     branches: &[u16],
     lent: &mut [u32],
 ) -> Verdict
-    requires { ⌜ Closed-tables (now ws) s (now afters) (now «flow_at») w (now flows) (now branches) ⌝ }
+    requires { ⌜ Closed-tables (now ws) s (now afters) (now «flow_at») w (now fitting) (now branches) ⌝ }
     ensures { λ v. ⌜ v ≡ answer (from-22 (now (ws .entry)) s (length (now (lent .entry)))) ⌝ }
     ensures { λ v. ⌜ now (lent .exit) ≡ words-after v (now (ws .entry)) s (now (lent .entry)) ⌝ }
 {
     let mut names = words64_1024();
-    named_verdict(ws, s, afters, flow_at, w, flows, &mut names, branches, lent)
+    named_verdict(
+        ws,
+        s,
+        afters,
+        flow_at,
+        w,
+        fitting,
+        &mut names,
+        branches,
+        lent,
+    )
 }
 
 // Refusals 22 and 9 to 14 over the least room for heads of names that fits.
@@ -406,16 +443,16 @@ pub fn system_verdict(
     afters: &[u16],
     flow_at: &[u16],
     w: usize,
-    flows: &[u64],
+    fitting: &[u64],
     branches: &[u16],
     lent: &mut [u32],
 ) -> Verdict
-    requires { ⌜ Closed-tables (now ws) s (now afters) (now «flow_at») w (now flows) (now branches) ⌝ }
+    requires { ⌜ Closed-tables (now ws) s (now afters) (now «flow_at») w (now fitting) (now branches) ⌝ }
     ensures { λ v. ⌜ v ≡ answer (from-22 (now (ws .entry)) s (length (now (lent .entry)))) ⌝ }
     ensures { λ v. ⌜ now (lent .exit) ≡ words-after v (now (ws .entry)) s (now (lent .entry)) ⌝ }
 {
     if s.names <= 64 {
-        return few_names(ws, s, afters, flow_at, w, flows, branches, lent);
+        return few_names(ws, s, afters, flow_at, w, fitting, branches, lent);
     }
-    all_names(ws, s, afters, flow_at, w, flows, branches, lent)
+    all_names(ws, s, afters, flow_at, w, fitting, branches, lent)
 }

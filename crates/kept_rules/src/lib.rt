@@ -76,7 +76,7 @@ pub fn rules_from(
     afters: &[u16],
     flow_at: &[u16],
     w: usize,
-    flows: &[u64],
+    fitting: &[u64],
     names: &[u64],
     letter_at: &[u16],
     letters: &[u64],
@@ -87,7 +87,7 @@ pub fn rules_from(
     tos: &mut [u16],
     others: &mut [u16],
 ) -> usize
-    requires { ⌜ Rule-tables (now ws) s (now afters) (now «flow_at») w (now flows) (now names)
+    requires { ⌜ Rule-tables (now ws) s (now afters) (now «flow_at») w (now fitting) (now names)
         (now «letter_at») (now letters) (now branches) ⌝ }
     requires { ⌜ (i < s .states) × (first < 65536) ⌝ }
     requires { ⌜ Room-from (now ws) s first (now tos) (now others) ⌝ }
@@ -102,7 +102,7 @@ pub fn rules_from(
         afters,
         flow_at,
         w,
-        flows,
+        fitting,
         names,
         letter_at,
         letters,
@@ -121,7 +121,7 @@ pub fn rules_again(
     afters: &[u16],
     flow_at: &[u16],
     w: usize,
-    flows: &[u64],
+    fitting: &[u64],
     names: &[u64],
     letter_at: &[u16],
     letters: &[u64],
@@ -133,7 +133,7 @@ pub fn rules_again(
     tos: &mut [u16],
     others: &mut [u16],
 ) -> Found
-    requires { ⌜ Rule-tables (now ws) s (now afters) (now «flow_at») w (now flows) (now names)
+    requires { ⌜ Rule-tables (now ws) s (now afters) (now «flow_at») w (now fitting) (now names)
         (now «letter_at») (now letters) (now branches) ⌝ }
     requires { ⌜ Kept-rules (program (now ws) s) (tables (now ws) s) (s .states) kept (now «first_at») (now tos)
         (now others) ⌝ }
@@ -157,7 +157,7 @@ pub fn rules_again(
         afters,
         flow_at,
         w,
-        flows,
+        fitting,
         names,
         letter_at,
         letters,

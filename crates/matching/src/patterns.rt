@@ -7,7 +7,6 @@ use model::TAG_PATTERN_CONSTRUCTOR;
 use model::TAG_PATTERN_HELD;
 use program::rows::num;
 use program::rows::tag;
-use sets::copy_into;
 use sets::put;
 use values::width;
 ghost use mathlib.Core.Path.{_≡_};
@@ -18,7 +17,7 @@ ghost use Rattle.bits.specs.Bits.{Row};
 ghost use Rattle.lists.specs.Ready.{Ready};
 ghost use Rattle.positions.specs.Positions.{Ends};
 ghost use Rattle.values.specs.Values.{width, Empty, Room, Flow-sets};
-ghost use Rattle.matching.specs.Patterns.{Builds, Standing, Matches, Clear, Put-if, has-set, Kept};
+ghost use Rattle.matching.specs.Patterns.{Builds, Standing, Matches, Clear, Put-if};
 
 // Puts value v into set n where b says so.
 fn put_if(t: &mut [u64], w: usize, n: usize, v: usize, b: bool)
@@ -97,33 +96,5 @@ pub fn fill_patterns(
         } else if kind == TAG_PATTERN_HELD {
             fill_equals(ws, s, flow, firsts, nexts, may, q);
         }
-    }
-}
-
-// Has row q a set: is it a constructor pattern or a held name?
-fn has_set(ws: &[u16], s: Sizes, q: usize) -> bool
-    requires { ⌜ Ready (now ws) s ⌝ }
-    ensures { λ b. ⌜ b ≡ has-set (program (now (ws .entry)) s) q ⌝ }
-{
-    match tag(ws, s, q) {
-        TAG_PATTERN_CONSTRUCTOR | TAG_PATTERN_HELD => true,
-        _ => false,
-    }
-}
-
-// Keeps the sets of the constructor patterns and held names behind those of the names: set V + q is that of row q.
-pub fn keep_patterns(ws: &[u16], s: Sizes, may: &[u64], flow: &mut [u64])
-    requires { ⌜ Ready (now ws) s ⌝ }
-    requires { ⌜ Room (width (s .rows)) (s .rows) (now may) ⌝ }
-    requires { ⌜ Room (width (s .rows)) (s .names + s .rows) (now flow) ⌝ }
-    ensures { λ _. ⌜ Kept (program (now (ws .entry)) s) (now (may .entry)) (now (flow .entry)) (s .rows)
-        (now (flow .exit)) ⌝ }
-{
-    let w = width(s);
-    for q in 0..s.rows {
-        if !has_set(ws, s, q) {
-            continue;
-        }
-        copy_into(flow, may, w, s.names + q, q);
     }
 }

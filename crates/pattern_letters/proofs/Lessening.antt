@@ -32,7 +32,7 @@ use Rattle.model.proofs.TwoDeep.{letter-told, letter-listed}
 use Rattle.lists.specs.Lists.{Ascending, range-from, range-to}
 use Rattle.rules.proofs.Gather.{gather-last, each-range}
 use Rattle.system_letters.specs.Letters.{class-at, letter-at, letter-width, digits, digit-set, allowed-set, Letter-sets, Found}
-use Rattle.pattern_letters.specs.Picked.{value-fits, head-fits, has-head, leaves-head, head-of, leaves-argument, leaves-below, leaves-first, leaves, Left}
+use Rattle.pattern_letters.specs.Picked.{begins, value-fits, head-fits, has-head, leaves-head, head-of, leaves-argument, leaves-below, leaves-first, leaves, Left}
 
 -- a set that keeps its length has its row
 pub row-kept : (w n : ℕ) (u u′ : List ℕ) → Row u w n → length u′ ≡ length u → Row u′ w n
@@ -49,6 +49,10 @@ set-small i k h a b c = omega (arith, mul-le-mul-right k a)
 and-true : (b : Bool) → (b && true) ≡ b
 and-true true = refl
 and-true false = refl
+
+and-no : (a b : Bool) → a ≡ false → (a && b) ≡ false
+and-no true b e = true-false refl e
+and-no false b e = refl
 
 and-and : (a b c : Bool) → ((a && b) && c) ≡ (a && (b && c))
 and-and true b c = refl
@@ -140,7 +144,7 @@ module _ (p : Program) (t : Tables) where
       found-sent from i f u u′ a b g is = rw (gather-last from i f a, b) (found-join (gather from i f) (letters-allowed p t v) w (member letters w set) u u′ e g entry-has is)
 
   -- the letters of a value that a pattern leaves are those that it reads
-  module _ (low : (v : ℕ) → row-head p v < head-count p) (q v : ℕ) (may : may-take p t q v ≡ true) where
+  module _ (low : (v : ℕ) → row-head p v < head-count p) (q v : ℕ) (begun : begins p t q v ≡ true) where
     -- the letters where each argument passes, as a list and outright
     abbrev Where : (ℕ → ℕ → Bool) → Letter → Type 0
     Where passes l = Letter-of p t (λ i w. passes i w ≡ true) v l
@@ -162,9 +166,9 @@ module _ (p : Program) (t : Tables) where
 
     module _ (made : tag p q ≡ 31) where
       built : (tag p v ≡ 2) × (num p (v + 1) ≡ num p q)
-      unfolding may-take may-match same-constructor
+      unfolding begins same-constructor
       built =
-          let same = and-left (eqb (tag p v) 2 && eqb (num p (v + 1)) (num p q)) _ (rw (eq-eqb (tag p q) 31 made, may-match) at may) in
+          let same = rw (begins, eq-eqb (tag p q) 31 made) at begun in
           (eqb-true _ _ (and-left (eqb (tag p v) 2) _ same), eqb-true _ _ (and-right (eqb (tag p v) 2) _ same))
 
       fit : (i w : ℕ) → may-match p t (maxDepth - 1) (subpattern p maxDepth q i) w ≡ true → argument-fits p t q i w ≡ true
@@ -226,19 +230,38 @@ module _ (p : Program) (t : Tables) where
             next : (i : ℕ) → i + 1 ≡ suc i
             next i = omega arith
 
+      -- a letter whose heads fit is one of a value that the pattern may match
+      fits-taken : (l : Letter) → Where (argument-fits p t q) l → may-take p t q v ≡ true
+      unfolding may-take may-match same-constructor
+      fits-taken l (alone n) = absurd (n (built .0))
+      fits-taken l (with-heads hs b many each) =
+          rw (may-match, eq-eqb (tag p q) 31 made) (and-intro (eqb (tag p v) 2 && eqb (num p (v + 1)) (num p q)) _
+          (and-intro (eqb (tag p v) 2) _ (eq-eqb (tag p v) 2 (built .0)) (eq-eqb (num p (v + 1)) (num p q) (built .1)))
+          (all-intro 0 (arity p (num p q)) _ (λ i a k.
+          let (w, m, (e, z)) = each i (let x = ap (arity p) (built .1) in omega arith) in
+          some-of-iff (t .flow) (argument p v i) (may-match p t (maxDepth - 1) (subpattern p maxDepth q i)) (λ u. (λ x. x, λ x. x)) .1 (w, m, unfit i w z))))
+
+    -- a pattern that is no constructor's may match what it begins with
+    taken : (tag p q ≡ 31 → ⊥) → may-take p t q v ≡ true
+    unfolding begins
+    taken ne = rw (begins, ne-eqb (tag p q) 31 ne) at begun
+
     -- what is left of what the value allows
     left-read : (y : ℕ) → List·Memᴰ (letter-at p t y) (letters-allowed p t v) → leaves p t q v y ≡ true → List·Memᴰ (letter-at p t y) (letters-read p t q v)
     unfolding letters-read letters-allowed leaves head-of
-    left-read y m h = rw (may, letters-read) (listed (argument-fits p t q) (letter-at p t y)
-        (elim (ℕ-discrete (tag p q) 31) [
-          | yes e ↦ left-fits e y (letter-at p t y) (λ i. refl) (implies-elim (eqb (tag p q) 31) _ h (eq-eqb (tag p q) 31 e)) (told any-argument (letter-at p t y) m)
-          | no ne ↦ all-fit ne (letter-at p t y) (told any-argument (letter-at p t y) m)
-        ]))
+    left-read y m h = elim (ℕ-discrete (tag p q) 31) [
+      | yes e ↦
+          let fits = left-fits e y (letter-at p t y) (λ i. refl) (implies-elim (eqb (tag p q) 31) _ h (eq-eqb (tag p q) 31 e)) (told any-argument (letter-at p t y) m) in
+          rw (fits-taken e (letter-at p t y) fits, letters-read) (listed (argument-fits p t q) (letter-at p t y) fits)
+      | no ne ↦ rw (taken ne, letters-read) (listed (argument-fits p t q) (letter-at p t y) (all-fit ne (letter-at p t y) (told any-argument (letter-at p t y) m)))
+    ]
 
     read-left : (y : ℕ) → List·Memᴰ (letter-at p t y) (letters-read p t q v) → List·Memᴰ (letter-at p t y) (letters-allowed p t v) × (leaves p t q v y ≡ true)
     unfolding letters-read leaves head-of
     read-left y m =
-        let k : List·Memᴰ (letter-at p t y) (letters-where p t (argument-fits p t q) v) = rw (may, letters-read) at m in (
+        let k : List·Memᴰ (letter-at p t y) (letters-where p t (argument-fits p t q) v) = test (may-take p t q v)
+        (λ e. rw (e, letters-read) at m)
+        (λ e. absurd (List·Memᴰ·not-nil (rw (e, letters-read) at m))) in (
           where-allowed p t (argument-fits p t q) v (letter-at p t y) k,
           implies-intro (eqb (tag p q) 31) _ (λ e. fits-left (eqb-true (tag p q) 31 e) y (letter-at p t y) (λ i. refl) (told (argument-fits p t q) (letter-at p t y) k)),
         )
@@ -251,16 +274,24 @@ module _ (p : Program) (t : Tables) where
     turned : gather from (j + 1) Turn ≡ gather from j Turn ++ letters-read p t q v
     turned = gather-last from j Turn behind ∙ ap (λ u. gather from j Turn ++ letters-read p t q u) (sym value)
 
-    pub found-passed : (b : Bool) (u : List ℕ) → b ≡ may-take p t q v → not b ≡ true → Found p t c (gather from j Turn) u → Found p t c (gather from (j + 1) Turn) u
+    -- what a pattern does not begin with it may not match
+    untaken : begins p t q v ≡ false → may-take p t q v ≡ false
+    unfolding begins may-take may-match
+    untaken e = elim (ℕ-discrete (tag p q) 31) [
+      | yes made ↦ rw (may-match, eq-eqb (tag p q) 31 made) (and-no _ _ (rw (begins, eq-eqb (tag p q) 31 made) at e))
+      | no ne ↦ rw (begins, ne-eqb (tag p q) 31 ne) at e
+    ]
+
+    pub found-passed : (b : Bool) (u : List ℕ) → b ≡ begins p t q v → not b ≡ true → Found p t c (gather from j Turn) u → Found p t c (gather from (j + 1) Turn) u
     unfolding letters-read
     found-passed b u e n f =
-        let none : letters-read p t q v ≡ [] = rw (sym e ∙ not-true b n, letters-read) in
+        let none : letters-read p t q v ≡ [] = rw (untaken (sym e ∙ not-true b n), letters-read) in
         rw (turned, none, append-nil (gather from j Turn)) f
 
     module _ (letters : List ℕ) (sets : Letter-sets p t letters) (w set : ℕ) (e : w ≡ letter-width p t) (at : set ≡ allowed-set p j) (there : j < t .mail .size) (class : left (t .mail) j ≡ c) where
-      pub found-read : (b : Bool) (u u′ part part₁ part₂ : List ℕ) → b ≡ may-take p t q v → not b ≡ false → Found p t c (gather from j Turn) u → Set-is w 0 (member letters w set) part part₁ → Left p t (leaves p t q v) part₁ part₂ → Set-is w 0 (λ y. member u w 0 y || member part₂ w 0 y) u u′ → Found p t c (gather from (j + 1) Turn) u′
+      pub found-read : (b : Bool) (u u′ part part₁ part₂ : List ℕ) → b ≡ begins p t q v → not b ≡ false → Found p t c (gather from j Turn) u → Set-is w 0 (member letters w set) part part₁ → Left p t (leaves p t q v) part₁ part₂ → Set-is w 0 (λ y. member u w 0 y || member part₂ w 0 y) u u′ → Found p t c (gather from (j + 1) Turn) u′
       found-read b u u′ part part₁ part₂ e′ n f copied less is =
-          let may : may-take p t q v ≡ true = sym e′ ∙ not-false b n in
+          let begun : begins p t q v ≡ true = sym e′ ∙ not-false b n in
           rw turned (found-join c (gather from j Turn) (letters-read p t q v) w (member part₂ w 0) u u′ e f
           (λ y l.
           let inside : y < 64 * w = rw e (letter-inside y l) in
@@ -270,9 +301,9 @@ module _ (p : Program) (t : Tables) where
             λ h.
                 let both′ = sym has ∙ h in
                 let (x, m) = to (sym was ∙ and-left (member part₁ w 0 y) (leaves p t q v y) both′) in
-                (x, left-read low q v may y m (and-right (member part₁ w 0 y) (leaves p t q v y) both′)),
+                (x, left-read low q v begun y m (and-right (member part₁ w 0 y) (leaves p t q v y) both′)),
             λ h.
-                let (m, z) = read-left low q v may y (h .1) in
+                let (m, z) = read-left low q v begun y (h .1) in
                 has ∙ and-intro (member part₁ w 0 y) (leaves p t q v y) (was ∙ from′ (h .0, m)) z,
           )) is)
 

@@ -1,3 +1,4 @@
 pub mod Entries
 pub mod Lessening
 pub mod Fitting
+pub mod Keeping

@@ -1,7 +1,7 @@
 -- Which letters of a value's letters a pattern leaves, argument by argument.
-use Prim.Native.Nat.{ℕ, _+_, _-_, _<_}
+use Prim.Native.Nat.{ℕ, _+_, _-_, _≤_, _<_}
 use mathlib.Core.Path.{_≡_}
-use mathlib.Core.Bool.{Bool, _&&_}
+use mathlib.Core.Bool.{Bool, true, false, _&&_}
 use mathlib.Core.List.{List}
 use lib.Dec.{eqb, ltb}
 use lib.ListN.{length, getD}
@@ -9,15 +9,21 @@ use Rattle.bits.specs.Bits.{member, Row}
 use Rattle.model.specs.declared.Sizes.{Sizes}
 use Rattle.model.specs.Limits.{maxDepth}
 use Rattle.model.specs.Index.{all, implies}
+use Rattle.model.specs.Words.{left}
 use Rattle.model.specs.Rows.{Program, program, tag, num, arity}
 use Rattle.model.specs.Letters.{row-head}
 use Rattle.model.specs.Tables.{Tables, tables, some-of}
-use Rattle.model.specs.Closed.{argument, subpattern, may-match}
+use Rattle.model.specs.Closed.{argument, subpattern, same-constructor, may-match, may-take}
 use Rattle.model.specs.Counters.{letter-count}
 use Rattle.lists.specs.Ready.{Ready}
-use Rattle.values.specs.Values.{width, Flow-sets}
-use Rattle.matching.specs.Patterns.{May-sets}
+use Rattle.values.specs.Values.{width}
+use Rattle.matching.specs.Patterns.{Fitting-sets}
 use Rattle.system_letters.specs.Letters.{Name-heads, letter-at, letter-width}
+use Rattle.rules.specs.Derived.{owner-at}
+
+-- may the pattern at row q match v? Of a constructor's only the constructor is asked.
+unfoldable pub begins : Program → Tables → ℕ → ℕ → Bool
+begins p t q v = elim (eqb (tag p q) 31) [ true ↦ same-constructor p q v | false ↦ may-take p t q v ]
 
 -- the value w has the head h, and the subpattern at row q may match it
 unfoldable pub value-fits : Program → Tables → ℕ → ℕ → ℕ → Bool
@@ -50,7 +56,7 @@ leaves-below p t i n q h y = implies (ltb (head-of p t i y) h) (leaves-argument 
 unfoldable pub leaves-first : Program → Tables → ℕ → ℕ → ℕ → ℕ → Bool
 leaves-first p t q v k y = all 0 k (λ i. leaves-argument p t i (argument p v i) (subpattern p maxDepth q i) y)
 
--- the pattern at row q leaves letter y of the value v, which it may match: only a constructor's asks anything
+-- the pattern at row q leaves letter y of the value v, with which it begins: only a constructor's asks anything
 unfoldable pub leaves : Program → Tables → ℕ → ℕ → ℕ → Bool
 leaves p t q v y = implies (eqb (tag p q) 31) (leaves-first p t q v (arity p (num p q)) y)
 
@@ -61,10 +67,19 @@ pub record Left (p : Program) (t : Tables) (passes : ℕ → Bool) (u u′ : Lis
   pub has : (y : ℕ) → y < letter-count p t →
       member u′ (letter-width p t) 0 y ≡ (member u (letter-width p t) 0 y && passes y)
 
--- the values of names, what patterns may match, and the heads of names
-pub record Match-tables (ws : List ℕ) (s : Sizes) (w : ℕ) (flows names : List ℕ) : Type 0 where
+-- the names with values that patterns may match, and the heads of names
+pub record Match-tables (ws : List ℕ) (s : Sizes) (w : ℕ) (fitting names : List ℕ) : Type 0 where
   pub ready : Ready ws s
-  pub flow-width : w ≡ width (s .rows)
-  pub flow-sets : Flow-sets (program ws s) (tables ws s) flows
-  pub may-sets : May-sets (program ws s) (tables ws s) flows
+  pub name-width : w ≡ width (s .names)
+  pub fitting-sets : Fitting-sets (program ws s) (tables ws s) fitting
   pub name-heads : Name-heads (program ws s) (tables ws s) names
+
+-- there is room for a set of letters for each state, and behind all sets for a word for each
+pub record Owners-room (p : Program) (t : Tables) (letters : List ℕ) : Type 0 where
+  pub room : owner-at p t (t .states .size) ≤ length letters
+
+-- the letters kept for state x are those of class c that the branch reads whose pattern stands at row q
+pub record Kept-for (p : Program) (t : Tables) (letters : List ℕ) (c q x : ℕ) : Type 0 where
+  pub low : x < t .states .size
+  pub class : left (t .states) x ≡ c
+  pub owner : getD letters (owner-at p t x) 0 ≡ q + 1

@@ -1,25 +1,26 @@
 // The letters that a send puts and that a branch reads, as sets.
-use lists::flow_from;
-use lists::flow_to;
 use lists::flow_value;
+use lists::has_flow;
 use lists::mail;
 use lists::mail_from;
 use lists::mail_to;
 use lists::mail_value;
 use lists::place;
+use lists::state_class;
 use lists::word;
 use model::MAX_ARITY;
 use model::OTHER_HEADS;
 use model::Sizes;
+use model::TAG_BUILD;
 use model::TAG_PATTERN_CONSTRUCTOR;
 use model::TAG_PATTERN_HELD;
+use positions::is_class;
 use program::rows::num;
 use program::rows::tag;
 use sets::clear;
 use sets::copy_into;
 use sets::holds;
 use sets::join_into;
-use sets::meets;
 use sets::take_from;
 use system_letters::letter_width;
 use system_letters::row_head;
@@ -27,23 +28,25 @@ ghost use mathlib.Core.Path.{_≡_};
 ghost use mathlib.Core.Bool.{true, _||_};
 ghost use mathlib.Core.Logic.{_⊎_};
 ghost use Prim.Native.Nat.{_+_, _-_, _*_, _≤_, _<_};
+ghost use lib.ListN.{length, getD, set};
 ghost use lib.Dec.{eqb};
-ghost use Rattle.bits.specs.Bits.{Row};
+ghost use Rattle.bits.specs.Bits.{Row, Filled};
+ghost use Rattle.model.specs.Words.{left};
 ghost use Rattle.model.specs.Demands.{Within-limits};
 ghost use Rattle.model.specs.Limits.{present, maxArity, maxDepth};
 ghost use Rattle.model.specs.Rows.{program, tag};
 ghost use Rattle.model.specs.Tables.{tables, has, each};
-ghost use Rattle.model.specs.Closed.{may-take};
+ghost use Rattle.model.specs.Closed.{same-constructor};
 ghost use Rattle.model.specs.Counters.{letters-allowed};
 ghost use Rattle.model.specs.Rules.{from-each, letters-read};
 ghost use Rattle.lists.specs.Lists.{Starts};
 ghost use Rattle.lists.specs.Ready.{Ready};
 ghost use Rattle.positions.specs.Positions.{Ends};
-ghost use Rattle.values.specs.Values.{width};
-ghost use Rattle.matching.specs.Patterns.{Pattern, May-sets};
-ghost use Rattle.system_letters.specs.Letters.{Class-letters, letter-width, digits, Letter-sets, Found};
-ghost use Rattle.pattern_letters.specs.Picked.{value-fits, head-fits, has-head, leaves-argument, leaves, Left};
-ghost use Rattle.pattern_letters.specs.Picked.{Match-tables};
+ghost use Rattle.matching.specs.Patterns.{Pattern, equals-some};
+ghost use Rattle.system_letters.specs.Letters.{Name-heads, Class-letters, letter-width, digits, Letter-sets, Found};
+ghost use Rattle.pattern_letters.specs.Picked.{begins, head-fits, has-head, leaves-argument, leaves, Left};
+ghost use Rattle.pattern_letters.specs.Picked.{Match-tables, Owners-room, Kept-for};
+ghost use Rattle.rules.specs.Derived.{owner-at, Reads};
 
 // The set of the letters whose argument i has the head h: digit 0 of a letter is its number.
 fn argument_set(s: Sizes, i: usize, h: usize) -> usize
@@ -112,85 +115,93 @@ fn asks(ws: &[u16], s: Sizes, q: usize) -> bool
     }
 }
 
-// May the pattern of a branch, at row q, match the value v?
-fn may_take(ws: &[u16], s: Sizes, w: usize, flows: &[u64], q: usize, v: usize) -> bool
+// Is v a build row of the constructor of the pattern at row q?
+fn same_constructor(ws: &[u16], s: Sizes, q: usize, v: usize) -> bool
     requires { ⌜ Ready (now ws) s ⌝ }
-    requires { ⌜ (w ≡ width (s .rows)) × May-sets (program (now ws) s) (tables (now ws) s) (now flows) ⌝ }
-    requires { ⌜ Pattern (program (now ws) s) maxDepth q ⌝ }
     requires { ⌜ v ≤ s .rows ⌝ }
-    ensures { λ b. ⌜ b ≡ may-take (program (now (ws .entry)) s) (tables (now (ws .entry)) s) q v ⌝ }
+    ensures { λ b. ⌜ b ≡ same-constructor (program (now (ws .entry)) s) q v ⌝ }
 {
-    if asks(ws, s, q) {
-        holds(flows, w, s.names + q, v)
-    } else {
-        true
-    }
-}
-
-// Has the value v the head h, and may the held name at row q match it?
-fn value_fits(ws: &[u16], s: Sizes, w: usize, flows: &[u64], q: usize, h: usize, v: usize) -> bool
-    requires { ⌜ Ready (now ws) s ⌝ }
-    requires { ⌜ (w ≡ width (s .rows)) × May-sets (program (now ws) s) (tables (now ws) s) (now flows) ⌝ }
-    requires { ⌜ Pattern (program (now ws) s) (maxDepth - 1) q × (tag (program (now ws) s) q ≡ 33) ⌝ }
-    requires { ⌜ v ≤ s .rows ⌝ }
-    ensures { λ b. ⌜ b ≡ value-fits (program (now (ws .entry)) s) (tables (now (ws .entry)) s) q h v ⌝ }
-{
-    if row_head(ws, s, v) == h {
-        holds(flows, w, s.names + q, v)
+    if tag(ws, s, v) == TAG_BUILD {
+        num(ws, s, v + 1) == num(ws, s, q)
     } else {
         false
     }
 }
 
-// Has the name n a value with the head h that the held name at row q may match? Looked for among all its values.
-fn some_fits(ws: &[u16], s: Sizes, w: usize, flows: &[u64], n: usize, q: usize, h: usize) -> bool
+// May v be equal to a value of the name k? A class is one of them; of what is built one of the same constructor is.
+fn equals_some(ws: &[u16], s: Sizes, names: &[u64], k: usize, v: usize) -> bool
     requires { ⌜ Ready (now ws) s ⌝ }
-    requires { ⌜ (w ≡ width (s .rows)) × May-sets (program (now ws) s) (tables (now ws) s) (now flows) ⌝ }
-    requires { ⌜ Pattern (program (now ws) s) (maxDepth - 1) q × (tag (program (now ws) s) q ≡ 33) ⌝ }
-    requires { ⌜ n < s .names ⌝ }
-    ensures { λ b. ⌜ b ≡ head-fits (program (now (ws .entry)) s) (tables (now (ws .entry)) s) n q h ⌝ }
+    requires { ⌜ Name-heads (program (now ws) s) (tables (now ws) s) (now names) ⌝ }
+    requires { ⌜ k < s .names ⌝ }
+    ensures { λ b. ⌜ b ≡ equals-some (program (now (ws .entry)) s) (tables (now (ws .entry)) s) k v ⌝ }
 {
-    let from = flow_from(ws, s, n);
-    let to = flow_to(ws, s, n);
-    for j in from..to {
-        let v = flow_value(ws, s, j);
-        if value_fits(ws, s, w, flows, q, h, v) {
-            return true;
-        }
+    if is_class(ws, s, v) {
+        return has_flow(ws, s, k, v);
     }
-    false
+    if tag(ws, s, v) != TAG_BUILD {
+        return false;
+    }
+    let h = row_head(ws, s, v);
+    holds(names, 2, k, h)
 }
 
-// Has the name n, which has a value with the head h, one that the subpattern at row q may match? A constructor has one
-// head; a held name may match each value of a constructor that it has a value of, and for other heads values are looked
-// at.
+// May the pattern of a branch, at row q, match the value v? Of a constructor's only the constructor is asked: where no
+// value of an argument fits, no letter is left.
+fn begins(ws: &[u16], s: Sizes, names: &[u64], q: usize, v: usize) -> bool
+    requires { ⌜ Ready (now ws) s ⌝ }
+    requires { ⌜ Name-heads (program (now ws) s) (tables (now ws) s) (now names) ⌝ }
+    requires { ⌜ Pattern (program (now ws) s) maxDepth q ⌝ }
+    requires { ⌜ v ≤ s .rows ⌝ }
+    ensures { λ b. ⌜ b ≡ begins (program (now (ws .entry)) s) (tables (now (ws .entry)) s) q v ⌝ }
+{
+    let kind = tag(ws, s, q);
+    if kind == TAG_PATTERN_CONSTRUCTOR {
+        return same_constructor(ws, s, q, v);
+    }
+    if kind == TAG_PATTERN_HELD {
+        let k = num(ws, s, q);
+        return equals_some(ws, s, names, k, v);
+    }
+    true
+}
+
+// Has the name n, which has a value with the head h, one with it that the subpattern at row q may match? A constructor
+// has one head; a held name may match each value of a constructor that it has a value of, no function, and classes of
+// its own.
 fn head_fits(
     ws: &[u16],
     s: Sizes,
     w: usize,
-    flows: &[u64],
+    fitting: &[u64],
     names: &[u64],
     n: usize,
     q: usize,
     h: usize,
 ) -> bool
-    requires { ⌜ Match-tables (now ws) s w (now flows) (now names) ⌝ }
+    requires { ⌜ Match-tables (now ws) s w (now fitting) (now names) ⌝ }
     requires { ⌜ Pattern (program (now ws) s) (maxDepth - 1) q ⌝ }
     requires { ⌜ (tag (program (now ws) s) q ≡ 31) ⊎ (tag (program (now ws) s) q ≡ 33) ⌝ }
-    requires { ⌜ (n < s .names) × (has-head (program (now ws) s) (tables (now ws) s) n h ≡ true) ⌝ }
+    requires { ⌜ (n < s .names) × (h < s .constructors + 2) ⌝ }
+    requires { ⌜ has-head (program (now ws) s) (tables (now ws) s) n h ≡ true ⌝ }
     ensures { λ b. ⌜ b ≡ head-fits (program (now (ws .entry)) s) (tables (now (ws .entry)) s) n q h ⌝ }
 {
     let k = num(ws, s, q);
     if tag(ws, s, q) == TAG_PATTERN_CONSTRUCTOR {
-        if h == k {
-            return meets(flows, flows, w, n, s.names + q);
+        if h != k {
+            return false;
         }
-        return false;
+        if num(ws, s, k) == 0 {
+            return true;
+        }
+        return holds(fitting, w, q, n);
     }
     if h < s.constructors {
         return holds(names, 2, k, h);
     }
-    some_fits(ws, s, w, flows, n, q, h)
+    if h == s.constructors {
+        return false;
+    }
+    holds(fitting, w, q, n)
 }
 
 // Takes the letters from part whose argument i, of the name n, has a head that the subpattern at row q may not match.
@@ -198,7 +209,7 @@ fn leave_argument(
     ws: &[u16],
     s: Sizes,
     w: usize,
-    flows: &[u64],
+    fitting: &[u64],
     names: &[u64],
     letters: &[u64],
     words: usize,
@@ -207,7 +218,7 @@ fn leave_argument(
     q: usize,
     part: &mut [u64],
 )
-    requires { ⌜ Match-tables (now ws) s w (now flows) (now names) ⌝ }
+    requires { ⌜ Match-tables (now ws) s w (now fitting) (now names) ⌝ }
     requires { ⌜ Letter-sets (program (now ws) s) (tables (now ws) s) (now letters) ⌝ }
     requires { ⌜ words ≡ letter-width (program (now ws) s) (tables (now ws) s) ⌝ }
     requires { ⌜ (i < maxArity) × (n < s .names) ⌝ }
@@ -224,7 +235,7 @@ fn leave_argument(
         if !holds(names, 2, n, h) {
             continue;
         }
-        if head_fits(ws, s, w, flows, names, n, q, h) {
+        if head_fits(ws, s, w, fitting, names, n, q, h) {
             continue;
         }
         let set = argument_set(s, i, h);
@@ -232,13 +243,13 @@ fn leave_argument(
     }
 }
 
-// Takes the letters of the value v from part that the pattern at row q, which may match v, does not leave.
+// Takes the letters of the value v, with whose constructor the pattern at row q begins, from part that it does not leave.
 fn leave_letters(
     ws: &[u16],
     s: Sizes,
     afters: &[u16],
     w: usize,
-    flows: &[u64],
+    fitting: &[u64],
     names: &[u64],
     letters: &[u64],
     words: usize,
@@ -246,12 +257,12 @@ fn leave_letters(
     v: usize,
     part: &mut [u64],
 )
-    requires { ⌜ Match-tables (now ws) s w (now flows) (now names) ⌝ }
+    requires { ⌜ Match-tables (now ws) s w (now fitting) (now names) ⌝ }
     requires { ⌜ Ends (program (now ws) s) (now afters) ⌝ }
     requires { ⌜ Letter-sets (program (now ws) s) (tables (now ws) s) (now letters) ⌝ }
     requires { ⌜ words ≡ letter-width (program (now ws) s) (tables (now ws) s) ⌝ }
     requires { ⌜ Pattern (program (now ws) s) maxDepth q ⌝ }
-    requires { ⌜ may-take (program (now ws) s) (tables (now ws) s) q v ≡ true ⌝ }
+    requires { ⌜ begins (program (now ws) s) (tables (now ws) s) q v ≡ true ⌝ }
     requires { ⌜ Row (now part) words 0 ⌝ }
     ensures { λ _. ⌜ Left (program (now (ws .entry)) s) (tables (now (ws .entry)) s)
         (leaves (program (now (ws .entry)) s) (tables (now (ws .entry)) s) q v) (now (part .entry))
@@ -265,7 +276,7 @@ fn leave_letters(
     let mut sub = q + 1;
     for i in 0..arity {
         let name = num(ws, s, v + 2 + i);
-        leave_argument(ws, s, w, flows, names, letters, words, i, name, sub, part);
+        leave_argument(ws, s, w, fitting, names, letters, words, i, name, sub, part);
         sub = word(afters, sub);
     }
 }
@@ -277,7 +288,7 @@ pub fn read_letters(
     s: Sizes,
     afters: &[u16],
     w: usize,
-    flows: &[u64],
+    fitting: &[u64],
     names: &[u64],
     letter_at: &[u16],
     letters: &[u64],
@@ -286,7 +297,7 @@ pub fn read_letters(
     part: &mut [u64],
     found: &mut [u64],
 )
-    requires { ⌜ Match-tables (now ws) s w (now flows) (now names) ⌝ }
+    requires { ⌜ Match-tables (now ws) s w (now fitting) (now names) ⌝ }
     requires { ⌜ Ends (program (now ws) s) (now afters) ⌝ }
     requires { ⌜ Class-letters (program (now ws) s) (tables (now ws) s) (now «letter_at») ⌝ }
     requires { ⌜ Letter-sets (program (now ws) s) (tables (now ws) s) (now letters) ⌝ }
@@ -305,12 +316,182 @@ pub fn read_letters(
     let to = mail_to(ws, s, c);
     for j in from..to {
         let v = mail_value(ws, s, j);
-        if !may_take(ws, s, w, flows, q, v) {
+        if !begins(ws, s, names, q, v) {
             continue;
         }
         let allowed = entry_set(s, j);
         copy_into(part, letters, words, 0, allowed);
-        leave_letters(ws, s, afters, w, flows, names, letters, words, q, v, part);
+        leave_letters(ws, s, afters, w, fitting, names, letters, words, q, v, part);
         join_into(found, part, words, 0, 0);
+    }
+}
+
+// The set of letters that is kept for state x, behind those of all digits and mail entries.
+fn read_set(s: Sizes, x: usize) -> usize
+    requires { ⌜ Within-limits present s ⌝ }
+    requires { ⌜ x ≤ s .states ⌝ }
+    ensures { λ n. ⌜ n ≡ digits * (s .constructors + 2) + s .mails + x ⌝ }
+{
+    (MAX_ARITY + 1) * (s.constructors + OTHER_HEADS) + s.mails + x
+}
+
+// Where it stands whose letters are kept for state x; a set of letters has so many words.
+fn owner_at(ws: &[u16], s: Sizes, letters: &[u64], words: usize, x: usize) -> usize
+    requires { ⌜ Ready (now ws) s ⌝ }
+    requires { ⌜ Owners-room (program (now ws) s) (tables (now ws) s) (now letters) ⌝ }
+    requires { ⌜ words ≡ letter-width (program (now ws) s) (tables (now ws) s) ⌝ }
+    requires { ⌜ x < s .states ⌝ }
+    ensures { λ n. ⌜ (n ≡ owner-at (program (now (ws .entry)) s) (tables (now (ws .entry)) s) x) ×
+        (n < length (now (letters .entry))) ⌝ }
+{
+    let sets = read_set(s, s.states);
+    sets * words + x
+}
+
+// Are the letters that are kept for state x those of class c that the branch reads whose pattern stands at row q?
+fn is_kept(
+    ws: &[u16],
+    s: Sizes,
+    letter_at: &[u16],
+    letters: &[u64],
+    c: usize,
+    q: usize,
+    x: usize,
+) -> bool
+    requires { ⌜ Ready (now ws) s ⌝ }
+    requires { ⌜ Class-letters (program (now ws) s) (tables (now ws) s) (now «letter_at») ⌝ }
+    requires { ⌜ Reads (program (now ws) s) (tables (now ws) s) (now letters) ⌝ }
+    requires { ⌜ q < s .rows ⌝ }
+    ensures { λ b. ⌜ (b ≡ true → Kept-for (program (now (ws .entry)) s) (tables (now (ws .entry)) s)
+        (now (letters .entry)) c q x) ⌝ }
+{
+    if x >= s.states {
+        return false;
+    }
+    if state_class(ws, s, x) != c {
+        return false;
+    }
+    let words = letter_width(ws, s, letter_at);
+    let at = owner_at(ws, s, letters, words, x);
+    let owner = (q + 1) as u64;
+    letters[at] == owner
+}
+
+// The letters of class c that the branch whose pattern stands at row q reads, and that leads to state x: those that are
+// kept for that state, where they are this branch's, else derived.
+pub fn branch_letters(
+    ws: &[u16],
+    s: Sizes,
+    afters: &[u16],
+    w: usize,
+    fitting: &[u64],
+    names: &[u64],
+    letter_at: &[u16],
+    letters: &[u64],
+    c: usize,
+    q: usize,
+    x: usize,
+    part: &mut [u64],
+    found: &mut [u64],
+)
+    requires { ⌜ Match-tables (now ws) s w (now fitting) (now names) ⌝ }
+    requires { ⌜ Ends (program (now ws) s) (now afters) ⌝ }
+    requires { ⌜ Class-letters (program (now ws) s) (tables (now ws) s) (now «letter_at») ⌝ }
+    requires { ⌜ Letter-sets (program (now ws) s) (tables (now ws) s) (now letters) ⌝ }
+    requires { ⌜ Reads (program (now ws) s) (tables (now ws) s) (now letters) ⌝ }
+    requires { ⌜ c ≤ s .rows ⌝ }
+    requires { ⌜ Pattern (program (now ws) s) maxDepth q ⌝ }
+    requires { ⌜ Row (now part) (letter-width (program (now ws) s) (tables (now ws) s)) 0 ⌝ }
+    requires { ⌜ Row (now found) (letter-width (program (now ws) s) (tables (now ws) s)) 0 ⌝ }
+    ensures { λ _. ⌜ Found (program (now (ws .entry)) s) (tables (now (ws .entry)) s) c
+        (from-each (tables (now (ws .entry)) s .mail) c
+        (letters-read (program (now (ws .entry)) s) (tables (now (ws .entry)) s) q))
+        (now (found .exit)) ⌝ }
+{
+    if is_kept(ws, s, letter_at, letters, c, q, x) {
+        let words = letter_width(ws, s, letter_at);
+        let set = read_set(s, x);
+        copy_into(found, letters, words, 0, set);
+        return;
+    }
+    read_letters(
+        ws,
+        s,
+        afters,
+        w,
+        fitting,
+        names,
+        letter_at,
+        letters,
+        c,
+        q,
+        part,
+        found,
+    );
+}
+
+// Puts the words of a set into another table, from word p on.
+fn put_words(found: &[u64], words: usize, p: usize, letters: &mut [u64])
+    requires { ⌜ words ≤ length (now found) ⌝ }
+    requires { ⌜ p + words ≤ length (now letters) ⌝ }
+    ensures { λ _. ⌜ Filled (now (letters .entry)) (now (letters .exit)) p words
+        (λ j. getD (now (found .entry)) j 0) ⌝ }
+{
+    for z in 0..words {
+        let i = p + z;
+        letters[i] = found[z];
+    }
+}
+
+// Puts one word.
+fn put_word(letters: &mut [u64], at: usize, word: u64)
+    requires { ⌜ at < length (now letters) ⌝ }
+    ensures { λ _. ⌜ now (letters .exit) ≡ set (now (letters .entry)) at word ⌝ }
+{
+    letters[at] = word;
+}
+
+// Keeps the letters found for state x: those of its class that the branch reads whose pattern stands at row q.
+pub fn keep_letters(
+    ws: &[u16],
+    s: Sizes,
+    letter_at: &[u16],
+    c: usize,
+    q: usize,
+    x: usize,
+    found: &[u64],
+    letters: &mut [u64],
+)
+    requires { ⌜ Ready (now ws) s ⌝ }
+    requires { ⌜ Class-letters (program (now ws) s) (tables (now ws) s) (now «letter_at») ⌝ }
+    requires { ⌜ Letter-sets (program (now ws) s) (tables (now ws) s) (now letters) ⌝ }
+    requires { ⌜ Reads (program (now ws) s) (tables (now ws) s) (now letters) ⌝ }
+    requires { ⌜ (x < s .states) × (left (tables (now ws) s .states) x ≡ c) × (q < s .rows) ⌝ }
+    requires { ⌜ Found (program (now ws) s) (tables (now ws) s) c
+        (from-each (tables (now ws) s .mail) c (letters-read (program (now ws) s) (tables (now ws) s) q))
+        (now found) ⌝ }
+    ensures { λ _. ⌜ Letter-sets (program (now (ws .entry)) s) (tables (now (ws .entry)) s) (now (letters .exit)) ⌝ }
+    ensures { λ _. ⌜ Reads (program (now (ws .entry)) s) (tables (now (ws .entry)) s) (now (letters .exit)) ⌝ }
+{
+    let words = letter_width(ws, s, letter_at);
+    let set = read_set(s, x);
+    let at = owner_at(ws, s, letters, words, x);
+    put_words(found, words, set * words, letters);
+    put_word(letters, at, (q + 1) as u64);
+}
+
+// Says of each state that nothing is kept for it.
+pub fn forget_letters(ws: &[u16], s: Sizes, letter_at: &[u16], letters: &mut [u64])
+    requires { ⌜ Ready (now ws) s ⌝ }
+    requires { ⌜ Class-letters (program (now ws) s) (tables (now ws) s) (now «letter_at») ⌝ }
+    requires { ⌜ Letter-sets (program (now ws) s) (tables (now ws) s) (now letters) ⌝ }
+    requires { ⌜ Owners-room (program (now ws) s) (tables (now ws) s) (now letters) ⌝ }
+    ensures { λ _. ⌜ Letter-sets (program (now (ws .entry)) s) (tables (now (ws .entry)) s) (now (letters .exit)) ⌝ }
+    ensures { λ _. ⌜ Reads (program (now (ws .entry)) s) (tables (now (ws .entry)) s) (now (letters .exit)) ⌝ }
+{
+    let words = letter_width(ws, s, letter_at);
+    for x in 0..s.states {
+        let at = owner_at(ws, s, letters, words, x);
+        put_word(letters, at, 0);
     }
 }

@@ -19,9 +19,9 @@ name-sets = (maxNames + 1) * set-words
 abbrev pub row-sets : ℕ
 row-sets = maxRows * set-words
 
--- a set for each name, and for each row
-abbrev pub flow-sets : ℕ
-flow-sets = (maxNames + maxRows) * set-words
+-- a set of names for each row
+abbrev pub fitting-sets : ℕ
+fitting-sets = maxRows * (maxNames / 64 + 1)
 
 -- the number of each letter, and room for one that is too many
 abbrev pub letter-codes : ℕ

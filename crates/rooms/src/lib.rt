@@ -11,7 +11,7 @@ use model::MAX_WORDS;
 use model::OTHER_HEADS;
 ghost use Rattle.model.specs.Message.{maxWords};
 ghost use Rattle.rooms.specs.Cleared.{Cleared};
-ghost use Rattle.rooms.specs.Rooms.{row-room, name-sets, row-sets, flow-sets};
+ghost use Rattle.rooms.specs.Rooms.{row-room, name-sets, row-sets, fitting-sets};
 ghost use Rattle.rooms.specs.Rooms.{letter-codes, letter-sets, counter-masks, holder-masks, limit-room};
 
 // specs/Rooms.antt says what each of these is for.
@@ -23,7 +23,7 @@ const NAME_SETS: usize = (MAX_NAMES + 1) * SET_WORDS;
 
 const ROW_SETS: usize = MAX_ROWS * SET_WORDS;
 
-const FLOW_SETS: usize = (MAX_NAMES + MAX_ROWS) * SET_WORDS;
+const FITTING_SETS: usize = MAX_ROWS * (MAX_NAMES / 64 + 1);
 
 const LETTER_CODES: usize = MAX_COUNTERS + 1;
 
@@ -110,12 +110,6 @@ pub fn words64_1285() -> [u64; 1285]
     [0; 1285]
 }
 
-pub fn words64_2560() -> [u64; 2560]
-    ensures { λ r. ⌜ Cleared 2560 r ⌝ }
-{
-    [0; 2560]
-}
-
 // A word for each row, and two behind them.
 pub fn row_words16() -> [u16; ROW_ROOM]
     ensures { λ r. ⌜ Cleared row-room r ⌝ }
@@ -144,11 +138,11 @@ pub fn row_sets() -> [u64; ROW_SETS]
     [0; ROW_SETS]
 }
 
-// A set of values for each name and for each row.
-pub fn flow_sets() -> [u64; FLOW_SETS]
-    ensures { λ r. ⌜ Cleared flow-sets r ⌝ }
+// A set of names for each row.
+pub fn fitting_sets() -> [u64; FITTING_SETS]
+    ensures { λ r. ⌜ Cleared fitting-sets r ⌝ }
 {
-    [0; FLOW_SETS]
+    [0; FITTING_SETS]
 }
 
 // A number for each letter, and one more.

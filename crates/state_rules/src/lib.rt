@@ -17,7 +17,7 @@ use model::TAG_SEND;
 use model::TAG_SPAWN;
 use onward::called;
 use onward::onward;
-use pattern_letters::read_letters;
+use pattern_letters::branch_letters;
 use pattern_letters::sent_letters;
 use positions::body;
 use positions::branch_body;
@@ -47,7 +47,7 @@ ghost use Rattle.model.specs.Rules.{state-rules};
 ghost use Rattle.positions.specs.Positions.{Ends};
 ghost use Rattle.rules.specs.Listed.{kind-effect, State-rules};
 ghost use Rattle.rules.specs.Added.{Added};
-ghost use Rattle.rules.specs.Derived.{Rule-room, Rule-tables};
+ghost use Rattle.rules.specs.Derived.{Rule-room, Reads, Rule-tables};
 ghost use Rattle.lists.specs.Lists.{Starts};
 ghost use Rattle.system_letters.specs.Letters.{Class-letters, Letter-sets};
 ghost use Rattle.lists.specs.Ready.{Ready};
@@ -357,7 +357,7 @@ fn receive_rules(
     s: Sizes,
     afters: &[u16],
     w: usize,
-    flows: &[u64],
+    fitting: &[u64],
     names: &[u64],
     letter_at: &[u16],
     letters: &[u64],
@@ -372,12 +372,13 @@ fn receive_rules(
     requires { ⌜ Ends (program (now ws) s) (now afters) ⌝ }
     requires { ⌜ Class-letters (program (now ws) s) (tables (now ws) s) (now «letter_at») ⌝ }
     requires { ⌜ Letter-sets (program (now ws) s) (tables (now ws) s) (now letters) ⌝ }
+    requires { ⌜ Reads (program (now ws) s) (tables (now ws) s) (now letters) ⌝ }
     requires { ⌜ Branch-bits (program (now ws) s) (tables (now ws) s) (now branches) ⌝ }
     requires { ⌜ tag (program (now ws) s) r ≡ 9 ⌝ }
     requires { ⌜ (i < s .states) × (r ≡ right (tables (now ws) s .states) i) ⌝ }
     requires { ⌜ Rule-room (now ws) s (now tos) (now others) ⌝ }
     requires { ⌜ counter-count (program (now ws) s) (tables (now ws) s) ≤ maxCounters ⌝ }
-    requires { ⌜ Match-tables (now ws) s w (now flows) (now names) ⌝ }
+    requires { ⌜ Match-tables (now ws) s w (now fitting) (now names) ⌝ }
     ensures { λ n. ⌜ Added receive (now (tos .entry)) (now (others .entry)) 0 (now (tos .exit)) (now (others .exit)) n
         (λ e. state-rules (program (now (ws .entry)) s) (tables (now (ws .entry)) s) e
         (state-at (tables (now (ws .entry)) s) i)) ⌝ }
@@ -397,17 +398,18 @@ fn receive_rules(
         if !may_match(branches, i, b) {
             continue;
         }
-        read_letters(
+        branch_letters(
             ws,
             s,
             afters,
             w,
-            flows,
+            fitting,
             names,
             letter_at,
             letters,
             c,
             row,
+            here as usize,
             &mut part,
             &mut found,
         );
@@ -424,7 +426,7 @@ pub fn state_rules(
     afters: &[u16],
     flow_at: &[u16],
     w: usize,
-    flows: &[u64],
+    fitting: &[u64],
     names: &[u64],
     letter_at: &[u16],
     letters: &[u64],
@@ -434,7 +436,7 @@ pub fn state_rules(
     tos: &mut [u16],
     others: &mut [u16],
 ) -> usize
-    requires { ⌜ Rule-tables (now ws) s (now afters) (now «flow_at») w (now flows) (now names) (now «letter_at»)
+    requires { ⌜ Rule-tables (now ws) s (now afters) (now «flow_at») w (now fitting) (now names) (now «letter_at»)
         (now letters) (now branches) ⌝ }
     requires { ⌜ i < s .states ⌝ }
     requires { ⌜ Rule-room (now ws) s (now tos) (now others) ⌝ }
@@ -465,7 +467,7 @@ pub fn state_rules(
             s,
             afters,
             w,
-            flows,
+            fitting,
             names,
             letter_at,
             letters,

@@ -96,7 +96,7 @@ fn write_rules(
     afters: &[u16],
     flow_at: &[u16],
     w: usize,
-    flows: &[u64],
+    fitting: &[u64],
     names: &[u64],
     letter_at: &[u16],
     letters: &[u64],
@@ -105,7 +105,7 @@ fn write_rules(
     tos: &mut [u16],
     others: &mut [u16],
 ) -> usize
-    requires { ⌜ Rule-tables (now ws) s (now afters) (now «flow_at») w (now flows) (now names) (now «letter_at»)
+    requires { ⌜ Rule-tables (now ws) s (now afters) (now «flow_at») w (now fitting) (now names) (now «letter_at»)
         (now letters) (now branches) ⌝ }
     requires { ⌜ Rule-room (now ws) s (now tos) (now others) ⌝ }
     requires { ⌜ Room (now out) n 0 (lines (rules (program (now ws) s) (tables (now ws) s))) ⌝ }
@@ -122,7 +122,7 @@ fn write_rules(
             afters,
             flow_at,
             w,
-            flows,
+            fitting,
             names,
             letter_at,
             letters,
@@ -161,7 +161,7 @@ pub fn write_listing(
     afters: &[u16],
     flow_at: &[u16],
     w: usize,
-    flows: &[u64],
+    fitting: &[u64],
     names: &[u64],
     letter_at: &[u16],
     letters: &[u64],
@@ -170,7 +170,7 @@ pub fn write_listing(
     tos: &mut [u16],
     others: &mut [u16],
 )
-    requires { ⌜ Rule-tables (now ws) s (now afters) (now «flow_at») w (now flows) (now names) (now «letter_at»)
+    requires { ⌜ Rule-tables (now ws) s (now afters) (now «flow_at») w (now fitting) (now names) (now «letter_at»)
         (now letters) (now branches) ⌝ }
     requires { ⌜ Rule-room (now ws) s (now tos) (now others) ⌝ }
     requires { ⌜ n ≡ counted (rules (program (now ws) s) (tables (now ws) s)) ⌝ }
@@ -190,7 +190,7 @@ pub fn write_listing(
         afters,
         flow_at,
         w,
-        flows,
+        fitting,
         names,
         letter_at,
         letters,

@@ -35,7 +35,7 @@ pub fn hostile() -> Result<Vec<Sample>, String> {
             "letters-branches",
             "31 receives of 16 branches that each take any of 484 letters, 240,064 rules",
             0,
-            branches(),
+            branches(bounds::one),
         )?,
         sample(
             "letters-deep",
@@ -180,7 +180,7 @@ fn nested(list: &mut RowList, receives: usize, last: usize, branch: impl Fn(&mut
 }
 
 /// Branches that take any message, over the letters of one pair.
-fn branches() -> Result<Vec<u8>, String> {
+pub fn branches(bounds: impl Bounds) -> Result<Vec<u8>, String> {
     let mut list = RowList::default();
     let (unused, params) = front(&mut list, &[2], 22, 2);
     build(&mut list, 0, &params);
@@ -190,7 +190,7 @@ fn branches() -> Result<Vec<u8>, String> {
         params.iter().for_each(|&param| plain(program).for_each(|b| insert(tables, param, b)));
         mail(program, tables, 0);
     };
-    Rows { list, constructors: 23, functions: 1 }.finish(extra, bounds::one)
+    Rows { list, constructors: 23, functions: 1 }.finish(extra, bounds)
 }
 
 /// Patterns four deep: a pair of a box of a box of anything, or of a held name. The messages have names of their own, each

@@ -8,6 +8,7 @@ pub mod held;
 pub mod honest;
 pub mod letters;
 pub mod long;
+pub mod places;
 pub mod rows;
 pub mod sends;
 pub mod sums;
@@ -37,6 +38,7 @@ pub fn hostile() -> Result<Vec<Sample>, String> {
         held::hostile()?,
         sends::hostile()?,
         letters::hostile()?,
+        places::hostile()?,
         long::hostile()?,
     ];
     Ok(kinds.into_iter().flatten().collect())

@@ -20,11 +20,11 @@ use Rattle.ceilings_leaks.proofs.fill_groups.Statement.{statement}
 use Rattle.ceilings_leaks.proofs.fill_groups.Tie as tie
 
 abbrev Inv-loop : tie.InvT-loop
-Inv-loop ws s afters flow-at w flows names letter-at letters branches n limits starts holders unbounded spare at₀ tos₀ others₀ first-at₀ group₀ boundless kept₀ rules₀ rows₀ i₀ i-end at tos others first-at group kept rules rows i =
+Inv-loop ws s afters flow-at w fitting names letter-at letters branches n limits starts holders unbounded spare at₀ tos₀ others₀ first-at₀ group₀ boundless kept₀ rules₀ rows₀ i₀ i-end at tos others first-at group kept rules rows i =
     Groups-upto (program ws s) (tables ws s) limits (s .ceilings) n i group × Summed (program ws s) (tables ws s) i rules rows × Walk at₀ tos₀ others₀ at tos others × (i ≤ s .states) × (length group ≡ length group₀) × Kept-rules (program ws s) (tables ws s) i kept first-at tos others × (kept .used ≤ spare) × (kept .all ≡ true → s .states < length first-at) × (length first-at ≡ length first-at₀)
 
 abbrev μ-loop : tie.MeasureT-loop
-μ-loop ws s afters flow-at w flows names letter-at letters branches n limits starts holders unbounded spare at₀ tos₀ others₀ first-at₀ group₀ boundless kept₀ rules₀ rows₀ i₀ i-end at tos others first-at group kept rules rows i = s .states - i
+μ-loop ws s afters flow-at w fitting names letter-at letters branches n limits starts holders unbounded spare at₀ tos₀ others₀ first-at₀ group₀ boundless kept₀ rules₀ rows₀ i₀ i-end at tos others first-at group kept rules rows i = s .states - i
 
 is-boundless-requires : tie.Need-is-boundless-requires Inv-loop μ-loop
 is-boundless-requires c κs = c .before .before .before .before .before .before .before .before .before .before .before .before .before .before .before .before .before .pre .1 .0 .held-by .unbounded-room

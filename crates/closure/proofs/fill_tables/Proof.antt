@@ -1,9 +1,5 @@
 use native.Mathlib.Omega.{arith}
 use borrow.Author.Needs.{needs}
-use Rattle.model.specs.Words.{columns}
-use Rattle.model.specs.Rows.{program}
-use Rattle.matching.proofs.Filling.{same-room}
-use Rattle.matching.proofs.Kept.{kept-flow, kept-may, fewer-room}
 use Rattle.closure.proofs.fill_tables.Statement.{statement}
 use Rattle.closure.proofs.fill_tables.Tie as tie
 
@@ -11,7 +7,7 @@ fill-starts-requires : tie.Need-fill-starts-requires
 fill-starts-requires c κs = search needs
 
 fill-flow-requires : tie.Need-fill-flow-requires
-fill-flow-requires c κs = (c .before .before .before .before .before .before .before .before .before .before .before .before .before .before .pre .0, (c .before .before .before .before .before .before .before .before .before .before .before .before .before .before .pre .1 .1 .1 .flow-empty, fewer-room (omega arith) (c .before .before .before .before .before .before .before .before .before .before .before .before .before .before .pre .1 .1 .1 .flow-room)))
+fill-flow-requires c κs = search needs
 
 fill-mail-requires : tie.Need-fill-mail-requires
 fill-mail-requires c κs = search needs
@@ -22,11 +18,8 @@ fill-builds-requires c κs = search needs
 fill-patterns-requires : tie.Need-fill-patterns-requires
 fill-patterns-requires c κs = (c .before .before .before .before .before .before .before .before .before .before .before .before .before .before .before .before .before .before .before .before .before .before .before .before .before .before .before .before .before .before .before .before .before .pre .0, (c .before .before .before .before .before .before .before .before .before .before .before .before .before .before .before .before .before .before .before .before .before .before .before .before .before .before .before .before .before .before .before .before .before .pre .1 .0, (c .before .before .before .before .before .before .before .before .before .before .before .before .before .before .before .before .before .before .fill-flow .ensures, (c .before .before .before .before .before .before .before .before .before .fill-builds .ensures, ((c .before .before .before .before .before .before .before .before .before .before .before .before .before .before .before .before .before .before .before .before .before .before .before .before .before .before .before .before .before .before .before .before .before .pre .1 .1 .1 .may-room, c .before .before .before .before .before .before .before .before .before .before .before .before .before .before .before .before .before .before .before .before .before .before .before .before .before .before .before .before .before .before .before .before .before .pre .1 .1 .1 .held-room), (c .before .before .before .before .before .before .before .before .before .before .before .before .before .before .before .before .before .before .before .before .before .before .before .before .before .before .before .before .before .before .before .before .before .pre .1 .1 .1 .may-empty, c .before .before .before .before .before .before .before .before .before .before .before .before .before .before .before .before .before .before .before .before .before .before .before .before .before .before .before .before .before .before .before .before .before .pre .1 .1 .1 .held-empty))))))
 
-keep-patterns-requires : tie.Need-keep-patterns-requires
-keep-patterns-requires c κs = (c .before .before .before .before .before .before .before .before .before .before .before .before .before .before .before .before .before .before .before .before .before .before .before .before .before .before .before .before .before .before .before .before .before .before .before .before .before .before .before .before .pre .0, (same-room _ _ (search needs) (c .before .before .before .before .before .before .before .before .before .before .before .before .before .before .before .before .before .before .before .before .before .before .before .before .before .before .before .before .before .before .before .before .before .before .before .before .before .before .before .before .pre .1 .1 .1 .may-room), same-room _ _ (search needs) (c .before .before .before .before .before .before .before .before .before .before .before .before .before .before .before .before .before .before .before .before .before .before .before .before .before .before .before .before .before .before .before .before .before .before .before .before .before .before .before .before .pre .1 .1 .1 .flow-room)))
-
 same-length : tie.Need-same-length
-same-length c = c .before .before .before .before .before .before .before .before .before .before .before .before .before .before .before .before .before .before .before .before .before .before .before .before .before .before .before .before .before .before .before .before .fill-starts .kept .1 .1 .0
+same-length c = search needs
 
 same-length-2 : tie.Need-same-length-2
 same-length-2 c = search needs
@@ -47,12 +40,7 @@ same-length-7 : tie.Need-same-length-7
 same-length-7 c = search needs
 
 returns : tie.Need-returns
-unfolding program columns
-returns c =
-    let k = c .before .before .keep-patterns .ensures in (
-      c .before .before .before .before .before .before .before .before .before .before .before .before .before .before .before .before .before .before .before .before .before .before .before .before .before .before .before .before .before .before .before .before .fill-starts .ensures,
-      (kept-flow k (c .before .before .before .before .before .before .before .before .before .before .before .before .before .before .before .before .before .before .before .before .before .before .before .before .before .before .before .before .fill-flow .ensures), (c .before .before .before .before .before .before .before .before .before .before .before .before .before .before .before .before .before .before .before .before .before .before .before .before .fill-mail .ensures, (c .before .before .before .before .before .before .before .before .before .fill-patterns .ensures, kept-may k (same-room _ _ (search needs) (c .before .before .before .before .before .before .before .before .before .before .before .before .before .before .before .before .before .before .before .before .before .before .before .before .before .before .before .before .before .before .before .before .before .before .before .before .before .before .before .before .before .before .before .pre .1 .1 .1 .flow-room)) (c .before .before .before .before .before .before .before .before .before .fill-patterns .ensures)))),
-    )
+returns c = (c .before .before .before .before .before .before .before .before .before .before .before .before .before .before .before .before .before .before .before .before .before .before .before .before .before .before .before .fill-starts .ensures, (c .before .before .before .before .before .before .before .before .before .before .before .before .before .before .before .before .before .before .before .before .before .before .before .fill-flow .ensures, (c .before .before .before .before .before .before .before .before .before .before .before .before .before .before .before .before .before .before .before .fill-mail .ensures, c .before .before .before .before .fill-patterns .ensures)))
 
 pub fill-tables-spec : {M : Type 1} → statement M
 fill-tables-spec =
@@ -63,7 +51,6 @@ fill-tables-spec =
     fill-mail-requires
     fill-builds-requires
     fill-patterns-requires
-    keep-patterns-requires
     same-length
     same-length-2
     same-length-3

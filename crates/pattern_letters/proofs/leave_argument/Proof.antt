@@ -13,10 +13,10 @@ use Rattle.pattern_letters.proofs.leave_argument.Statement.{statement}
 use Rattle.pattern_letters.proofs.leave_argument.Tie as tie
 
 abbrev Inv-loop : tie.InvT-loop
-Inv-loop ws s w flows names letters words i n q part₀ h₀ h-end part h = (h-end ≡ s .constructors + 2) × (h ≤ h-end) × Left (program ws s) (tables ws s) (leaves-below (program ws s) (tables ws s) i n q h) part₀ part
+Inv-loop ws s w fitting names letters words i n q part₀ h₀ h-end part h = (h-end ≡ s .constructors + 2) × (h ≤ h-end) × Left (program ws s) (tables ws s) (leaves-below (program ws s) (tables ws s) i n q h) part₀ part
 
 abbrev μ-loop : tie.MeasureT-loop
-μ-loop ws s w flows names letters words i n q part₀ h₀ h-end part h = h-end - h
+μ-loop ws s w fitting names letters words i n q part₀ h₀ h-end part h = h-end - h
 
 asks-requires : tie.Need-asks-requires Inv-loop μ-loop
 asks-requires c κs = c .before .before .before .before .before .pre .0 .ready
@@ -43,7 +43,7 @@ loop-again : tie.Need-loop-again Inv-loop μ-loop
 loop-again c = (c .before .before .before .loop .inv .0, search needs, heads-kept _ _ _ _ _ _ _ _ (absent-left (c .before .before .before .before .before .before .before .before .before .before .before .before .pre .0) _ _ _ (c .before .before .before .before .before .before .before .before .before .before .before .before .pre .1 .1 .1 .0 .1) (omega (arith, c .before .before .before .loop .inv)) _ (c .before .holds .ensures) (c .if2 .taken)) (c .before .before .before .loop .inv .2))
 
 head-fits-requires : tie.Need-head-fits-requires Inv-loop μ-loop
-head-fits-requires c κs = (c .before .before .before .before .before .before .before .before .before .before .before .before .pre .0, (c .before .before .before .before .before .before .before .before .before .before .before .before .pre .1 .1 .1 .1 .0, (asked _ _ _ (c .before .before .before .before .before .before .asks .ensures) (not-false _ (c .before .before .before .before .before .if1 .left)), (c .before .before .before .before .before .before .before .before .before .before .before .before .pre .1 .1 .1 .0 .1, head-there (c .before .before .before .before .before .before .before .before .before .before .before .before .pre .0) _ 0 _ (c .before .before .before .before .before .before .before .before .before .before .before .before .pre .1 .1 .1 .0 .1) (omega (arith, c .before .before .before .loop .inv)) _ (c .before .holds .ensures) (c .if2 .left)))))
+head-fits-requires c κs = (c .before .before .before .before .before .before .before .before .before .before .before .before .pre .0, (c .before .before .before .before .before .before .before .before .before .before .before .before .pre .1 .1 .1 .1 .0, (asked _ _ _ (c .before .before .before .before .before .before .asks .ensures) (not-false _ (c .before .before .before .before .before .if1 .left)), ((c .before .before .before .before .before .before .before .before .before .before .before .before .pre .1 .1 .1 .0 .1, omega (arith, c .before .before .before .loop .inv)), head-there (c .before .before .before .before .before .before .before .before .before .before .before .before .pre .0) _ 0 _ (c .before .before .before .before .before .before .before .before .before .before .before .before .pre .1 .1 .1 .0 .1) (omega (arith, c .before .before .before .loop .inv)) _ (c .before .holds .ensures) (c .if2 .left)))))
 
 add-h-2 : tie.Need-add-h-2 Inv-loop μ-loop
 add-h-2 c = search needs

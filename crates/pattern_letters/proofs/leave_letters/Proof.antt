@@ -13,10 +13,10 @@ use Rattle.pattern_letters.proofs.leave_letters.Statement.{statement}
 use Rattle.pattern_letters.proofs.leave_letters.Tie as tie
 
 abbrev Inv-loop : tie.InvT-loop
-Inv-loop ws s afters w flows names letters words q v part₀ made arity sub₀ i₀ part sub i = (i ≤ arity) × (sub ≡ subpattern (program ws s) maxDepth q i) × Left (program ws s) (tables ws s) (leaves-first (program ws s) (tables ws s) q v i) part₀ part
+Inv-loop ws s afters w fitting names letters words q v part₀ made arity sub₀ i₀ part sub i = (i ≤ arity) × (sub ≡ subpattern (program ws s) maxDepth q i) × Left (program ws s) (tables ws s) (leaves-first (program ws s) (tables ws s) q v i) part₀ part
 
 abbrev μ-loop : tie.MeasureT-loop
-μ-loop ws s afters w flows names letters words q v part₀ made arity sub₀ i₀ part sub i = arity - i
+μ-loop ws s afters w fitting names letters words q v part₀ made arity sub₀ i₀ part sub i = arity - i
 
 tag-requires : tie.Need-tag-requires Inv-loop μ-loop
 tag-requires c κs = c .before .before .before .before .before .before .pre .0 .ready .whole

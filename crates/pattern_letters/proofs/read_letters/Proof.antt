@@ -18,10 +18,10 @@ use Rattle.pattern_letters.proofs.read_letters.Statement.{statement}
 use Rattle.pattern_letters.proofs.read_letters.Tie as tie
 
 abbrev Inv-loop : tie.InvT-loop
-Inv-loop ws s afters w flows names letter-at letters c q part₀ found₀ words from to j₀ part found j = (from ≤ j) × (j ≤ to) × (length found ≡ length found₀) × (length part ≡ length part₀) × Found (program ws s) (tables ws s) c (gather from j (λ k. letters-read (program ws s) (tables ws s) q (right (tables ws s .mail) k))) found
+Inv-loop ws s afters w fitting names letter-at letters c q part₀ found₀ words from to j₀ part found j = (from ≤ j) × (j ≤ to) × (length found ≡ length found₀) × (length part ≡ length part₀) × Found (program ws s) (tables ws s) c (gather from j (λ k. letters-read (program ws s) (tables ws s) q (right (tables ws s .mail) k))) found
 
 abbrev μ-loop : tie.MeasureT-loop
-μ-loop ws s afters w flows names letter-at letters c q part₀ found₀ words from to j₀ part found j = to - j
+μ-loop ws s afters w fitting names letter-at letters c q part₀ found₀ words from to j₀ part found j = to - j
 
 letter-width-requires : tie.Need-letter-width-requires Inv-loop μ-loop
 letter-width-requires c κs = (c .before .before .before .before .before .before .before .before .pre .0 .ready, c .before .before .before .before .before .before .before .before .pre .1 .1 .0)
@@ -41,8 +41,8 @@ loop-holds c = (search needs, (mail-order (c .before .before .before .before .be
 mail-value-requires : tie.Need-mail-value-requires Inv-loop μ-loop
 mail-value-requires c κs = c .before .before .before .before .before .before .before .before .before .before .before .before .before .before .before .before .before .pre .0 .ready
 
-may-take-requires : tie.Need-may-take-requires Inv-loop μ-loop
-may-take-requires c κs = (c .before .before .before .before .before .before .before .before .before .before .before .before .before .before .before .before .before .before .pre .0 .ready, ((c .before .before .before .before .before .before .before .before .before .before .before .before .before .before .before .before .before .before .pre .0 .flow-width, c .before .before .before .before .before .before .before .before .before .before .before .before .before .before .before .before .before .before .pre .0 .may-sets), (c .before .before .before .before .before .before .before .before .before .before .before .before .before .before .before .before .before .before .pre .1 .1 .1 .1 .1 .0, mail-low (c .before .before .before .before .before .before .before .before .before .before .before .before .before .before .before .before .before .before .pre .0 .ready) _ _ _ (c .before .before .before .before .mail-from .ensures) (c .before .before .before .mail-to .ensures) _ _ (search needs) (c .mail-value .ensures))))
+begins-requires : tie.Need-begins-requires Inv-loop μ-loop
+begins-requires c κs = (c .before .before .before .before .before .before .before .before .before .before .before .before .before .before .before .before .before .before .pre .0 .ready, (c .before .before .before .before .before .before .before .before .before .before .before .before .before .before .before .before .before .before .pre .0 .name-heads, (c .before .before .before .before .before .before .before .before .before .before .before .before .before .before .before .before .before .before .pre .1 .1 .1 .1 .1 .0, mail-low (c .before .before .before .before .before .before .before .before .before .before .before .before .before .before .before .before .before .before .pre .0 .ready) _ _ _ (c .before .before .before .before .mail-from .ensures) (c .before .before .before .mail-to .ensures) _ _ (search needs) (c .mail-value .ensures))))
 
 add-j : tie.Need-add-j Inv-loop μ-loop
 add-j c = omega (arith, (mail-order (c .before .before .before .before .before .before .before .before .before .before .before .before .before .before .before .before .before .before .before .before .pre .0 .ready) _ _ _ (c .before .before .before .before .before .before .mail-from .ensures) (c .before .before .before .before .before .mail-to .ensures)) .1, c .before .before .before .before .before .before .before .before .before .before .before .before .before .before .before .before .before .before .before .before .pre .0 .ready .limits .mails)
@@ -51,7 +51,7 @@ loop-less : tie.Need-loop-less Inv-loop μ-loop
 loop-less c = search needs
 
 loop-again : tie.Need-loop-again Inv-loop μ-loop
-loop-again c = (search needs, search needs, c .before .before .before .before .loop .inv .2, c .before .before .before .before .loop .inv .3, found-passed _ _ (head-low (c .before .before .before .before .before .before .before .before .before .before .before .before .before .before .before .before .before .before .before .before .pre .0 .ready)) _ _ _ _ _ (c .before .before .before .before .loop .inv .0) (c .before .before .mail-value .ensures) _ _ (c .before .may-take .ensures) (c .if1 .taken) (c .before .before .before .before .loop .inv .4))
+loop-again c = (search needs, search needs, c .before .before .before .before .loop .inv .2, c .before .before .before .before .loop .inv .3, found-passed _ _ (head-low (c .before .before .before .before .before .before .before .before .before .before .before .before .before .before .before .before .before .before .before .before .pre .0 .ready)) _ _ _ _ _ (c .before .before .before .before .loop .inv .0) (c .before .before .mail-value .ensures) _ _ (c .before .begins .ensures) (c .if1 .taken) (c .before .before .before .before .loop .inv .4))
 
 entry-set-requires : tie.Need-entry-set-requires Inv-loop μ-loop
 entry-set-requires c κs = (c .before .before .before .before .before .before .before .before .before .before .before .before .before .before .before .before .before .before .before .before .pre .0 .ready .limits, (omega (arith, (mail-order (c .before .before .before .before .before .before .before .before .before .before .before .before .before .before .before .before .before .before .before .before .pre .0 .ready) _ _ _ (c .before .before .before .before .before .before .mail-from .ensures) (c .before .before .before .before .before .mail-to .ensures)) .1)))
@@ -61,7 +61,7 @@ unfolding tables entries columns
 copy-into-requires c κs = (wide-row _ _ _ (c .before .before .before .before .before .before .before .before .before .before .before .before .before .letter-width .ensures) (row-kept _ _ _ _ (c .before .before .before .before .before .before .before .before .before .before .before .before .before .before .before .before .before .before .before .before .before .before .pre .1 .1 .1 .1 .1 .1 .0) (c .before .before .before .before .before .before .loop .inv .3)), entry-room _ _ _ _ (c .before .before .before .before .before .before .before .before .before .before .before .before .before .before .before .before .before .before .before .before .before .before .pre .1 .1 .1 .0) _ _ _ _ (c .before .before .before .before .before .before .before .before .before .before .before .before .before .letter-width .ensures) (entry-number _ _ _ _ (c .before .entry-set .ensures)) (omega (arith, (mail-order (c .before .before .before .before .before .before .before .before .before .before .before .before .before .before .before .before .before .before .before .before .before .before .pre .0 .ready) _ _ _ (c .before .before .before .before .before .before .before .before .mail-from .ensures) (c .before .before .before .before .before .before .before .mail-to .ensures)) .1)) (mail-class (c .before .before .before .before .before .before .before .before .before .before .before .before .before .before .before .before .before .before .before .before .before .before .pre .0 .ready) _ _ _ (c .before .before .before .before .before .before .before .before .mail-from .ensures) (c .before .before .before .before .before .before .before .mail-to .ensures) _ (c .before .before .before .before .before .before .loop .inv .0) (search needs)) refl)
 
 leave-letters-requires : tie.Need-leave-letters-requires Inv-loop μ-loop
-leave-letters-requires c κs = (c .before .before .before .before .before .before .before .before .before .before .before .before .before .before .before .before .before .before .before .before .before .before .before .before .before .before .pre .0, (c .before .before .before .before .before .before .before .before .before .before .before .before .before .before .before .before .before .before .before .before .before .before .before .before .before .before .pre .1 .0, ((c .before .before .before .before .before .before .before .before .before .before .before .before .before .before .before .before .before .before .before .before .before .before .before .before .before .before .pre .1 .1 .1 .0), ((c .before .before .before .before .before .before .before .before .before .before .before .before .before .before .before .before .before .letter-width .ensures), (c .before .before .before .before .before .before .before .before .before .before .before .before .before .before .before .before .before .before .before .before .before .before .before .before .before .before .pre .1 .1 .1 .1 .1 .0, (sym (c .before .before .before .before .before .before .before .may-take .ensures) ∙ not-false _ (c .before .before .before .before .before .before .if1 .left), wide-row _ _ _ (c .before .before .before .before .before .before .before .before .before .before .before .before .before .before .before .before .before .letter-width .ensures) (row-kept _ _ _ _ (c .before .before .before .before .before .before .before .before .before .before .before .before .before .before .before .before .before .before .before .before .before .before .before .before .before .before .pre .1 .1 .1 .1 .1 .1 .0) (c .before .before .before .copy-into .ensures .long ∙ c .before .before .before .before .before .before .before .before .before .before .loop .inv .3))))))))
+leave-letters-requires c κs = (c .before .before .before .before .before .before .before .before .before .before .before .before .before .before .before .before .before .before .before .before .before .before .before .before .before .before .pre .0, (c .before .before .before .before .before .before .before .before .before .before .before .before .before .before .before .before .before .before .before .before .before .before .before .before .before .before .pre .1 .0, ((c .before .before .before .before .before .before .before .before .before .before .before .before .before .before .before .before .before .before .before .before .before .before .before .before .before .before .pre .1 .1 .1 .0), ((c .before .before .before .before .before .before .before .before .before .before .before .before .before .before .before .before .before .letter-width .ensures), (c .before .before .before .before .before .before .before .before .before .before .before .before .before .before .before .before .before .before .before .before .before .before .before .before .before .before .pre .1 .1 .1 .1 .1 .0, (sym (c .before .before .before .before .before .before .before .begins .ensures) ∙ not-false _ (c .before .before .before .before .before .before .if1 .left), wide-row _ _ _ (c .before .before .before .before .before .before .before .before .before .before .before .before .before .before .before .before .before .letter-width .ensures) (row-kept _ _ _ _ (c .before .before .before .before .before .before .before .before .before .before .before .before .before .before .before .before .before .before .before .before .before .before .before .before .before .before .pre .1 .1 .1 .1 .1 .1 .0) (c .before .before .before .copy-into .ensures .long ∙ c .before .before .before .before .before .before .before .before .before .before .loop .inv .3))))))))
 
 join-into-requires : tie.Need-join-into-requires Inv-loop μ-loop
 join-into-requires c κs = (wide-row _ _ _ (c .before .before .before .before .before .before .before .before .before .before .before .before .before .before .before .before .before .before .before .before .before .before .letter-width .ensures) (c .before .before .before .before .before .before .before .before .before .before .before .before .before .before .before .loop .inv .4 .row), wide-row _ _ _ (c .before .before .before .before .before .before .before .before .before .before .before .before .before .before .before .before .before .before .before .before .before .before .letter-width .ensures) (c .before .before .before .before .leave-letters .ensures .row))
@@ -74,7 +74,7 @@ loop-less-2 c = search needs
 
 loop-again-2 : tie.Need-loop-again-2 Inv-loop μ-loop
 unfolding tables entries columns
-loop-again-2 c = (search needs, search needs, c .before .before .join-into .ensures .long ∙ c .before .before .before .before .before .before .before .before .before .before .before .before .before .before .before .before .before .before .loop .inv .2, c .before .before .before .before .before .before .before .leave-letters .ensures .long ∙ (c .before .before .before .before .before .before .before .before .before .before .before .copy-into .ensures .long ∙ c .before .before .before .before .before .before .before .before .before .before .before .before .before .before .before .before .before .before .loop .inv .3), found-read _ _ (head-low (c .before .before .before .before .before .before .before .before .before .before .before .before .before .before .before .before .before .before .before .before .before .before .before .before .before .before .before .before .before .before .before .before .before .before .pre .0 .ready)) _ _ _ _ _ (c .before .before .before .before .before .before .before .before .before .before .before .before .before .before .before .before .before .before .loop .inv .0) (c .before .before .before .before .before .before .before .before .before .before .before .before .before .before .before .before .mail-value .ensures) _ (c .before .before .before .before .before .before .before .before .before .before .before .before .before .before .before .before .before .before .before .before .before .before .before .before .before .before .before .before .before .before .before .before .before .before .pre .1 .1 .1 .0) _ _ (c .before .before .before .before .before .before .before .before .before .before .before .before .before .before .before .before .before .before .before .before .before .before .before .before .before .letter-width .ensures) (entry-number _ _ _ _ (c .before .before .before .before .before .before .before .before .before .before .before .before .before .entry-set .ensures)) (omega (arith, (mail-order (c .before .before .before .before .before .before .before .before .before .before .before .before .before .before .before .before .before .before .before .before .before .before .before .before .before .before .before .before .before .before .before .before .before .before .pre .0 .ready) _ _ _ (c .before .before .before .before .before .before .before .before .before .before .before .before .before .before .before .before .before .before .before .before .mail-from .ensures) (c .before .before .before .before .before .before .before .before .before .before .before .before .before .before .before .before .before .before .before .mail-to .ensures)) .1)) (mail-class (c .before .before .before .before .before .before .before .before .before .before .before .before .before .before .before .before .before .before .before .before .before .before .before .before .before .before .before .before .before .before .before .before .before .before .pre .0 .ready) _ _ _ (c .before .before .before .before .before .before .before .before .before .before .before .before .before .before .before .before .before .before .before .before .mail-from .ensures) (c .before .before .before .before .before .before .before .before .before .before .before .before .before .before .before .before .before .before .before .mail-to .ensures) _ (c .before .before .before .before .before .before .before .before .before .before .before .before .before .before .before .before .before .before .loop .inv .0) (search needs)) _ _ _ _ _ _ (c .before .before .before .before .before .before .before .before .before .before .before .before .before .before .before .may-take .ensures) (c .before .before .before .before .before .before .before .before .before .before .before .before .before .before .if1 .left) (c .before .before .before .before .before .before .before .before .before .before .before .before .before .before .before .before .before .before .loop .inv .4) (c .before .before .before .before .before .before .before .before .before .before .before .copy-into .ensures) (c .before .before .before .before .before .before .before .leave-letters .ensures) (c .before .before .join-into .ensures))
+loop-again-2 c = (search needs, search needs, c .before .before .join-into .ensures .long ∙ c .before .before .before .before .before .before .before .before .before .before .before .before .before .before .before .before .before .before .loop .inv .2, c .before .before .before .before .before .before .before .leave-letters .ensures .long ∙ (c .before .before .before .before .before .before .before .before .before .before .before .copy-into .ensures .long ∙ c .before .before .before .before .before .before .before .before .before .before .before .before .before .before .before .before .before .before .loop .inv .3), found-read _ _ (head-low (c .before .before .before .before .before .before .before .before .before .before .before .before .before .before .before .before .before .before .before .before .before .before .before .before .before .before .before .before .before .before .before .before .before .before .pre .0 .ready)) _ _ _ _ _ (c .before .before .before .before .before .before .before .before .before .before .before .before .before .before .before .before .before .before .loop .inv .0) (c .before .before .before .before .before .before .before .before .before .before .before .before .before .before .before .before .mail-value .ensures) _ (c .before .before .before .before .before .before .before .before .before .before .before .before .before .before .before .before .before .before .before .before .before .before .before .before .before .before .before .before .before .before .before .before .before .before .pre .1 .1 .1 .0) _ _ (c .before .before .before .before .before .before .before .before .before .before .before .before .before .before .before .before .before .before .before .before .before .before .before .before .before .letter-width .ensures) (entry-number _ _ _ _ (c .before .before .before .before .before .before .before .before .before .before .before .before .before .entry-set .ensures)) (omega (arith, (mail-order (c .before .before .before .before .before .before .before .before .before .before .before .before .before .before .before .before .before .before .before .before .before .before .before .before .before .before .before .before .before .before .before .before .before .before .pre .0 .ready) _ _ _ (c .before .before .before .before .before .before .before .before .before .before .before .before .before .before .before .before .before .before .before .before .mail-from .ensures) (c .before .before .before .before .before .before .before .before .before .before .before .before .before .before .before .before .before .before .before .mail-to .ensures)) .1)) (mail-class (c .before .before .before .before .before .before .before .before .before .before .before .before .before .before .before .before .before .before .before .before .before .before .before .before .before .before .before .before .before .before .before .before .before .before .pre .0 .ready) _ _ _ (c .before .before .before .before .before .before .before .before .before .before .before .before .before .before .before .before .before .before .before .before .mail-from .ensures) (c .before .before .before .before .before .before .before .before .before .before .before .before .before .before .before .before .before .before .before .mail-to .ensures) _ (c .before .before .before .before .before .before .before .before .before .before .before .before .before .before .before .before .before .before .loop .inv .0) (search needs)) _ _ _ _ _ _ (c .before .before .before .before .before .before .before .before .before .before .before .before .before .before .before .begins .ensures) (c .before .before .before .before .before .before .before .before .before .before .before .before .before .before .if1 .left) (c .before .before .before .before .before .before .before .before .before .before .before .before .before .before .before .before .before .before .loop .inv .4) (c .before .before .before .before .before .before .before .before .before .before .before .copy-into .ensures) (c .before .before .before .before .before .before .before .leave-letters .ensures) (c .before .before .join-into .ensures))
 
 same-length : tie.Need-same-length Inv-loop μ-loop
 same-length c = c .before .loop .inv .3
@@ -97,7 +97,7 @@ read-letters-spec =
     mail-to-requires
     loop-holds
     mail-value-requires
-    may-take-requires
+    begins-requires
     add-j
     loop-less
     loop-again

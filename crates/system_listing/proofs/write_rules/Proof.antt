@@ -15,10 +15,10 @@ use Rattle.system_listing.proofs.write_rules.Statement.{statement}
 use Rattle.system_listing.proofs.write_rules.Tie as tie
 
 abbrev Inv-loop : tie.InvT-loop
-Inv-loop out₀ n ws s afters flow-at w flows names letter-at letters branches at₀ tos₀ others₀ e₀ i₀ out at tos others e i = Put out₀ out n 0 e (lines (gather 0 i (of-state (program ws s) (tables ws s)))) × Walk at₀ tos₀ others₀ at tos others × (i ≤ s .states)
+Inv-loop out₀ n ws s afters flow-at w fitting names letter-at letters branches at₀ tos₀ others₀ e₀ i₀ out at tos others e i = Put out₀ out n 0 e (lines (gather 0 i (of-state (program ws s) (tables ws s)))) × Walk at₀ tos₀ others₀ at tos others × (i ≤ s .states)
 
 abbrev μ-loop : tie.MeasureT-loop
-μ-loop out₀ n ws s afters flow-at w flows names letter-at letters branches at₀ tos₀ others₀ e₀ i₀ out at tos others e i = s .states - i
+μ-loop out₀ n ws s afters flow-at w fitting names letter-at letters branches at₀ tos₀ others₀ e₀ i₀ out at tos others e i = s .states - i
 
 loop-holds : tie.Need-loop-holds Inv-loop μ-loop
 loop-holds c = (put-begin _ _ _ 0 _, walk-begin _ _ _, omega arith)

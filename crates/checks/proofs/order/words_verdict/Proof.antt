@@ -188,8 +188,8 @@ goes-22 : (c : tie.Else6) → Goes (c .before .before .before .before .before .b
 unfolding from-8
 goes-22 c = goes-by _ _ _ (goes-8 (c .before .before .before .before .before .before .before .before .before .before .before .before .before)) (closed-pass c)
 
-width-requires : tie.Need-width-requires
-width-requires c κs = search needs
+name-width-requires : tie.Need-name-width-requires
+name-width-requires c κs = search needs
 
 slice-aggregate-system-verdict : tie.Need-slice-aggregate-system-verdict
 slice-aggregate-system-verdict c = sym (afters-long (c .before .before .before .before .before .before .before .before .before .before .before .before .before .before .before .before .before .before .before .before .before .before .before .before .before .before .before))
@@ -210,10 +210,9 @@ system-verdict-requires c κs =
       closed = closed-pass (c .before .before .before .before .before .before);
       ends = ends _ _ _ (omega (arith, c .before .before .before .before .before .before .before .before .before .before .before .before .before .before .before .before .before .before .before .before .before .before .before .before .before .before .before .before .before .before .before .before .before .before .before .before .before .before .before .before .before .before .before .before .before .before .pre .0 .limits .rows .1, afters-long (c .before .before .before .before .before .before .before .before .before .before .before .before .before .before .before .before .before .before .before .before .before .before .before .before .before .before .before .before .before .before .before))) (c .before .before .before .before .before .before .before .before .before .before .before .before .before .before .before .before .before .before .before .before .before .before .before .before .before .before .before .before .before .before .before .fill-ends .ensures);
       flow-starts = c .before .before .before .before .before .before .before .before .before .before .before .before .open-verdict .ensures .1 .0 safe;
-      flow-width = c .before .before .before .before .before .width .ensures;
-      flow-sets = c .before .before .before .before .before .before .before .before .before .before .before .before .open-verdict .ensures .1 .1 .0 safe;
-      may-sets = c .before .before .before .before .before .before .before .before .before .before .before .before .open-verdict .ensures .1 .1 .1 .0 safe;
-      branch-bits = c .before .before .before .before .before .before .before .before .before .before .before .before .open-verdict .ensures .1 .1 .1 .1 safe;
+      name-width = c .before .before .before .before .before .name-width .ensures;
+      fitting-sets = c .before .before .before .before .before .before .before .before .before .before .before .before .open-verdict .ensures .1 .1 .0 safe;
+      branch-bits = c .before .before .before .before .before .before .before .before .before .before .before .before .open-verdict .ensures .1 .1 .1 safe;
     }
 
 same-length-2 : tie.Need-same-length-2
@@ -260,7 +259,7 @@ words-verdict-spec =
     is-safe-requires-6
     same-length
     returns-6
-    width-requires
+    name-width-requires
     slice-aggregate-system-verdict
     slice-aggregate-system-verdict-2
     slice-aggregate-system-verdict-3

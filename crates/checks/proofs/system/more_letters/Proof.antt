@@ -12,7 +12,9 @@ slice-aggregate-lettered-verdict : tie.Need-slice-aggregate-lettered-verdict
 slice-aggregate-lettered-verdict c = search needs
 
 lettered-verdict-requires : tie.Need-lettered-verdict-requires
-lettered-verdict-requires c κs = (c .before .before .before .before .before .before .before .before .before .before .before .before .pre .0, (c .before .before .before .before .before .before .before .before .before .before .before .before .pre .1 .0, (c .before .before .before .before .before .before .before .before .before .before .before .before .pre .1 .1 .0, (c .before .before .before .before .before .before .before .before .before .before .before .before .pre .1 .1 .1 .0, (c .before .before .before .before .before .before .before .before .before .before .before .before .pre .1 .1 .1 .1 .0, (empty-sets _ _ _ (c .before .before .words64-1024 .ensures), letters-room _ _ _ _ (c .before .before .words64-1024 .ensures) (c .before .before .before .before .before .before .before .before .before .before .before .before .pre .1 .1 .1 .1 .1)))))))
+lettered-verdict-requires c κs =
+    let room = letters-room _ _ _ _ (c .before .before .words64-1024 .ensures) (c .before .before .before .before .before .before .before .before .before .before .before .before .pre .1 .1 .1 .1 .1) in
+    (c .before .before .before .before .before .before .before .before .before .before .before .before .pre .0, (c .before .before .before .before .before .before .before .before .before .before .before .before .pre .1 .0, (c .before .before .before .before .before .before .before .before .before .before .before .before .pre .1 .1 .0, (c .before .before .before .before .before .before .before .before .before .before .before .before .pre .1 .1 .1 .0, (c .before .before .before .before .before .before .before .before .before .before .before .before .pre .1 .1 .1 .1 .0, (empty-sets _ _ _ (c .before .before .words64-1024 .ensures), (room .0, room .1)))))))
 
 same-length : tie.Need-same-length
 same-length c = search needs
