@@ -12,8 +12,8 @@ pub struct Analysis<'a> {
     pub matching: Matching,
     /// Functions by number of parameters.
     by_params: Vec<Set>,
-    /// Values by letter.
-    by_letter: Vec<Set>,
+    /// Every class.
+    classes: Set,
 }
 
 impl<'a> Analysis<'a> {
@@ -23,7 +23,7 @@ impl<'a> Analysis<'a> {
             tables,
             matching: Matching::new(program, tables),
             by_params: functions_by_params(program),
-            by_letter: values_by_letter(program),
+            classes: classes(program),
         }
     }
 
@@ -38,14 +38,7 @@ impl<'a> Analysis<'a> {
 
     /// Classes that a name may be the address of.
     pub fn targets(&self, name: Name) -> Set {
-        let addresses = &self.by_letter[self.program.letters() - 1];
-        self.flow(name).and(addresses)
-    }
-
-    /// Letters of a set of values, ascending.
-    pub fn letters<'s>(&'s self, values: &'s Set) -> impl Iterator<Item = usize> + 's {
-        let letters = self.by_letter.iter().enumerate();
-        letters.filter(|(_, with)| values.meets(with)).map(|(letter, _)| letter)
+        self.flow(name).and(&self.classes)
     }
 
     /// States at a send that may put this value into the mail of this class, in order.
@@ -76,10 +69,10 @@ fn functions_by_params(program: &Program) -> Vec<Set> {
     sets
 }
 
-fn values_by_letter(program: &Program) -> Vec<Set> {
-    let mut sets = vec![Set::EMPTY; program.letters()];
-    for value in (0..=program.rows).filter(|&v| program.is_value(v)) {
-        sets[program.letter(value)].insert(value);
-    }
-    sets
+fn classes(program: &Program) -> Set {
+    let mut classes = Set::EMPTY;
+    program.classes().for_each(|class| {
+        classes.insert(class);
+    });
+    classes
 }

@@ -1,5 +1,6 @@
 //! The bads: what must never be met (refusal 6).
 
+use crate::letters::Letter;
 use crate::message::Message;
 use crate::program::Program;
 use crate::refusal::{self, Refusal};
@@ -7,7 +8,10 @@ use crate::refusal::{self, Refusal};
 #[derive(Clone, Copy, Debug, PartialEq, Eq)]
 pub enum Place {
     Head(usize),
-    Letter(usize),
+    /// All letters of a constructor, of functions (C) or of addresses (C + 1).
+    Kind(usize),
+    /// One letter, by the heads of its arguments.
+    Letter(Letter),
 }
 
 #[derive(Clone, Copy, Debug, PartialEq, Eq)]
@@ -72,10 +76,32 @@ impl Reader<'_> {
         self.at += 1;
         let place = match self.row()? {
             (41, head) if self.program.is_head(head) => Place::Head(head),
-            (42, letter) if letter < self.program.letters() => Place::Letter(letter),
+            (42, kind) if kind < self.program.heads() => return self.letter_item(class, kind),
             _ => return Err(self.wrong("a row (41, head) or (42, letter)")),
         };
         self.at += 1;
+        self.minimum(class, place)
+    }
+
+    /// A row (45, head) for each argument, or none at all.
+    fn letter_item(&mut self, class: usize, kind: usize) -> Result<Item, Refusal> {
+        self.at += 1;
+        let arity = self.program.arity(kind);
+        if arity == 0 || self.row()?.0 != 45 {
+            return self.minimum(class, Place::Kind(kind));
+        }
+        let mut heads = Vec::new();
+        for _ in 0..arity {
+            match self.row()? {
+                (45, head) if head < self.program.heads() => heads.push(head),
+                _ => return Err(self.wrong("a row (45, head) for each argument")),
+            }
+            self.at += 1;
+        }
+        self.minimum(class, Place::Letter(Letter::new(kind, heads)))
+    }
+
+    fn minimum(&mut self, class: usize, place: Place) -> Result<Item, Refusal> {
         let minimum = match self.row()? {
             (43, minimum) if minimum >= 1 => minimum as u16,
             _ => return Err(self.wrong("a row (43, minimum from 1)")),

@@ -98,6 +98,7 @@ pub type Sums = Option<Vec<Sum>>;
 pub fn item_counters(tables: &Tables, system: &System, item: &Item) -> Option<Range<usize>> {
     let counters = match item.place {
         Place::Head(head) => tables.states_at(item.class, head),
+        Place::Kind(kind) => system.letters_of(item.class, kind),
         Place::Letter(letter) => system.letter(item.class, letter).map_or(0..0, |counter| counter..counter + 1),
     };
     (!counters.is_empty()).then_some(counters)

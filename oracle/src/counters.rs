@@ -3,8 +3,9 @@
 use crate::bads::{Bad, Item, Place};
 use crate::bounds::{self, Bounds, Sum, Sums};
 use crate::limits::UNBOUNDED;
-use crate::machine::{Deed, Machine, Step};
+use crate::machine::{Deed, Machine, Process, Step};
 use crate::program::Program;
+use crate::store::ValueId;
 use crate::system::{Effect, Rule, System};
 use crate::tables::Tables;
 
@@ -72,10 +73,15 @@ pub fn rule_of(step: &Step, tables: &Tables, system: &System) -> Option<usize> {
     system.rules[begin..].iter().position(|other| *other == rule).map(|i| begin + i)
 }
 
+/// What lies in the mailboxes of some processes.
+fn messages<'a>(processes: impl Iterator<Item = &'a Process>) -> impl Iterator<Item = ValueId> {
+    processes.flat_map(|process| process.mailbox.iter().copied())
+}
+
 /// True if some mailbox directly holds a function; one inside a constructor does not count.
 pub fn holds_function(machine: &Machine) -> bool {
     let function = machine.program.arities.len();
-    machine.processes.iter().flat_map(|process| &process.mailbox).any(|&message| machine.letter(message) == function)
+    messages(machine.processes.iter()).any(|message| machine.head_of(message) == function)
 }
 
 /// True if a station meets a bad, counted in the station itself.
@@ -84,9 +90,8 @@ pub fn meets(machine: &Machine, bad: &Bad) -> bool {
         let processes = machine.processes.iter().filter(|process| process.class == item.class);
         match item.place {
             Place::Head(head) => processes.filter(|process| process.location == head).count(),
-            Place::Letter(letter) => {
-                processes.flat_map(|process| &process.mailbox).filter(|&&m| machine.letter(m) == letter).count()
-            }
+            Place::Kind(kind) => messages(processes).filter(|&message| machine.head_of(message) == kind).count(),
+            Place::Letter(letter) => messages(processes).filter(|&message| machine.letter(message) == letter).count(),
         }
     };
     bad.items.iter().all(|item| count(item) >= item.minimum as usize)

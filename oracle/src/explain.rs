@@ -3,6 +3,7 @@
 use crate::analysis::Analysis;
 use crate::bads::Bad;
 use crate::bounds::{Bounds, item_counters};
+use crate::letters;
 use crate::limits;
 use crate::message::{Columns, Message};
 use crate::program::State;
@@ -180,7 +181,8 @@ impl Explainer<'_> {
 
     fn bad(&self) -> (String, String, String) {
         let what = self.message().map_or(String::new(), |m| self.entry_words("bad row", &m.bad_rows));
-        let to_do = "a bad is items (40, class) (41, head) or (42, letter) (43, minimum), then (44, 0)";
+        let to_do = "a bad is items (40, class) (41, head) or (42, letter) (43, minimum), then (44, 0); behind \
+             (42, constructor) there may be a row (45, head) for each argument";
         (what, self.wanted(), to_do.to_string())
     }
 
@@ -276,12 +278,21 @@ impl Explainer<'_> {
             Detail::Counted(count) => count,
             _ => 0,
         };
-        let what = format!("the size S: states and letters make {count} counters");
+        let widest = self.widest().map_or(String::new(), |words| format!("; {words}"));
+        let what = format!("the size S: states and letters make more than {count} counters{widest}");
         (
             what,
             format!("at most {} counters", limits::COUNTERS),
             "make the station smaller or drop entries that are not needed".to_string(),
         )
+    }
+
+    /// The message that has the most letters, if it has several.
+    fn widest(&self) -> Option<String> {
+        let (program, tables) = self.read.program.as_ref().zip(self.read.tables.as_ref())?;
+        let (value, count) = letters::widest(&Analysis::new(program, tables)).filter(|&(_, count)| count > 1)?;
+        let value = self.symbols?.value(value);
+        Some(format!("{value} alone has {count} letters, one for each choice of its arguments' heads"))
     }
 
     fn bound(&self) -> (String, String, String) {

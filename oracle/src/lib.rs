@@ -13,6 +13,7 @@ pub mod fuzz;
 pub mod held;
 pub mod leak;
 pub mod least;
+pub mod letters;
 pub mod limits;
 pub mod lines;
 pub mod listing;

@@ -2,6 +2,7 @@
 
 mod shown;
 
+use crate::letters::Letter;
 use crate::program::{Branch, Head, Name, Program, Row, State};
 use crate::store::{Bindings, Frame, Frames, Store, Value, ValueId};
 
@@ -27,8 +28,8 @@ pub enum Idle {
 #[derive(Clone, Copy, Debug, PartialEq, Eq)]
 pub enum Deed {
     Inner,
-    Read { letter: usize },
-    Put { class: usize, letter: usize, process: usize },
+    Read { letter: Letter },
+    Put { class: usize, letter: Letter, process: usize },
     New { state: State, process: usize },
 }
 
@@ -74,8 +75,17 @@ impl<'a> Machine<'a> {
         self.processes.len() - 1
     }
 
-    /// The letter of a value.
-    pub fn letter(&self, id: ValueId) -> usize {
+    /// The letter of a value: its head, and those of its arguments.
+    pub fn letter(&self, id: ValueId) -> Letter {
+        let args = match self.store.value(id) {
+            Value::Built { args, .. } => &args[..],
+            _ => &[],
+        };
+        Letter::new(self.head_of(id), args.iter().map(|&arg| self.head_of(arg)))
+    }
+
+    /// The head of a value: its constructor, C for a function, C + 1 for an address.
+    pub fn head_of(&self, id: ValueId) -> usize {
         let count = self.program.arities.len();
         match self.store.value(id) {
             Value::Built { constructor, .. } => *constructor,

@@ -191,8 +191,8 @@ impl Program {
         }
     }
 
-    /// The letter of a value: its constructor, C for a function, C + 1 for an address.
-    pub fn letter(&self, value: usize) -> usize {
+    /// The head of a value: its constructor, C for a function, C + 1 for an address.
+    pub fn head_of(&self, value: usize) -> usize {
         let count = self.arities.len();
         match self.build(value) {
             Some((constructor, _)) => constructor,
@@ -201,8 +201,13 @@ impl Program {
         }
     }
 
-    /// Number of letters: constructors, function, address.
-    pub fn letters(&self) -> usize {
+    /// Number of arguments of a constructor; a function or an address has none.
+    pub fn arity(&self, kind: usize) -> usize {
+        self.arities.get(kind).copied().unwrap_or(0)
+    }
+
+    /// Number of heads of values: constructors, function, address.
+    pub fn heads(&self) -> usize {
         self.arities.len() + 2
     }
 

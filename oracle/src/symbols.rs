@@ -1,6 +1,7 @@
 //! Words for the numbers of a message: the same ones in `run`, `explain` and `disassemble`.
 
 use crate::bads::{Item, Place};
+use crate::letters::Letter;
 use crate::program::{Head, Name, Node, Pattern, Program, Row, State};
 use crate::system::{Effect, Rule, System};
 use crate::tables::Tables;
@@ -38,6 +39,7 @@ impl<'a> Symbols<'a> {
     pub fn item(&self, item: &Item) -> String {
         let what = match item.place {
             Place::Head(head) => format!("at {}", self.label(head)),
+            Place::Kind(kind) => format!("holds {}", self.kind(kind)),
             Place::Letter(letter) => format!("holds {}", self.letter(letter)),
         };
         format!("{} {what} >= {}", self.class(item.class), item.minimum)
@@ -60,9 +62,19 @@ impl<'a> Symbols<'a> {
         if class == self.program.rows { "start".to_string() } else { self.label(class) }
     }
 
-    pub fn letter(&self, letter: usize) -> String {
-        match letter.checked_sub(self.program.arities.len()) {
-            None => self.constructor(letter).to_string(),
+    /// A letter: `pair(gauge,address)`, without a space so that it stays on one line; `address`.
+    pub fn letter(&self, letter: Letter) -> String {
+        let heads: Vec<String> = letter.heads(self.program).map(|head| self.kind(head)).collect();
+        match heads.is_empty() {
+            true => self.kind(letter.kind),
+            false => format!("{}({})", self.kind(letter.kind), heads.join(",")),
+        }
+    }
+
+    /// A constructor, or that it is a function or an address.
+    pub fn kind(&self, kind: usize) -> String {
+        match kind.checked_sub(self.program.arities.len()) {
+            None => self.constructor(kind).to_string(),
             Some(0) => "function".to_string(),
             Some(_) => "address".to_string(),
         }

@@ -1,10 +1,13 @@
 //! The derived system: counters and rules (refusal 9), and its words (refusal 14).
 
 use crate::analysis::Analysis;
+use crate::letters::{Letter, Letters};
 use crate::message::Message;
 use crate::program::{Branch, Head, Name, Row, State};
 use crate::refusal::{self, Detail, Refusal};
 use crate::set::Set;
+use std::collections::HashMap;
+use std::ops::Range;
 
 #[derive(Clone, Copy, Debug, PartialEq, Eq)]
 pub enum Effect {
@@ -62,7 +65,7 @@ pub struct System {
     /// The states' counters come first, in the order of the states.
     pub states: usize,
     /// (class, letter) of the letter counters, ascending.
-    pub letters: Vec<(usize, usize)>,
+    pub letters: Vec<(usize, Letter)>,
     /// In the written order, so by their from.
     pub rules: Vec<Rule>,
 }
@@ -72,9 +75,16 @@ impl System {
         self.states + self.letters.len()
     }
 
-    pub fn letter(&self, class: usize, letter: usize) -> Option<usize> {
+    pub fn letter(&self, class: usize, letter: Letter) -> Option<usize> {
         let i = self.letters.binary_search(&(class, letter)).ok()?;
         Some(self.states + i)
+    }
+
+    /// The counters of all letters of a kind (a constructor, C or C + 1), which stand side by side.
+    pub fn letters_of(&self, class: usize, kind: usize) -> Range<usize> {
+        let before = self.letters.partition_point(|(c, letter)| (*c, letter.kind) < (class, kind));
+        let until = self.letters.partition_point(|(c, letter)| (*c, letter.kind) <= (class, kind));
+        self.states + before..self.states + until
     }
 
     /// Rows of all rules.
@@ -87,7 +97,7 @@ impl System {
     }
 
     /// Ranges of rules by their from state.
-    pub fn by_state(&self) -> Vec<std::ops::Range<usize>> {
+    pub fn by_state(&self) -> Vec<Range<usize>> {
         let mut ranges = Vec::with_capacity(self.states);
         let mut begin = 0;
         for state in 0..self.states {
@@ -114,38 +124,52 @@ impl System {
     }
 }
 
-/// Distinct (class, letter) of the mail, ascending. A function's letter keeps its number and has no counter ((x) of 02).
-fn letter_counters(a: &Analysis) -> Vec<(usize, usize)> {
-    let function = a.program.arities.len();
-    let mails = a.program.classes().zip(&a.tables.mail);
-    let letters =
-        mails.flat_map(|(class, mail)| a.letters(mail).map(move |letter| (class, letter)).collect::<Vec<_>>());
-    letters.filter(|&(_, letter)| letter != function).collect()
-}
-
 /// Refusal 9 where there are more than the `most` counters, or the system of closed tables.
 pub fn derive(message: &Message, a: &Analysis, most: usize) -> Result<System, Refusal> {
-    let mut system = System { states: a.tables.states.len(), letters: letter_counters(a), rules: Vec::new() };
-    if system.counters() > most {
-        let detail = Detail::Counted(system.counters());
-        return Err(Refusal::new(refusal::COUNTERS, message.tables_at + 2, detail));
-    }
+    let states = a.tables.states.len();
+    let letters = most.checked_sub(states).and_then(|left| Letters::new(a, left));
+    let Some(letters) = letters else {
+        return Err(Refusal::new(refusal::COUNTERS, message.tables_at + 2, Detail::Counted(most)));
+    };
+    let mut system = System { states, letters: letters.counters.clone(), rules: Vec::new() };
+    let mut known = Known { letters: &letters, sent: HashMap::new(), read: HashMap::new() };
     for (from, &at) in a.tables.states.iter().enumerate() {
-        Derive { a, system: &mut system, from, at }.state();
+        Derive { a, system: &mut system, known: &mut known, from, at }.state();
     }
     Ok(system)
 }
 
-/// Adds the rules of one state. Tables are closed, so every counter looked up is there, but for a function's letter:
+/// Sets of letters that were asked for before.
+struct Known<'a> {
+    letters: &'a Letters,
+    /// By the name of a send's message.
+    sent: HashMap<Name, Set>,
+    /// By class and pattern.
+    read: HashMap<(usize, Row), Set>,
+}
+
+impl Known<'_> {
+    fn sent(&mut self, a: &Analysis, message: Name) -> Set {
+        *self.sent.entry(message).or_insert_with(|| self.letters.of(a.flow(message)))
+    }
+
+    fn read(&mut self, a: &Analysis, class: usize, pattern: Row) -> Set {
+        let letters = || self.letters.read(a, pattern, &a.tables.mail_of(a.program, class));
+        *self.read.entry((class, pattern)).or_insert_with(letters)
+    }
+}
+
+/// Adds the rules of one state. Tables are closed, so every counter looked up is there. A function's letter has none:
 /// where the mail may hold one the message is refused, and there is no rule for it.
-struct Derive<'a> {
+struct Derive<'a, 'k> {
     a: &'a Analysis<'a>,
     system: &'a mut System,
+    known: &'a mut Known<'k>,
     from: usize,
     at: State,
 }
 
-impl Derive<'_> {
+impl Derive<'_, '_> {
     fn state(&mut self) {
         let (a, row) = (self.a, self.at.head);
         match a.program.head(row) {
@@ -187,9 +211,9 @@ impl Derive<'_> {
     }
 
     fn send(&mut self, target: Name, message: Name, rest: Row) {
-        let letters: Vec<usize> = self.a.letters(self.a.flow(message)).collect();
+        let (letters, sent) = (self.known.letters, self.known.sent(self.a, message));
         for class in self.a.targets(target).iter() {
-            for &letter in &letters {
+            for letter in letters.listed(&sent) {
                 let put = self.system.letter(class, letter).map(Effect::Put);
                 self.rule(rest, put);
             }
@@ -212,10 +236,10 @@ impl Derive<'_> {
     }
 
     fn receive(&mut self, branches: &[Branch]) {
-        let mail = self.a.tables.mail_of(self.a.program, self.at.class);
+        let letters = self.known.letters;
         for branch in branches {
-            let reached = self.a.matching.may(branch.pattern, &mail);
-            for letter in self.a.letters(&reached) {
+            let read = self.known.read(self.a, self.at.class, branch.pattern);
+            for letter in letters.listed(&read) {
                 let read = self.system.letter(self.at.class, letter).map(Effect::Read);
                 self.rule(branch.body, read);
             }

@@ -15,6 +15,8 @@ fn the_two_verifiers_agree_and_every_verdict_is_seen() {
     assert!(tally.steps > 500, "{}", tally.words());
     assert!(5 * tally.shared >= tally.total(), "places with several returns: {}", tally.words());
     assert!(10 * tally.summed >= tally.total(), "bads that ask there: {}", tally.words());
+    assert!(10 * tally.several_heads >= tally.total(), "arguments of several heads: {}", tally.words());
+    assert!(10 * tally.named_heads >= tally.total(), "bads that name heads: {}", tally.words());
 }
 
 /// `verify` with a change to what it says or writes.

@@ -1,5 +1,6 @@
 //! How a station runs, by small stations in text.
 
+use oracle::letters::Letter;
 use oracle::machine::{Deed, Idle, Machine};
 use oracle::program::Program;
 use oracle::text::assemble::assemble;
@@ -40,7 +41,7 @@ fn ends_with_branch(text: &str) -> Vec<Deed> {
 fn the_earliest_message_that_any_branch_matches() {
     let deeds = ends_with_branch("start -> Me = self(), Me ! a, Me ! b, Me ! box(a), receive box(_) -> a; b -> a end.");
     let reads: Vec<&Deed> = deeds.iter().filter(|d| matches!(d, Deed::Read { .. })).collect();
-    assert_eq!(reads, [&Deed::Read { letter: 1 }]);
+    assert_eq!(reads, [&Deed::Read { letter: Letter::new(1, []) }]);
 }
 
 #[test]
@@ -92,16 +93,35 @@ fn spawned_processes_are_numbered_and_start_with_nothing_pushed() {
     assert!(machine.step(1).is_ok());
     assert_eq!(machine.step(1), Err(Idle::Ended));
     assert!(machine.step(0).is_ok());
-    assert!(matches!(machine.step(0).map(|s| s.deed), Ok(Deed::Put { process: 1, letter: 1, .. })));
+    assert!(matches!(
+        machine.step(0).map(|s| s.deed),
+        Ok(Deed::Put { process: 1, letter: Letter { kind: 1, .. }, .. })
+    ));
     assert_eq!(machine.processes[1].mailbox.len(), 1);
 }
 
 #[test]
 fn letters_of_functions_and_addresses() {
     let deeds = ends_with_branch("start -> Me = self(), Me ! Me, Me ! fun() -> a end, a.");
-    let letters: Vec<usize> =
-        deeds.iter().filter_map(|d| if let Deed::Put { letter, .. } = d { Some(*letter) } else { None }).collect();
-    assert_eq!(letters, [4, 3]);
+    assert_eq!(letters(&deeds), [Letter::new(4, []), Letter::new(3, [])]);
+}
+
+fn letters(deeds: &[Deed]) -> Vec<Letter> {
+    deeds.iter().filter_map(|d| if let Deed::Put { letter, .. } = d { Some(*letter) } else { None }).collect()
+}
+
+/// A letter has the heads of its arguments, and no more: what lies below them is not told apart.
+#[test]
+fn letters_are_two_deep() {
+    let put = |message: &str| {
+        let (deeds, _) = run(&format!("function f() -> a. start -> Me = self(), Me ! {message}."));
+        letters(&deeds)
+    };
+    assert_eq!(put("box(a)"), [Letter::new(2, [0])]);
+    assert_eq!(put("box(b)"), [Letter::new(2, [1])]);
+    assert_eq!(put("box(box(a))"), [Letter::new(2, [2])]);
+    assert_eq!(put("box(f)"), [Letter::new(2, [3])]);
+    assert_eq!(put("box(Me)"), [Letter::new(2, [4])]);
 }
 
 #[test]

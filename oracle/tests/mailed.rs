@@ -122,7 +122,7 @@ fn a_mailbox_with_a_function_is_found_in_a_run() {
     let program = reader::read(&m).unwrap();
     let tables = least(&program);
     let system = evidence::derive(&m, &program, &tables).unwrap();
-    assert!(system.letters.iter().all(|&(_, letter)| letter != program.arities.len()), "letter C has a counter");
+    assert!(system.letters.iter().all(|&(_, letter)| letter.kind != program.arities.len()), "letter C has a counter");
     let bounds = Bounds { limits: vec![vec![UNBOUNDED; system.counters()]], first: vec![0] };
     let mut beside = Beside::new(&program, &tables, &system, Some(&bounds), &[]).unwrap();
     assert!(beside.run(&[0; 4]).is_ok());

@@ -22,7 +22,7 @@ fn with_tables(text: &str, more: impl Fn(&mut Tables)) -> Message {
     tables.states.sort_unstable();
     evidence::put_tables(&mut m, &program, &tables).expect("tables");
     let letters = tables.mail.iter().map(|mail| {
-        let letters: std::collections::BTreeSet<usize> = mail.iter().map(|v| program.letter(v)).collect();
+        let letters: std::collections::BTreeSet<usize> = mail.iter().map(|v| program.head_of(v)).collect();
         letters.len()
     });
     let counters = tables.states.len() + letters.sum::<usize>();

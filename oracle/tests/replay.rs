@@ -133,7 +133,8 @@ fn where_a_run_of_the_counters_cannot_be_followed_another_is_looked_for() {
 fn items_head(read: &Read) -> usize {
     match read.bads.as_ref().unwrap()[0].items[0].place {
         oracle::bads::Place::Head(head) => head,
-        oracle::bads::Place::Letter(letter) => letter,
+        oracle::bads::Place::Kind(kind) => kind,
+        oracle::bads::Place::Letter(letter) => letter.kind,
     }
 }
 

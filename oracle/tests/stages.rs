@@ -5,8 +5,10 @@ use oracle::listing::verified;
 use oracle::{message, refusal};
 use std::path::{Path, PathBuf};
 
-/// The folder of the requests in force, but for (x): the folders that have it have (viii) too.
-const STAGE: &str = "3-vi-iii-iv";
+/// The folder of the requests in force, whose answers are given word for word.
+const STAGE: &str = "5-vi-iii-iv-viii-x";
+/// The same without (x): a message with a function in its mail gets 22 now.
+const BEFORE_X: &str = "4-vi-iii-iv-viii";
 
 /// The stored answer as (x) has it: 22 takes the place of safe and of every refusal behind 8 where a mail value is a
 /// function, at the first such entry.
@@ -29,12 +31,12 @@ fn messages(folder: &Path) -> Vec<PathBuf> {
     files
 }
 
-#[test]
-fn each_stored_answer_is_given() {
+/// Tries a folder's messages; what a stored answer comes to now is for the caller to say.
+fn try_stage(stage: &str, answer: impl Fn(&[u8], String) -> String) {
     let Some(cases) = std::env::var_os("DELUNGKAW_CASES") else {
         return println!("skipped: DELUNGKAW_CASES names no folder of cases");
     };
-    let folder = Path::new(&cases).join(STAGE);
+    let folder = Path::new(&cases).join(stage);
     if !folder.is_dir() {
         return println!("skipped: there is no folder {folder:?}");
     }
@@ -47,4 +49,14 @@ fn each_stored_answer_is_given() {
         let message = std::fs::read(&file).expect("the message");
         assert_eq!(verified(&message, lent), answer(&message, stored), "{file:?}");
     }
+}
+
+#[test]
+fn each_stored_answer_is_given() {
+    try_stage(STAGE, |_, stored| stored);
+}
+
+#[test]
+fn those_before_functions_by_mail_were_retired() {
+    try_stage(BEFORE_X, answer);
 }

@@ -24,10 +24,8 @@ use Rattle.model.specs.Ceilings.{Ceilings, ceilings-of, ceiling-entries, ceilin
 use Rattle.model.specs.Verify.{answer}
 use Rattle.model.proofs.Logic.{test, true-false, and-left, and-right, and-intro}
 use Rattle.model.proofs.Index.{any-end, any-hit, any-miss, any-elim, any-intro, none-any, first-is, first-hit, first-miss, first-end, first-unique, gather-intro, gather-elim}
-use Rattle.model.proofs.Numbering.Letters.{low-keys}
 use Rattle.model.proofs.Bounded.Fire.{Shaped, Apart}
 use Rattle.model.proofs.Bounded.Shaped.{rules-shaped}
-use Rattle.system_letters.proofs.Pairs.{letter-low, class-low}
 use Rattle.lists.specs.Ready.{Ready}
 use Rattle.bits.proofs.Loops.{both}
 use Rattle.masks.specs.declared.Mask.{Mask}
@@ -264,7 +262,7 @@ module _ (ws : List ℕ) (s : Sizes) (n : ℕ) (limits : List ℕ) where
     states-few = omega (arith, counted)
 
     shaped-all : (ρ : Rule) → List·Memᴰ ρ (rules p t) → Shaped (counter-count p t) ρ
-    shaped-all = rules-shaped p t (low-keys p t (λ i l. let z = class-low ready i l in omega arith) (λ i l. letter-low ready (right (t .mail) i)))
+    shaped-all = rules-shaped p t
 
     leaks-here : (k : ℕ) → k < s .ceilings → leads-out (ceilings-of ws s n) (rules p t) (highest (ceilings-of ws s n .limit k)) ≡ leaks k
     unfolding leaks ceilings-of
@@ -309,10 +307,6 @@ pub whole-of : (ws : List ℕ) (s : Sizes) → Ready ws s → Whole ws s
 whole-of ws s h = record { limits = h .limits; held = h .held }
 
 -- the lists of a state's rules keep their lengths
-pub rooms-of : (s : Sizes) (tos others tos₀ others₀ : List ℕ) → Rule-room s tos₀ others₀ → length tos ≡ length tos₀ → length others ≡ length others₀ → Rule-room s tos others
-rooms-of s tos others tos₀ others₀ r a b =
-    record { values = let z = r .values in omega arith; letters = let z = r .letters in omega arith; counters = let z = r .counters in omega arith; alike = b ∙ (r .alike ∙ sym a) }
-
 pub state-none : (ws : List ℕ) (s : Sizes) (n : ℕ) (limits : List ℕ) (k i : ℕ) → leads-out (table-ceilings (s .ceilings) n limits) (state-rules (program ws s) (tables ws s) i (state-at (tables ws s) i)) (highest (held limits (s .ceilings) k)) ≡ false → by-state ws s n limits k i ≡ false
 unfolding by-state
 state-none ws s n limits k i h = h

@@ -22,7 +22,7 @@ pub record Ceilings-ready (ws : List ℕ) (s : Sizes) (n : ℕ) (limits starts h
   pub held-by : Holders limits (s .ceilings) n holders unbounded
 
 -- the scratch of the leak test: the rules of a state, and two sets for each counter
-pub record Rooms (s : Sizes) (n : ℕ) (tos others short more : List ℕ) : Type 0 where
-  pub rules : Rule-room s tos others
+pub record Rooms (ws : List ℕ) (s : Sizes) (n : ℕ) (tos others short more : List ℕ) : Type 0 where
+  pub rules : Rule-room ws s tos others
   pub short-room : n * 4 ≤ length short
   pub more-room : n * 4 ≤ length more

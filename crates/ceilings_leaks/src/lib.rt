@@ -73,10 +73,10 @@ pub fn fill_groups(
     afters: &[u16],
     flow_at: &[u16],
     w: usize,
-    flows: &[u64],
+    fitting: &[u64],
     names: &[u64],
     letter_at: &[u16],
-    letters: &[u16],
+    letters: &[u64],
     branches: &[u16],
     n: usize,
     limits: &[u16],
@@ -90,10 +90,10 @@ pub fn fill_groups(
     first_at: &mut [u16],
     group: &mut [u64],
 ) -> Gathered
-    requires { ⌜ Rule-tables (now ws) s (now afters) (now «flow_at») w (now flows) (now names)
+    requires { ⌜ Rule-tables (now ws) s (now afters) (now «flow_at») w (now fitting) (now names)
         (now «letter_at») (now letters) (now branches) ⌝ }
     requires { ⌜ Ceilings-ready (now ws) s n (now limits) (now starts) (now holders) (now unbounded) ⌝ }
-    requires { ⌜ Room-from s spare (now tos) (now others) × (length (now tos) ≤ 65536) ⌝ }
+    requires { ⌜ Room-from (now ws) s spare (now tos) (now others) × (length (now tos) ≤ 65536) ⌝ }
     requires { ⌜ s .states * 8 ≤ length (now group) ⌝ }
     ensures { λ _. ⌜ Groups-upto (program (now (ws .entry)) s) (tables (now (ws .entry)) s) (now (limits .entry))
         (s .ceilings) n (s .states) (now (group .exit)) ⌝ }
@@ -114,7 +114,7 @@ pub fn fill_groups(
             afters,
             flow_at,
             w,
-            flows,
+            fitting,
             names,
             letter_at,
             letters,
@@ -157,10 +157,10 @@ pub fn leak_check(
     afters: &[u16],
     flow_at: &[u16],
     w: usize,
-    flows: &[u64],
+    fitting: &[u64],
     names: &[u64],
     letter_at: &[u16],
-    letters: &[u16],
+    letters: &[u64],
     branches: &[u16],
     n: usize,
     limits: &[u16],
@@ -176,7 +176,7 @@ pub fn leak_check(
     short: &mut [u64],
     more: &mut [u64],
 ) -> Verdict
-    requires { ⌜ Rule-tables (now ws) s (now afters) (now «flow_at») w (now flows) (now names)
+    requires { ⌜ Rule-tables (now ws) s (now afters) (now «flow_at») w (now fitting) (now names)
         (now «letter_at») (now letters) (now branches) ⌝ }
     requires { ⌜ Ceilings-ready (now ws) s n (now limits) (now starts) (now holders) (now unbounded) ⌝ }
     requires { ⌜ Groups-upto (program (now ws) s) (tables (now ws) s) (now limits) (s .ceilings) n (s .states)
@@ -184,7 +184,7 @@ pub fn leak_check(
     requires { ⌜ Kept-rules (program (now ws) s) (tables (now ws) s) (s .states) kept (now «first_at») (now tos)
         (now others) ⌝ }
     requires { ⌜ s .states * 8 ≤ length (now group) ⌝ }
-    requires { ⌜ Rooms s n (now tos) (now others) (now short) (now more) ⌝ }
+    requires { ⌜ Rooms (now ws) s n (now tos) (now others) (now short) (now more) ⌝ }
     ensures { λ r. ⌜ r ≡
         answer (leak-check (now (ws .entry)) s (ceilings-of (now (ws .entry)) s n)
         (rules (program (now (ws .entry)) s) (tables (now (ws .entry)) s))) ⌝ }
@@ -220,7 +220,7 @@ pub fn leak_check(
                 afters,
                 flow_at,
                 w,
-                flows,
+                fitting,
                 names,
                 letter_at,
                 letters,

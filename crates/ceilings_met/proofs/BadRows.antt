@@ -3,21 +3,22 @@ use Prim.Native.Nat.{ℕ, zero, suc, _+_, _-_, _≤_, _<_}
 use native.Mathlib.Decide.{ℕ-discrete, decLt}
 use native.Mathlib.Omega.{arith}
 use mathlib.Core.Path.{_≡_, refl, sym, _∙_, ap}
-use mathlib.Core.Bool.{Bool, true, false, _&&_}
+use mathlib.Core.Bool.{Bool, true, false, not, _&&_}
 use mathlib.Core.List.{List, [], _∷_, _++_}
-use mathlib.Core.Option.{some, Option·some-injective, Option·none-ne-some}
+use mathlib.Core.Option.{some}
 use lib.ListN.{take, drop, length-take, List·getD-eq-default}
 use lib.Dec.{leb, eqb}
 use borrow.Author.Tests.{eq-eqb, ne-eqb, eqb-true}
 use Rattle.model.specs.declared.Sizes.{Sizes}
 use Rattle.model.specs.Words.{Columns, left, right, columns}
 use Rattle.model.specs.Message.{bads-at}
-use Rattle.model.specs.Reader.{past, Grammar, fits, read}
+use Rattle.model.specs.Reader.{past, Grammar, read}
 use Rattle.model.specs.Rows.{Program}
-use Rattle.model.specs.Bads.{Part, bad, subject, minimum, further, item, bad-step, bad-rows, Subject, subject-at, item-at, items-from, met}
+use Rattle.model.specs.Bads.{Part, bad, subject, minimum, detail, further, item, subject-step, detail-step, bad-step, bad-rows, Subject, past-heads, item-at, items-from, met}
 use Rattle.model.proofs.Logic.{test, and-left}
-use Rattle.model.proofs.Reader.{by-option, past-wrong, past-row, read-none, read-end, read-stop, read-go}
-use Rattle.ceilings_met.specs.Items.{items-at}
+use Rattle.model.proofs.Index.{first-end, first-hit, first-miss, first-is}
+use Rattle.model.proofs.Reader.{fits-some, by-option, past-wrong, past-row, read-none, read-end, read-stop, read-go}
+use Rattle.ceilings_met.specs.Items.{subject-from, items-at}
 
 module _ {Item : Type 0} (step : Grammar Item) (rows : Columns) where
   -- what is read to its end begins with a row that fits
@@ -34,64 +35,109 @@ module _ {Item : Type 0} (step : Grammar Item) (rows : Columns) where
       by-option (step x (left rows r) (right rows r)) (λ e. past-wrong q r (sym h ∙ read-stop step rows m r x xs e))
       (λ more e. record { rest = m; turn = refl; more = more; said = e; goes-on = sym (read-go step rows m r x xs more e) ∙ h })
 
-fits-more : {I : Type 0} (b : Bool) (xs ys : List I) → fits b xs ≡ some ys → (b ≡ true) × (ys ≡ xs)
-unfolding fits
-fits-more true xs ys h = (refl, sym (Option·some-injective xs ys h))
-fits-more false xs ys h = absurd (Option·none-ne-some ys h)
+-- the heads of an item
+module _ (rows : Columns) where
+  abbrev no-head : ℕ → Bool
+  no-head i = not (eqb (left rows i) 45)
 
-module _ (p : Program) (rows : Columns) where
+  pub heads-over : (r : ℕ) → (left rows r ≡ 45 → ⊥) → past-heads rows r ≡ r
+  unfolding past-heads
+  heads-over r h = elim (decLt r (rows .size)) [
+    | yes below ↦ first-hit r (rows .size) no-head below (rw (ne-eqb (left rows r) 45 h))
+    | no beyond ↦ first-end r (rows .size) no-head (omega arith)
+  ]
+
+  pub heads-next : (r : ℕ) → r < rows .size → left rows r ≡ 45 → past-heads rows r ≡ past-heads rows (r + 1)
+  unfolding past-heads
+  heads-next r b h = first-miss r (rows .size) no-head b (rw (eq-eqb (left rows r) 45 h))
+
+  -- the row behind them is not before the first, and is past the rows only where that is
+  pub heads-bounds : (r : ℕ) → (r ≤ past-heads rows r) × (past-heads rows r ≤ r + (rows .size - r))
+  unfolding past-heads
+  heads-bounds r = elim (decLt r (rows .size)) [
+    | yes below ↦ let w = first-is r (rows .size) no-head (omega arith) in (w .from, omega (arith, w .upto))
+    | no beyond ↦ let e = first-end r (rows .size) no-head (omega arith) in (omega arith, omega arith)
+  ]
+
+module _ (p : Program) (rows : Columns) (inside : (r : ℕ) → 0 < left rows r → r < rows .size) where
   abbrev reading : ℕ → List Part → ℕ → ℕ → Type 0
   reading m parts i q = read (bad-step p) rows m parts i ≡ past q
 
-  -- a subject, or a minimum, is a row by itself
-  subject-alone : (t n : ℕ) (more : List Part) → bad-step p subject t n ≡ some more → more ≡ []
-  unfolding bad-step
-  subject-alone t n more e = fits-more _ [] more e .1
+  -- two parts that say the same to a row read alike from it
+  read-alike : (m i q : ℕ) (x y : Part) (xs : List Part) → bad-step p x (left rows i) (right rows i) ≡ bad-step p y (left rows i) (right rows i) → reading m (x ∷ xs) i q → reading m (y ∷ xs) i q
+  read-alike m i q x y xs e h =
+      let a = fitting (bad-step p) rows m i q x xs h in
+      rw (a .turn) (read-go (bad-step p) rows (a .rest) i y xs (a .more) (sym e ∙ a .said) ∙ a .goes-on)
 
-  minimum-alone : (t n : ℕ) (more : List Part) → bad-step p minimum t n ≡ some more → more ≡ []
+  -- so many heads and the minimum
+  detail-rows : (a m i q : ℕ) → reading m (detail a ∷ further ∷ []) i q → (l : ℕ) × reading l (further ∷ []) (past-heads rows i + 1) q
+  unfolding bad-step detail-step
+  detail-rows zero m i q h =
+      let b = fitting (bad-step p) rows m i q (detail zero) (further ∷ []) h in
+      let (fit, none-more) = fits-some _ [] (b .more) (b .said) in
+      let tag = eqb-true (left rows i) 43 (and-left _ _ fit) in
+      let e = heads-over rows i (λ z. omega arith) in
+      (b .rest, rw e (rw (sym none-more) at (b .goes-on)))
+  detail-rows (suc a) m i q h =
+      let b = fitting (bad-step p) rows m i q (detail (suc a)) (further ∷ []) h in
+      let (fit, one-more) = fits-some _ (detail a ∷ []) (b .more) (b .said) in
+      let tag = eqb-true (left rows i) 45 (and-left _ _ fit) in
+      let e = heads-next rows i (inside i (omega arith)) tag in
+      rw e (detail-rows a (b .rest) (i + 1) q (rw (sym one-more) at (b .goes-on)))
+
+  minimum-rows : (a m i q : ℕ) → reading m (minimum a ∷ further ∷ []) i q → (l : ℕ) × reading l (further ∷ []) (past-heads rows i + 1) q
   unfolding bad-step
-  minimum-alone t n more e = fits-more _ [] more e .1
+  minimum-rows a m i q h = test (eqb (left rows i) 45)
+      (λ z. detail-rows a m i q (read-alike m i q (minimum a) (detail a) (further ∷ []) (rw (z, bad-step)) h))
+      (λ z. detail-rows 0 m i q (read-alike m i q (minimum a) (detail 0) (further ∷ []) (rw (z, bad-step)) h))
+
+  -- a subject is a row by itself, before a minimum
+  subject-more : (t n : ℕ) (more : List Part) → bad-step p subject t n ≡ some more → (a : ℕ) × (more ≡ minimum a ∷ [])
+  unfolding bad-step subject-step
+  subject-more t n more e =
+      test (eqb t 41) (λ z. (_, sym (fits-some _ (minimum 0 ∷ []) more (rw (z, subject-step) at e) .1)))
+      (λ z. (_, sym (fits-some _ _ more (rw (z, subject-step) at e) .1)))
 
   -- an item's first row
   first-item : (t n : ℕ) (more : List Part) → bad-step p bad t n ≡ some more → more ≡ item
   unfolding bad-step
-  first-item t n more e = fits-more _ item more e .1
+  first-item t n more e = sym (fits-some _ item more e .1)
 
   further-item : (t n : ℕ) (more : List Part) → t ≡ 40 → bad-step p further t n ≡ some more → more ≡ item
   unfolding bad-step
-  further-item t n more z e = fits-more _ item more (rw z at e) .1
+  further-item t n more z e = sym (fits-some _ item more (rw z at e) .1)
 
   -- the last row
   no-further : (t n : ℕ) (more : List Part) → (t ≡ 40 → ⊥) → bad-step p further t n ≡ some more → more ≡ []
   unfolding bad-step
   no-further t n more z e =
-      test (eqb t 44) (λ y. fits-more _ [] more (rw (y, bad-step) at e) .1)
-      (λ y. absurd (z (eqb-true t 40 (and-left _ _ (fits-more _ item more (rw (y, bad-step) at e) .0)))))
+      test (eqb t 44) (λ y. sym (fits-some _ [] more (rw (y, bad-step) at e) .1))
+      (λ y. absurd (z (eqb-true t 40 (and-left _ _ (fits-some _ item more (rw (y, bad-step) at e) .0)))))
 
   -- the rows of an item, by its first
-  item-rows : (m i q : ℕ) (x : Part) → reading m (x ∷ []) i q → ((more : List Part) → bad-step p x (left rows i) (right rows i) ≡ some more → more ≡ item) → (l : ℕ) × reading l (further ∷ []) (i + 3) q
+  item-rows : (m i q : ℕ) (x : Part) → reading m (x ∷ []) i q → ((more : List Part) → bad-step p x (left rows i) (right rows i) ≡ some more → more ≡ item) → (l : ℕ) × reading l (further ∷ []) (past-heads rows (i + 2) + 1) q
   item-rows m i q x h is-item =
       let a = fitting (bad-step p) rows m i q x [] h in
-      let b = fitting (bad-step p) rows (a .rest) (i + 1) q subject (minimum ∷ further ∷ []) (rw (is-item (a .more) (a .said)) at (a .goes-on)) in
-      let c = fitting (bad-step p) rows (b .rest) (i + 1 + 1) q minimum (further ∷ []) (rw (subject-alone _ _ (b .more) (b .said)) at (b .goes-on)) in
-      let e : i + 1 + 1 + 1 ≡ i + 3 = omega arith in
-      (c .rest, rw (minimum-alone _ _ (c .more) (c .said), e) at (c .goes-on))
+      let b = fitting (bad-step p) rows (a .rest) (i + 1) q subject (further ∷ []) (rw (is-item (a .more) (a .said)) at (a .goes-on)) in
+      let (heads, one-more) = subject-more _ _ (b .more) (b .said) in
+      let e : i + 1 + 1 ≡ i + 2 = omega arith in
+      minimum-rows heads (b .rest) (i + 2) q (rw (one-more, e) at (b .goes-on))
 
-  pub bad-first : (m r q : ℕ) → reading m (bad ∷ []) r q → (l : ℕ) × reading l (further ∷ []) (r + 3) q
-  bad-first m r q h = item-rows m r q bad h (λ more. first-item _ _ more)
+  pub bad-first : (m r q i : ℕ) → i ≡ past-heads rows (r + 2) + 1 → reading m (bad ∷ []) r q → (l : ℕ) × reading l (further ∷ []) i q
+  bad-first m r q i e h = rw e (item-rows m r q bad h (λ more. first-item _ _ more))
 
-  pub bad-next : (m i q : ℕ) → reading m (further ∷ []) i q → left rows i ≡ 40 → (l : ℕ) × reading l (further ∷ []) (i + 3) q
-  bad-next m i q h z = item-rows m i q further h (λ more. further-item _ _ more z)
+  pub bad-next : (m i q j : ℕ) → j ≡ past-heads rows (i + 2) + 1 → reading m (further ∷ []) i q → left rows i ≡ 40 → (l : ℕ) × reading l (further ∷ []) j q
+  bad-next m i q j e h z = rw e (item-rows m i q further h (λ more. further-item _ _ more z))
 
   pub bad-last : (m i q : ℕ) → reading m (further ∷ []) i q → (left rows i ≡ 40 → ⊥) → q ≡ i + 1
   bad-last m i q h z =
       let a = fitting (bad-step p) rows m i q further [] h in
       sym (past-row (i + 1) q (sym (read-none (bad-step p) rows (a .rest) (i + 1)) ∙ (rw (no-further _ _ (a .more) z (a .said)) at (a .goes-on))))
 
--- past the rows there is no item
-pub bad-inside : (ws : List ℕ) (s : Sizes) (r : ℕ) → left (bad-rows ws s) r ≡ 40 → r < s .badrows
+-- past the rows there is no tag
+pub bad-inside : (ws : List ℕ) (s : Sizes) (r t : ℕ) → t ≡ left (bad-rows ws s) r → 0 < t → r < s .badrows
 unfolding bad-rows left columns
-bad-inside ws s r h = elim (decLt r (s .badrows)) [
+bad-inside ws s r t e h = elim (decLt r (s .badrows)) [
   | yes below ↦ below
   | no beyond ↦
       let l = length-take (s .badrows) (drop (bads-at s + 2) ws) in
@@ -100,9 +146,9 @@ bad-inside ws s r h = elim (decLt r (s .badrows)) [
 ]
 
 -- a bad met item by item
-module _ (counts : Subject → ℕ) (rows : Columns) (inside : (r : ℕ) → left rows r ≡ 40 → r < rows .size) where
-  met-turn : (m r : ℕ) → left rows r ≡ 40 → met counts (items-from rows (suc m) r) ≡ (leb (right rows (r + 2)) (counts (subject-at rows r)) && met counts (items-from rows m (r + 3)))
-  unfolding items-from item-at met
+module _ (counts : Subject → ℕ) (rows : Columns) (inside : (r : ℕ) → 0 < left rows r → r < rows .size) where
+  met-turn : (m r : ℕ) → left rows r ≡ 40 → met counts (items-from rows (suc m) r) ≡ (leb (right rows (past-heads rows (r + 2))) (counts (subject-from rows r)) && met counts (items-from rows m (past-heads rows (r + 2) + 1)))
+  unfolding items-from item-at subject-from met
   met-turn m r h = rw (eq-eqb _ _ h, items-from)
 
   met-rest : (m r : ℕ) → (left rows r ≡ 40 → ⊥) → met counts (items-from rows m r) ≡ true
@@ -112,19 +158,21 @@ module _ (counts : Subject → ℕ) (rows : Columns) (inside : (r : ℕ) → lef
 
   -- as many rows as there are left, or more
   met-fuel : (m m′ r : ℕ) → rows .size ≤ r + m → rows .size ≤ r + m′ → met counts (items-from rows m r) ≡ met counts (items-from rows m′ r)
-  met-fuel zero m′ r a b = let past : left rows r ≡ 40 → ⊥ = λ h. let w = inside r h in omega arith in met-rest zero r past ∙ sym (met-rest m′ r past)
-  met-fuel (suc m) zero r a b = let past : left rows r ≡ 40 → ⊥ = λ h. let w = inside r h in omega arith in met-rest (suc m) r past ∙ sym (met-rest zero r past)
+  met-fuel zero m′ r a b = let past : left rows r ≡ 40 → ⊥ = λ h. let w = inside r (omega arith) in omega arith in met-rest zero r past ∙ sym (met-rest m′ r past)
+  met-fuel (suc m) zero r a b = let past : left rows r ≡ 40 → ⊥ = λ h. let w = inside r (omega arith) in omega arith in met-rest (suc m) r past ∙ sym (met-rest zero r past)
   met-fuel (suc m) (suc m′) r a b = elim (ℕ-discrete (left rows r) 40) [
     | yes e ↦
-        met-turn m r e ∙ (ap (λ z. leb (right rows (r + 2)) (counts (subject-at rows r)) && z) (met-fuel m m′ (r + 3) (omega arith) (omega arith)) ∙ sym (met-turn m′ r e))
+        let w = heads-bounds rows (r + 2) .0 in
+        met-turn m r e ∙ (ap (λ z. leb (right rows (past-heads rows (r + 2))) (counts (subject-from rows r)) && z) (met-fuel m m′ (past-heads rows (r + 2) + 1) (omega arith) (omega arith)) ∙ sym (met-turn m′ r e))
     | no e ↦ met-rest (suc m) r e ∙ sym (met-rest (suc m′) r e)
   ]
 
-  pub met-item : (r : ℕ) → left rows r ≡ 40 → met counts (items-at rows r) ≡ (leb (right rows (r + 2)) (counts (subject-at rows r)) && met counts (items-at rows (r + 3)))
+  pub met-item : (r : ℕ) → left rows r ≡ 40 → met counts (items-at rows r) ≡ (leb (right rows (past-heads rows (r + 2))) (counts (subject-from rows r)) && met counts (items-at rows (past-heads rows (r + 2) + 1)))
   unfolding items-at
   met-item r h =
-      let t : rows .size - r ≡ suc (rows .size - (r + 1)) = omega (arith, inside r h) in
-      ap (λ m. met counts (items-from rows m r)) t ∙ (met-turn (rows .size - (r + 1)) r h ∙ ap (λ b. leb (right rows (r + 2)) (counts (subject-at rows r)) && b) (met-fuel _ _ (r + 3) (omega arith) (omega arith)))
+      let t : rows .size - r ≡ suc (rows .size - (r + 1)) = let w = inside r (omega arith) in omega arith in
+      let w = heads-bounds rows (r + 2) .0 in
+      ap (λ m. met counts (items-from rows m r)) t ∙ (met-turn (rows .size - (r + 1)) r h ∙ ap (λ b. leb (right rows (past-heads rows (r + 2))) (counts (subject-from rows r)) && b) (met-fuel _ _ (past-heads rows (r + 2) + 1) (omega arith) (omega arith)))
 
   pub met-over : (r : ℕ) → (left rows r ≡ 40 → ⊥) → met counts (items-at rows r) ≡ true
   unfolding items-at

@@ -17,7 +17,7 @@ use Rattle.model.specs.Message.{bads-at}
 use Rattle.model.specs.Verdict.{unless}
 use Rattle.model.specs.Rows.{Program, program}
 use Rattle.model.specs.Tables.{Tables, tables}
-use Rattle.model.specs.Bads.{bad, bad-step, bad-rows, bad-row, Subject, subject-at, Item, items, met}
+use Rattle.model.specs.Bads.{bad, bad-step, bad-rows, bad-row, Subject, past-heads, Item, items, met}
 use Rattle.model.specs.Counters.{counter-count, counts}
 use Rattle.model.specs.Markings.{Marking, sum-in}
 use Rattle.model.specs.Ceilings.{ceilings-of, highest, bad-allowed, met-check}
@@ -28,9 +28,9 @@ use Rattle.ceilings.specs.Table.{held, Limits-table}
 use Rattle.ceilings.proofs.Cells.{row-in}
 use Rattle.ceilings_form.proofs.Limited.{highest-same}
 use Rattle.ceilings_form.proofs.Repeated.{Walked, walked-start, walked-row, walked-inside, walked-stands, walked-next}
-use Rattle.ceilings_met.specs.Items.{Range, Ready, Bads-in-form, Bad-stands, bad-end, items-at, bad-met}
+use Rattle.ceilings_met.specs.Items.{Range, Ready, Bads-in-form, Bad-stands, bad-end, subject-from, items-at, bad-met}
 use Rattle.ceilings_met.specs.Sums.{counts-of, Sums-of, Summed}
-use Rattle.ceilings_met.proofs.BadRows.{bad-inside, met-item, met-over}
+use Rattle.ceilings_met.proofs.BadRows.{heads-bounds, bad-inside, met-item, met-over}
 use Rattle.ceilings_met.proofs.Sums.{range-sum, between, sums-rise, sums-counts}
 
 -- the answer of a search for the first
@@ -97,12 +97,16 @@ module _ (ws : List ℕ) (s : Sizes) where
   unfolding bad-rows columns
   size-is = refl
 
-  inside : (r : ℕ) → left rows r ≡ 40 → r < rows .size
-  inside r h = let e = size-is in omega (arith, bad-inside ws s r h)
+  pub inside : (r : ℕ) → 0 < left rows r → r < rows .size
+  inside r h = let e = size-is in omega (arith, bad-inside ws s r (left rows r) refl h)
+
+  -- an item takes three rows or more, and does not end past the rows by more than that
+  pub item-ends : (r : ℕ) → r ≤ s .badrows → (e : ℕ) → e ≡ past-heads rows (r + 2) → (r + 3 ≤ e + 1) × (e + 1 ≤ s .badrows + 3)
+  item-ends r low e is = let z = size-is in let (a, b) = heads-bounds rows (r + 2) in (omega arith, omega arith)
 
   -- the counters of an item, and its count
   module _ (froms tos sums : List ℕ) (ready : Summed ws s froms tos sums) (r : ℕ) (low : r < s .badrows) where
-    pub item-range : Range (program ws s) (tables ws s) (subject-at rows r) (getD froms r 0) (getD tos r 0)
+    pub item-range : Range (program ws s) (tables ws s) (subject-from rows r) (getD froms r 0) (getD tos r 0)
     item-range = ready .items-table .range r (let e = size-is in omega arith)
 
     pub item-room : (r < length froms) × (r < length tos)
@@ -113,16 +117,16 @@ module _ (ws : List ℕ) (s : Sizes) where
       pub ends-room : (from < length sums) × (to < length sums)
       ends-room = let a = item-range .order in let b = item-range .upto in let c = ready .room in (omega arith, omega arith)
 
-      ends-told : getD sums from 0 + sum-in (program ws s) (tables ws s) (counts-of sums) (subject-at rows r) ≡ getD sums to 0
+      ends-told : getD sums from 0 + sum-in (program ws s) (tables ws s) (counts-of sums) (subject-from rows r) ≡ getD sums to 0
       ends-told =
-          let e = range-sum (program ws s) (tables ws s) (subject-at rows r) (getD froms r 0) (getD tos r 0) item-range (counts-of sums) in
+          let e = range-sum (program ws s) (tables ws s) (subject-from rows r) (getD froms r 0) (getD tos r 0) item-range (counts-of sums) in
           rw (from-is, to-is, e) (between sums (counter-count (program ws s) (tables ws s)) (ready .rising) (getD froms r 0) (getD tos r 0) (item-range .order) (item-range .upto))
 
       module _ (low-sum high-sum : ℕ) (low-is : low-sum ≡ getD sums from 0) (high-is : high-sum ≡ getD sums to 0) where
         pub sums-order : low-sum ≤ high-sum
         sums-order = let e = ends-told in omega arith
 
-        pub sum-told : high-sum - low-sum ≡ sum-in (program ws s) (tables ws s) (counts-of sums) (subject-at rows r)
+        pub sum-told : high-sum - low-sum ≡ sum-in (program ws s) (tables ws s) (counts-of sums) (subject-from rows r)
         sum-told = let e = ends-told in omega arith
 
   -- one item more, the one that is not met, and the end of the bad
@@ -130,14 +134,16 @@ module _ (ws : List ℕ) (s : Sizes) where
     pub meets-end : (t ≡ 40 → ⊥) → true ≡ met count (items-at rows r)
     meets-end h = sym (so-far ∙ met-over count rows inside i (λ z. h (tag ∙ z)))
 
-    module _ (is-item : t ≡ 40) (least c : ℕ) (minimum : least ≡ right rows (i + 2)) (counted : c ≡ count (subject-at rows i)) where
-      by-item : met count (items-at rows r) ≡ (leb least c && met count (items-at rows (i + 3)))
-      by-item = so-far ∙ (met-item count rows inside i (sym tag ∙ is-item) ∙ rw (minimum, counted))
+    module _ (is-item : t ≡ 40) (next least c : ℕ) (next-is : next ≡ past-heads rows (i + 2) + 1) (minimum : least ≡ right rows (next - 1)) (counted : c ≡ count (subject-from rows i)) where
+      by-item : met count (items-at rows r) ≡ (leb least c && met count (items-at rows next))
+      by-item =
+          let e : next - 1 ≡ past-heads rows (i + 2) = omega arith in
+          so-far ∙ (met-item count rows inside i (sym tag ∙ is-item) ∙ rw (minimum, e, counted, next-is))
 
       pub meets-not : c < least → false ≡ met count (items-at rows r)
       meets-not h = sym (by-item ∙ rw (lt-leb least c h))
 
-      pub meets-next : least ≤ c → met count (items-at rows r) ≡ met count (items-at rows (i + 3))
+      pub meets-next : least ≤ c → met count (items-at rows r) ≡ met count (items-at rows next)
       meets-next h = by-item ∙ rw (le-leb least c h)
 
   -- the bads one after the other: the first j end before row r

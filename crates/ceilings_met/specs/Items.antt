@@ -1,5 +1,5 @@
 -- What the lent tables of items say: the counters of each item of the bads.
-use Prim.Native.Nat.{ℕ, _-_, _≤_, _<_}
+use Prim.Native.Nat.{ℕ, _+_, _-_, _≤_, _<_}
 use mathlib.Core.Path.{_≡_}
 use mathlib.Core.Bool.{Bool, true, false}
 use mathlib.Core.List.{List, [], _∷_}
@@ -11,7 +11,7 @@ use Rattle.model.specs.Words.{Columns}
 use Rattle.model.specs.Reader.{past, read, after, first-wrong}
 use Rattle.model.specs.Rows.{Program, program}
 use Rattle.model.specs.Tables.{Tables, tables}
-use Rattle.model.specs.Bads.{bad, bad-step, bad-rows, Subject, subject-at, Item, items-from, items, met}
+use Rattle.model.specs.Bads.{bad, bad-step, bad-rows, Subject, past-heads, subject-at, Item, items-from, items, met}
 use Rattle.model.specs.Counters.{counter-count, counts}
 use Rattle.model.specs.Markings.{Marking, sum-in}
 use Rattle.model.specs.Ceilings.{ceilings-of}
@@ -26,11 +26,15 @@ pub record Range (p : Program) (t : Tables) (k : Subject) (from to : ℕ) : Type
   pub within : (x : ℕ) → from ≤ x → x < to → counts p t k x ≡ true
   pub behind : (x : ℕ) → to ≤ x → x < counter-count p t → counts p t k x ≡ false
 
+-- what the item counts whose first row is r: its minimum stands behind its heads
+unfoldable pub subject-from : Columns → ℕ → Subject
+subject-from rows r = subject-at rows r (past-heads rows (r + 2))
+
 -- for each row r, whether or not an item stands there: the counters of the item that would stand there
 pub record Items-counted (p : Program) (t : Tables) (rows : Columns) (froms tos : List ℕ) : Type 0 where
   pub from-room : rows .size ≤ length froms
   pub to-room : rows .size ≤ length tos
-  pub range : (r : ℕ) → r < rows .size → Range p t (subject-at rows r) (getD froms r 0) (getD tos r 0)
+  pub range : (r : ℕ) → r < rows .size → Range p t (subject-from rows r) (getD froms r 0) (getD tos r 0)
 
 -- what the check of bads under the ceilings is handed
 pub record Ready (ws : List ℕ) (s : Sizes) (n : ℕ) (limits froms tos : List ℕ) : Type 0 where

@@ -4,6 +4,7 @@ use ceilings::limit;
 use ceilings_form::entries::ceilings_at;
 use ceilings_form::entries::column;
 use model::Sizes;
+use model::TAG_ARGUMENT;
 use model::TAG_CLASS;
 use model::Verdict;
 ghost use mathlib.Core.Path.{_≡_};
@@ -15,11 +16,12 @@ ghost use Rattle.model.specs.Index.{first};
 ghost use Rattle.model.specs.Rows.{program};
 ghost use Rattle.model.specs.Tables.{tables, state-index};
 ghost use Rattle.model.specs.Closed.{start-state};
-ghost use Rattle.model.specs.Bads.{bad-rows, bad-row, subject-at, met};
+ghost use Rattle.model.specs.Bads.{bad-rows, bad-row, past-heads, met};
 ghost use Rattle.model.specs.Markings.{sum-in};
 ghost use Rattle.model.specs.Ceilings.{highest, ceilings-of, met-check, start-check};
 ghost use Rattle.model.specs.Verify.{answer};
-ghost use Rattle.ceilings_met.specs.Items.{Ready, Bads-in-form, Bad-stands, bad-end, items-at, bad-met};
+ghost use Rattle.ceilings_met.specs.Items.{Ready, Bads-in-form, Bad-stands, bad-end};
+ghost use Rattle.ceilings_met.specs.Items.{subject-from, items-at, bad-met};
 ghost use Rattle.ceilings_met.specs.Sums.{counts-of, Sums-of, Summed};
 ghost use Rattle.bits.specs.Bits.{Row};
 ghost use Rattle.ceilings_form.specs.Parts.{Whole};
@@ -41,19 +43,43 @@ pub fn bad_number(ws: &[u16], s: Sizes, r: usize) -> usize
     column(ws, s.badrows, 4 + 2 * s.rows + 2 + s.badrows, r) as usize
 }
 
-// The row after the bad that stands at row r: after its items, of three rows each, and its last row.
+// The row behind the heads that stand from row r on: of an item whose first row is r - 2, the row of its minimum.
+pub fn past_heads(ws: &[u16], s: Sizes, r: usize) -> usize
+    requires { ⌜ Whole (now ws) s ⌝ }
+    ensures { λ e. ⌜ e ≡ past-heads (bad-rows (now (ws .entry)) s) r ⌝ }
+{
+    let mut i = r;
+    loop {
+        if bad_tag(ws, s, i) != TAG_ARGUMENT {
+            return i;
+        }
+        i += 1;
+    }
+}
+
+// The row after the item at row r, which ends with its minimum.
+fn next_item(ws: &[u16], s: Sizes, r: usize) -> usize
+    requires { ⌜ Whole (now ws) s ⌝ }
+    requires { ⌜ r ≤ s .badrows ⌝ }
+    ensures { λ q. ⌜ q ≡ past-heads (bad-rows (now (ws .entry)) s) (r + 2) + 1 ⌝ }
+    ensures { λ q. ⌜ (r + 3 ≤ q) × (q ≤ s .badrows + 3) ⌝ }
+{
+    past_heads(ws, s, r + 2) + 1
+}
+
+// The row after the bad that stands at row r: after its items and its last row.
 fn next_bad(ws: &[u16], s: Sizes, r: usize) -> usize
     requires { ⌜ Whole (now ws) s ⌝ }
     requires { ⌜ r ≤ s .badrows ⌝ }
     requires { ⌜ Bad-stands (program (now ws) s) (bad-rows (now ws) s) r ⌝ }
     ensures { λ q. ⌜ q ≡ bad-end (program (now (ws .entry)) s) (bad-rows (now (ws .entry)) s) r ⌝ }
 {
-    let mut i = r + 3;
+    let mut i = next_item(ws, s, r);
     loop {
         if bad_tag(ws, s, i) != TAG_CLASS {
             return i + 1;
         }
-        i += 3;
+        i = next_item(ws, s, i);
     }
 }
 
@@ -92,7 +118,7 @@ fn item_count(ws: &[u16], s: Sizes, froms: &[u16], tos: &[u16], sums: &[Sum], r:
     requires { ⌜ Summed (now ws) s (now froms) (now tos) (now sums) ⌝ }
     requires { ⌜ r < s .badrows ⌝ }
     ensures { λ c. ⌜ c ≡ sum-in (program (now (ws .entry)) s) (tables (now (ws .entry)) s)
-        (counts-of (now (sums .entry))) (subject-at (bad-rows (now (ws .entry)) s) r) ⌝ }
+        (counts-of (now (sums .entry))) (subject-from (bad-rows (now (ws .entry)) s) r) ⌝ }
 {
     let from = froms[r] as usize;
     let to = tos[r] as usize;
@@ -114,11 +140,12 @@ fn meets(ws: &[u16], s: Sizes, froms: &[u16], tos: &[u16], sums: &[Sum], r: usiz
         if bad_tag(ws, s, i) != TAG_CLASS {
             return true;
         }
-        let least = bad_number(ws, s, i + 2);
+        let next = next_item(ws, s, i);
+        let least = bad_number(ws, s, next - 1);
         if item_count(ws, s, froms, tos, sums, i) < least {
             return false;
         }
-        i += 3;
+        i = next;
     }
 }
 

@@ -14,16 +14,18 @@ use Rattle.model.specs.Rows.{Program, program, row-check}
 use Rattle.model.specs.Scopes.{name-check, scope-check}
 use Rattle.model.specs.Tables.{tables}
 use Rattle.model.specs.Counters.{counter-count}
-use Rattle.model.specs.Ceilings.{ceiling-check}
+use Rattle.model.specs.Bads.{bad-rows}
+use Rattle.model.specs.Rules.{rules}
+use Rattle.model.specs.Ceilings.{ceilings-of, ceiling-check, start-check, met-check, leak-check}
 use Rattle.model.specs.Verify.{program-check, evidence-check, ceilings-check, message, message-check, check, answer, verdict}
 use Rattle.model.proofs.Exact.Answer.{Refuses, program-refuses, ceilings-refuse}
 use Rattle.model.proofs.Exact.Entries.{ceiling-none}
 use Rattle.system_space.specs.Space.{words-after}
 use Rattle.answers.specs.Safe.{is-safe}
 use Rattle.mailed.specs.Mailed.{mailed-then-counters}
-use Rattle.checks.specs.Order.{taken, under-ceilings, from-3, from-4, from-5, from-6, from-7, from-8, from-22, from-10, from-11, from-14}
+use Rattle.checks.specs.Order.{taken, below-ceilings, from-3, from-4, from-5, from-6, from-7, from-8, from-22, from-10, from-11}
 use Rattle.checks.specs.Scratch.{Numbered}
-use Rattle.answers.proofs.Passing.{else-is, ends, goes-on, no-safe}
+use Rattle.answers.proofs.Passing.{else-is, ends}
 
 -- the checks in the order in which the code takes them
 assoc : (a b c : Check) → (a >> b) >> c ≡ a >> (b >> c)
@@ -37,13 +39,13 @@ three a b c r = assoc a (b >> c) r ∙ ap (λ x. a >> x) (assoc b c r)
 four : (a b c d r : Check) → (a >> (b >> (c >> d))) >> r ≡ a >> (b >> (c >> (d >> r)))
 four a b c d r = assoc a (b >> (c >> d)) r ∙ ap (λ x. a >> x) (three b c d r)
 
-in-threes : (a b c d e f g h i l : Check) → (a >> (b >> c)) >> ((d >> (e >> (f >> g))) >> ((h >> i) >> l)) ≡ a >> (b >> (c >> (d >> (e >> (f >> (g >> (h >> (i >> l))))))))
-in-threes a b c d e f g h i l =
-    three a b c _ ∙ ap (λ x. a >> (b >> (c >> x))) (four d e f g _ ∙ ap (λ x. d >> (e >> (f >> (g >> x)))) (assoc h i l))
+one-by-one : (a b c d e f g i j k l m : Check) → (a >> (b >> c)) >> ((d >> (e >> (f >> g))) >> ((i >> (j >> (k >> l))) >> m)) ≡ a >> (b >> (c >> (d >> (e >> (f >> (g >> (i >> (j >> (k >> (l >> m))))))))))
+one-by-one a b c d e f g i j k l m =
+    three a b c _ ∙ ap (λ x. a >> (b >> (c >> x))) (four d e f g _ ∙ ap (λ x. d >> (e >> (f >> (g >> x)))) (four i j k l m))
 
 pub in-order : (ws : List ℕ) (s : Sizes) (n : ℕ) → message-check present (taken ws s) n ≡ from-3 ws s n
-unfolding message-check taken program-check evidence-check ceilings-check under-ceilings mailed-then-counters from-3 from-4 from-5 from-6 from-7 from-8 from-22 from-10 from-11 from-14
-in-order ws s n = in-threes _ _ _ _ _ _ _ _ _ _
+unfolding message-check taken program-check evidence-check ceilings-check mailed-then-counters below-ceilings from-3 from-4 from-5 from-6 from-7 from-8 from-22 from-10 from-11
+in-order ws s n = one-by-one _ _ _ _ _ _ _ _ _ _ _ _
 
 -- a check that finds nothing leaves those behind it
 pub goes-by : (m c r : Check) → m ≡ c >> r → c ≡ none → m ≡ r
@@ -55,17 +57,16 @@ pub behind : (a b : Check) → Refuses (a >> b) → a ≡ none → Refuses b
 unfolding _>>_
 behind a b r h = subst Refuses (ap (λ x. x >> b) h) r
 
--- nor do 5 and 11 to 13 by themselves
+-- nor do 5 and 13 by themselves
 pub scopes-refuse : (p : Program) → row-check p ≡ none → name-check p ≡ none → Refuses (scope-check p)
 unfolding program-check
 scopes-refuse p r n = behind _ _ (behind _ _ (program-refuses p) r) n
 
-pub under-refuses : (ws : List ℕ) (s : Sizes) → ceiling-check ws s (counter-count (program ws s) (tables ws s)) ≡ none → Refuses (under-ceilings ws s (counter-count (program ws s) (tables ws s)))
-unfolding ceilings-check taken under-ceilings
-under-refuses ws s b = behind _ _ (ceilings-refuse (taken ws s)) b
-
-pub form-passed : (ws : List ℕ) (s : Sizes) (n : ℕ) → Numbered ws s n → ceiling-check ws s (counter-count (program ws s) (tables ws s)) ≡ none
-form-passed ws s n h = subst (λ k. ceiling-check ws s k ≡ none) (h .counted) (ceiling-none ws s n .1 (h .in-form))
+pub leak-refuses : (ws : List ℕ) (s : Sizes) (n : ℕ) → Numbered ws s n → start-check s (program ws s) (tables ws s) (ceilings-of ws s n) ≡ none → met-check s (program ws s) (tables ws s) (ceilings-of ws s n) (bad-rows ws s) ≡ none → Refuses (leak-check ws s (ceilings-of ws s n) (rules (program ws s) (tables ws s)))
+unfolding ceilings-check taken
+leak-refuses ws s n h a b =
+    let r : Refuses (ceiling-check ws s n >> (start-check s (program ws s) (tables ws s) (ceilings-of ws s n) >> (met-check s (program ws s) (tables ws s) (ceilings-of ws s n) (bad-rows ws s) >> leak-check ws s (ceilings-of ws s n) (rules (program ws s) (tables ws s))))) = rw (h .counted) (ceilings-refuse (taken ws s)) in
+    behind _ _ (behind _ _ (behind _ _ r (ceiling-none ws s n .1 (h .in-form))) a) b
 
 -- what the code finds of the n counters that it has counted is what the model says of the message
 module _ (ws : List ℕ) (s : Sizes) (n : ℕ) (v : Verdict) where
@@ -75,24 +76,11 @@ module _ (ws : List ℕ) (s : Sizes) (n : ℕ) (v : Verdict) where
   pub ceiling-told : v ≡ answer (ceiling-check ws s n) → n ≡ counter-count (program ws s) (tables ws s) → v ≡ answer (ceiling-check ws s (counter-count (program ws s) (tables ws s)))
   ceiling-told = told (ceiling-check ws s)
 
-  pub ceilings-told : v ≡ answer (under-ceilings ws s n) → n ≡ counter-count (program ws s) (tables ws s) → v ≡ answer (under-ceilings ws s (counter-count (program ws s) (tables ws s)))
-  ceilings-told = told (under-ceilings ws s)
+  pub below-told : (lent : ℕ) → v ≡ answer (below-ceilings ws s n lent) → n ≡ counter-count (program ws s) (tables ws s) → v ≡ answer (from-11 ws s lent)
+  unfolding from-11
+  below-told lent = told (λ k. below-ceilings ws s k lent)
 
 -- a refusal ends the checks, and the lent words stay
 pub ends-with : (m c r : Check) (v : Verdict) (f : Bool) (ws : List ℕ) (s : Sizes) (lent : List ℕ) → m ≡ c >> r → v ≡ answer c → f ≡ is-safe v → f ≡ false → (v ≡ answer m) × (lent ≡ words-after v ws s lent)
 unfolding words-after
 ends-with m c r v f ws s lent z e t h = (ends c r v f e t h ∙ sym (ap answer z), sym (else-is v _ lent (sym t ∙ h)))
-
--- of checks one after the other the first refuses, or the second where the first finds nothing; what holds after safe
--- need not hold then
-pub first-refuses : {A : Type 0} (a b : Check) (v : Verdict) (f : Bool) → v ≡ answer a → f ≡ is-safe v → f ≡ false → (v ≡ answer (a >> b)) × (v ≡ Safe → A)
-unfolding is-safe number
-first-refuses a b v f e s h = (ends a b v f e s h, λ z. no-safe v f s h (ap is-safe z))
-
-pub second-refuses : {A : Type 0} (a b c : Check) (v : Verdict) (f : Bool) → a ≡ none → v ≡ answer b → f ≡ is-safe v → f ≡ false → (v ≡ answer (a >> (b >> c))) × (v ≡ Safe → A)
-second-refuses a b c v f n e s h =
-    let r = first-refuses b c v f e s h in
-    (goes-on a (b >> c) v n (r .0), r .1)
-
-pub third-answers : (a b c : Check) (v : Verdict) → a ≡ none → b ≡ none → v ≡ answer c → v ≡ answer (a >> (b >> c))
-third-answers a b c v n m e = goes-on a (b >> c) v n (goes-on b c v m e)

@@ -1,27 +1,31 @@
 -- What one layer's tables say is what the next one asks.
-use Prim.Native.Nat.{ℕ, _+_, _*_, _≤_, _<_}
+use Prim.Native.Nat.{ℕ, _+_, _*_, _-_, _/_, _≤_, _<_}
+use native.Mathlib.Nat.{mul-le-mul-left, mul-le-mul-right}
+use native.Mathlib.Decide.{ℕ-discrete}
 use native.Mathlib.Omega.{arith}
-use mathlib.Core.Path.{_≡_, ap, _∙_}
+use mathlib.Core.Path.{_≡_, refl, sym, ap, _∙_}
 use mathlib.Core.List.{List}
 use mathlib.Core.Option.{none}
 use lib.ListN.{length, length-drop}
 use lib.Dec.{eqb}
-use Rattle.rooms.specs.Rooms.{row-room, limit-room}
+use Rattle.rooms.specs.Rooms.{letter-sets, limit-room}
 use Rattle.model.specs.declared.Sizes.{Sizes}
 use Rattle.model.specs.Verdict.{_>>_}
 use Rattle.model.specs.Words.{columns}
 use Rattle.model.specs.Rows.{Program, size, tag, num, program, row-check}
-use Rattle.model.specs.Limits.{present, maxCounters, maxCeilings}
+use Rattle.model.specs.Limits.{present, maxCounters, maxCeilings, maxArity, maxConstructors, maxMails}
 use Rattle.model.specs.Tables.{Tables, tables, entries, entry-check, has, state, state-index}
 use Rattle.model.specs.Index.{all, implies}
 use Rattle.model.specs.Scopes.{name-check, scope-check}
 use Rattle.model.specs.Heads.{start}
 use Rattle.model.specs.Closed.{start-state, opening-closed, open-check}
-use Rattle.model.specs.Counters.{counter-count, counter-check}
+use Rattle.model.specs.Letters.{head-count}
+use Rattle.model.specs.Counters.{letter-count, counter-count, counter-check}
 use Rattle.model.specs.Verify.{program-check}
 use Rattle.model.proofs.Exact.Checks.{then-none, unless-none}
 use Rattle.model.proofs.Logic.{and-right}
 use Rattle.model.proofs.Numbering.States.{index-below}
+use Rattle.model.proofs.Numbering.Within.{within-exactly}
 use borrow.Author.Tests.{leb-true}
 use Rattle.program.specs.Rows.{from}
 use Rattle.layout.specs.Tables.{After-table}
@@ -30,11 +34,16 @@ use Rattle.ceilings_form.specs.Parts as ceilings
 use Rattle.lists.specs.Ready.{Ready}
 use Rattle.evidence.specs.Whole.{Parts-whole}
 use Rattle.rooms.specs.Cleared.{Cleared}
-use Rattle.closure_sized.proofs.Opening.{product-most}
-use Rattle.rules.specs.Derived.{Rule-room}
+use Rattle.closure_sized.proofs.Opening.{product-most, sets-fit}
+use Rattle.system_letters.specs.Letters.{Name-heads, Class-letters, letter-width, allowed-set, Letter-sets}
+use Rattle.letter_codes.specs.Codes.{capped}
+use Rattle.letter_codes.proofs.Capped.{capped-few}
+use Rattle.letter_sets.specs.Sets.{Letter-room}
+use Rattle.rules.specs.Derived.{read-set, owner-at, Rule-room, Reads, Rule-tables}
+use Rattle.pattern_letters.specs.Picked.{Match-tables, Owners-room}
 use Rattle.kept_rules.specs.Kept.{Room-from}
 use Rattle.model.specs.Demands.{Within-limits}
-use Rattle.checks.specs.Scratch.{Limits-room, Mask-room}
+use Rattle.checks.specs.Scratch.{Limits-room, Mask-room, Numbered, Closed-tables, Rules-fit}
 
 -- refusals 3 to 5 found nothing
 pub program-passes : (p : Program) → row-check p ≡ none → name-check p ≡ none → scope-check p ≡ none → program-check p ≡ none
@@ -47,11 +56,6 @@ ready ws s w p e =
 
 pub ceilings-whole : (ws : List ℕ) (s : Sizes) → Parts-whole ws s → ceilings.Whole ws s
 ceilings-whole ws s w = record { limits = w .limits; held = w .held }
-
--- refusal 9 found nothing
-pub few : (s : Sizes) (p : Program) (t : Tables) → counter-check present s p t ≡ none → counter-count p t ≤ maxCounters
-unfolding counter-check
-few s p t h = leb-true _ _ (unless-none _ _ .0 h)
 
 -- refusal 8 found nothing, so the start has a counter
 pub start-counted : (s : Sizes) (p : Program) (t : Tables) → open-check s p t ≡ none → state-index t (start-state p) < counter-count p t
@@ -80,24 +84,27 @@ start-told ws s r x e h = h ∙ ap (λ q. state-index (tables ws s) (state (s .r
 pub ceilings-of-ready : (ws : List ℕ) (s : Sizes) → Ready ws s → ceilings.Whole ws s
 ceilings-of-ready ws s h = record { limits = h .limits; held = h .held }
 
--- room for the rules of a state, behind the first `spare` words
-pub spare-room : (s : Sizes) (spare : ℕ) (tos others : List ℕ) → Within-limits present s → spare + s .rows < row-room → spare + 1056 ≤ row-room → Cleared row-room tos → Cleared row-room others → Room-from s spare tos others
-spare-room s spare tos others l h k t o =
-    let a = t .room in
-    let b = o .room in
+-- room for the rules of a state, also behind the first `spare` words
+pub rules-fit : (ws : List ℕ) (s : Sizes) (tos others : List ℕ) (room : ℕ) → room ≡ length tos → Rule-room ws s tos others → Rules-fit ws s 0 room
+rules-fit ws s tos others room e r = let v = r .values in let l = r .letters in let k = r .counters in record { values = omega arith; letters = omega arith; counters = omega arith }
+
+pub spare-room : (ws : List ℕ) (s : Sizes) (spare : ℕ) (tos others : List ℕ) (room : ℕ) → room ≡ length tos → Rule-room ws s tos others → Rules-fit ws s spare room → Room-from ws s spare tos others
+spare-room ws s spare tos others room e r f =
+    let a = r .alike in
     let x = length-drop spare tos in
     let y = length-drop spare others in
-    record {
-      room = record {
-        values = omega arith;
-        letters = let c = l .constructors in omega arith;
-        counters = omega arith;
-        alike = omega arith;
-      };
-    }
+    let v = f .values in
+    let l = f .letters in
+    let k = f .counters in
+    record { room = record { values = omega arith; letters = omega arith; counters = omega arith; alike = omega arith } }
 
-pub rule-room : (s : Sizes) (tos others : List ℕ) → Within-limits present s → Cleared row-room tos → Cleared row-room others → Rule-room s tos others
-rule-room s tos others l t o = let r = l .rows .1 in spare-room s 0 tos others l (omega arith) (omega arith) t o .room
+-- cleared lists of m words for the rules of a message of n counters, of which the letters are some
+pub rule-room : (ws : List ℕ) (s : Sizes) (n m : ℕ) (tos others : List ℕ) → n ≡ counter-count (program ws s) (tables ws s) → s .rows < m → 16 * n ≤ m → maxCounters ≤ m → Cleared m tos → Cleared m others → Rule-room ws s tos others
+unfolding counter-count
+rule-room ws s n m tos others e h k l t o =
+    let a = t .room in
+    let b = o .room in
+    record { values = omega arith; letters = omega arith; counters = omega arith; alike = omega arith }
 
 -- limits of n counters, and where the ceilings begin
 pub limits-room : (s : Sizes) (n k m : ℕ) (limits ceiling-at : List ℕ) → n * s .ceilings ≤ k → s .ceilings ≤ m → Cleared k limits → Cleared m ceiling-at → Limits-room s n limits ceiling-at
@@ -131,3 +138,76 @@ mask-room j k n holders unbounded group short more g h a b c d e =
 pub states-few : (ws : List ℕ) (s : Sizes) (n : ℕ) → n ≡ counter-count (program ws s) (tables ws s) → s .states ≤ n
 unfolding counter-count tables entries columns
 states-few ws s n e = omega (arith, e)
+
+-- all that the rules are derived from
+module _ (ws : List ℕ) (s : Sizes) (afters flow-at : List ℕ) (w : ℕ) (fitting branches : List ℕ) (c : Closed-tables ws s afters flow-at w fitting branches) where
+  pub match-tables : (names : List ℕ) → Name-heads (program ws s) (tables ws s) names → Match-tables ws s w fitting names
+  match-tables names a = record { ready = c .ready; name-width = c .name-width; fitting-sets = c .fitting-sets; name-heads = a }
+
+  pub rule-tables : (n : ℕ) (names letter-at letters : List ℕ) → Numbered ws s n → n ≤ maxCounters → Name-heads (program ws s) (tables ws s) names → Class-letters (program ws s) (tables ws s) letter-at → Letter-sets (program ws s) (tables ws s) letters → Reads (program ws s) (tables ws s) letters → Rule-tables ws s afters flow-at w fitting names letter-at letters branches
+  rule-tables n names letter-at letters h l a b d e =
+      record {
+        ready = c .ready;
+        closed = c .closed;
+        few = let k = h .counted in omega arith;
+        ends = c .ends;
+        flow-starts = c .flow-starts;
+        name-width = c .name-width;
+        fitting-sets = c .fitting-sets;
+        name-heads = a;
+        class-letters = b;
+        letter-sets = d;
+        reads = e;
+        branch-bits = c .branch-bits;
+      }
+
+-- no message needs more words for sets of letters: where there are more letters there are fewer states
+sets-words : (r k n w : ℕ) → r ≤ 1106 + k → k + n ≤ 1024 → w ≡ n / 64 + 1 → r * w + k ≤ 18802
+sets-words r k n w a b e =
+    let d = 17 - w in
+    let wide : w ≤ 17 = omega arith in
+    let few : k ≤ 64 * d = omega arith in
+    let x : r * w ≤ (1106 + k) * w = mul-le-mul-right w a in
+    let y : k * w ≤ 64 * d * w = mul-le-mul-right w few in
+    let z : d * w ≤ d * 16 = elim (ℕ-discrete w 17) [ yes q ↦ omega (arith, none d w q refl) | no q ↦ mul-le-mul-left d (omega arith) ] in
+    omega arith
+  where
+    none : (d w : ℕ) → w ≡ 17 → d ≡ 17 - w → d * w ≡ 0
+    none d w q e = let z : d ≡ 0 = omega arith in rw z (omega arith)
+
+-- the sets of letters, and their words
+module _ (ws : List ℕ) (s : Sizes) where
+  pub words-most : Ready ws s → counter-count (program ws s) (tables ws s) ≤ maxCounters → owner-at (program ws s) (tables ws s) (s .states) ≤ letter-sets
+  unfolding owner-at read-set allowed-set head-count letter-width counter-count program tables entries columns
+  words-most h few =
+      let a = h .limits .constructors in
+      let b = h .limits .mails in
+      sets-words (9 * (s .constructors + 2) + s .mails + s .states) (s .states) (letter-count (program ws s) (tables ws s)) (letter-count (program ws s) (tables ws s) / 64 + 1) (omega arith) (omega arith) refl
+
+  pub words-told : (m w n : ℕ) → m ≡ 9 * (s .constructors + 2) + s .mails + s .states → w ≡ letter-width (program ws s) (tables ws s) → n ≡ m * w + s .states → n ≡ owner-at (program ws s) (tables ws s) (s .states)
+  unfolding owner-at read-set allowed-set head-count program tables entries columns
+  words-told m w n e f g = g ∙ rw (e, f)
+
+  -- a cleared table with so many words has room for all of it
+  pub letters-room : (n : ℕ) (letters : List ℕ) → Cleared n letters → owner-at (program ws s) (tables ws s) (s .states) ≤ n → Letter-room (program ws s) (tables ws s) letters × Owners-room (program ws s) (tables ws s) letters
+  unfolding owner-at read-set tables entries columns
+  letters-room n letters h b =
+      let z : allowed-set (program ws s) (s .mails) * letter-width (program ws s) (tables ws s) ≤ (allowed-set (program ws s) (s .mails) + s .states) * letter-width (program ws s) (tables ws s) = mul-le-mul-right (letter-width (program ws s) (tables ws s)) (omega arith) in
+      (sets-fit _ _ (allowed-set (program ws s) (s .mails)) (letter-width (program ws s) (tables ws s)) n letters h (omega arith) (omega arith) (omega arith), record { room = let q = h .room in omega arith })
+
+-- a table that keeps its length keeps its room
+pub owners-kept : (ws : List ℕ) (s : Sizes) (u v : List ℕ) → Owners-room (program ws s) (tables ws s) u → length v ≡ length u → Owners-room (program ws s) (tables ws s) v
+owners-kept ws s u v r e = record { room = omega (arith, r .room) }
+
+-- what `fill_codes` has counted, where refusal 9 finds nothing
+module _ (ws : List ℕ) (s : Sizes) (l : ℕ) (e : l ≡ capped maxCounters (letter-count (program ws s) (tables ws s))) (h : counter-check present s (program ws s) (tables ws s) ≡ none) where
+  few : counter-count (program ws s) (tables ws s) ≤ maxCounters
+  unfolding counter-check
+  few = leb-true _ _ (sym (within-exactly (program ws s) (tables ws s) maxCounters) ∙ unless-none _ _ .0 h)
+
+  pub all-counted : (s .states + l ≡ counter-count (program ws s) (tables ws s)) × (s .states + l ≤ maxCounters)
+  unfolding counter-count tables entries columns
+  all-counted =
+      let f = few in
+      let z = capped-few maxCounters (letter-count (program ws s) (tables ws s)) (omega arith) in
+      (omega arith, omega arith)

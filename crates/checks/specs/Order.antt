@@ -27,19 +27,17 @@ taken ws s =
       ceilings = ceilings-of ws s (counter-count (program ws s) (tables ws s));
     }
 
--- refusals 11 to 13 of a message of n counters: its ceilings are in form
-unfoldable pub under-ceilings : List ℕ → Sizes → ℕ → Check
-under-ceilings ws s n =
+-- refusals 11 to 14 of a message of n counters, whose ceilings are in form
+unfoldable pub below-ceilings : List ℕ → Sizes → ℕ → ℕ → Check
+below-ceilings ws s n lent =
     start-check s (program ws s) (tables ws s) (ceilings-of ws s n) >> (
-    met-check s (program ws s) (tables ws s) (ceilings-of ws s n) (bad-rows ws s) >>
-    leak-check ws s (ceilings-of ws s n) (rules (program ws s) (tables ws s)))
+    met-check s (program ws s) (tables ws s) (ceilings-of ws s n) (bad-rows ws s) >> (
+    leak-check ws s (ceilings-of ws s n) (rules (program ws s) (tables ws s)) >>
+    space-check (program ws s) (tables ws s) lent))
 
 module _ (ws : List ℕ) (s : Sizes) (lent : ℕ) where
-  unfoldable pub from-14 : Check
-  from-14 = space-check (program ws s) (tables ws s) lent
-
   unfoldable pub from-11 : Check
-  from-11 = under-ceilings ws s (counter-count (program ws s) (tables ws s)) >> from-14
+  from-11 = below-ceilings ws s (counter-count (program ws s) (tables ws s)) lent
 
   unfoldable pub from-10 : Check
   from-10 = ceiling-check ws s (counter-count (program ws s) (tables ws s)) >> from-11

@@ -1,15 +1,23 @@
 -- What the checks are lent: tables with room for a message of these sizes, some of them with nothing in them.
-use Prim.Native.Nat.{ℕ, _*_, _≤_}
+use Prim.Native.Nat.{ℕ, _+_, _*_, _≤_, _<_}
 use mathlib.Core.Path.{_≡_}
 use mathlib.Core.List.{List}
+use mathlib.Core.Option.{none}
 use lib.ListN.{length, getD}
 use Rattle.model.specs.declared.Sizes.{Sizes}
 use Rattle.model.specs.Rows.{program}
 use Rattle.model.specs.Tables.{tables}
-use Rattle.model.specs.Counters.{counter-count}
+use Rattle.model.specs.Limits.{maxBranches, maxCounters}
+use Rattle.model.specs.Closed.{open-check}
+use Rattle.model.specs.Counters.{letter-count, counter-count}
 use Rattle.model.specs.Ceilings.{ceilings-of, ceiling-entries}
-use Rattle.system_letters.specs.Letters.{Name-letters}
-use Rattle.rules.specs.Derived.{Rule-tables}
+use Rattle.lists.specs.Lists.{Starts}
+use Rattle.lists.specs.Ready.{Ready}
+use Rattle.positions.specs.Positions.{Ends}
+use Rattle.positions.specs.Branches.{Branch-bits}
+use Rattle.values.specs.Values.{width}
+use Rattle.matching.specs.Patterns.{Fitting-sets}
+use Rattle.ceilings_form.specs.Parts as ceilings
 use Rattle.ceilings_form.specs.Limits.{In-form, Starts-table}
 use Rattle.ceilings.specs.Table.{Limits-table}
 use Rattle.ceilings_met.specs.Items.{Bads-in-form}
@@ -41,9 +49,21 @@ pub record Limited (ws : List ℕ) (s : Sizes) (n : ℕ) (limits ceiling-at : Li
   pub limits-table : Limits-table (ceilings-of ws s n) limits
   pub starts-table : Starts-table n (ceiling-entries ws s) (s .ceilings) ceiling-at
 
--- all tables that the rules are derived from, but for the letters of names
-pub record Unnamed (ws : List ℕ) (s : Sizes) (afters flow-at : List ℕ) (w : ℕ)
-    (flows letter-at letters branches : List ℕ) : Type 0 where
-  pub named :
-      (names : List ℕ) → Name-letters (program ws s) (tables ws s) names →
-      Rule-tables ws s afters flow-at w flows names letter-at letters branches
+-- the bads of a message that passes 1 to 8, and the tables that refusal 8 leaves
+pub record Closed-tables (ws : List ℕ) (s : Sizes) (afters flow-at : List ℕ) (w : ℕ)
+    (fitting branches : List ℕ) : Type 0 where
+  pub ready : Ready ws s
+  pub whole : ceilings.Whole ws s
+  pub bads : Bads-in-form ws s
+  pub closed : open-check s (program ws s) (tables ws s) ≡ none
+  pub ends : Ends (program ws s) afters
+  pub flow-starts : Starts (tables ws s .flow) (s .names) flow-at
+  pub name-width : w ≡ width (s .names)
+  pub fitting-sets : Fitting-sets (program ws s) (tables ws s) fitting
+  pub branch-bits : Branch-bits (program ws s) (tables ws s) branches
+
+-- the rules of any state fit behind `spare` of so many words
+pub record Rules-fit (ws : List ℕ) (s : Sizes) (spare room : ℕ) : Type 0 where
+  pub values : spare + s .rows < room
+  pub letters : spare + maxBranches * letter-count (program ws s) (tables ws s) ≤ room
+  pub counters : spare + maxCounters ≤ room

@@ -1,4 +1,5 @@
-// Refusals 11 to 13: the limits and the masks of the ceilings and the rules of each state, over scratch by need.
+// Refusals 11 to 14: the limits and the masks of the ceilings and the rules of each state, over scratch by need; after
+// none the listing is written.
 use crate::stages::met_verdict;
 use crate::stages::start_verdict;
 use answers::is_safe;
@@ -6,34 +7,42 @@ use ceilings::fill_limits;
 use ceilings_leaks::fill_groups;
 use ceilings_leaks::leak_check;
 use ceilings_masks::fill_holders;
+use model::MAX_BRANCHES;
+use model::MAX_COUNTERS;
 use model::Sizes;
 use model::Verdict;
 use rooms::counter_masks;
 use rooms::holder_masks;
 use rooms::limit_words;
 use rooms::row_words16;
+use rooms::row_words32;
 use rooms::words16_258;
 use rooms::words16_2048;
 use rooms::words16_16384;
+use rooms::words32_66;
+use rooms::words32_258;
 use rooms::words64_130;
 use rooms::words64_256;
 use rooms::words64_512;
 use rooms::words64_1024;
+use system_letters::letter_count;
+use system_space::space_verdict;
 use system_totals::Totals;
 ghost use mathlib.Core.Path.{_≡_};
-ghost use Prim.Native.Nat.{_+_, _*_, _≤_, _<_};
-ghost use Rattle.model.specs.declared.Verdict.the-variants.{Safe};
-ghost use Rattle.model.specs.Limits.{maxRows};
+ghost use Prim.Native.Nat.{_+_, _*_, _≤_, _<_, min};
+ghost use lib.ListN.{length};
 ghost use Rattle.model.specs.Rows.{program};
 ghost use Rattle.model.specs.Tables.{tables};
 ghost use Rattle.model.specs.Rules.{rules};
 ghost use Rattle.model.specs.Ceilings.{ceilings-of, leak-check};
 ghost use Rattle.model.specs.Verify.{answer};
-ghost use Rattle.rules.specs.Derived.{Rule-tables};
+ghost use Rattle.lists.specs.Ready.{Ready};
+ghost use Rattle.system_letters.specs.Letters.{Class-letters};
+ghost use Rattle.rules.specs.Derived.{Rule-tables, Rule-room};
 ghost use Rattle.system_totals.specs.Lines.{Totalled};
-ghost use Rattle.rooms.specs.Rooms.{row-room};
-ghost use Rattle.checks.specs.Order.{under-ceilings};
-ghost use Rattle.checks.specs.Scratch.{Numbered, Limited, Limits-room, Mask-room};
+ghost use Rattle.system_space.specs.Space.{words-after};
+ghost use Rattle.checks.specs.Order.{below-ceilings};
+ghost use Rattle.checks.specs.Scratch.{Numbered, Limited, Limits-room, Mask-room, Rules-fit};
 
 // The verdict, and the totals of the rules, which are counted on the way.
 pub struct Leaks {
@@ -41,26 +50,38 @@ pub struct Leaks {
     pub totals: Totals,
 }
 
-// So many words of a room by row are more than the rules of any one state need, of which there are no more than 1,056
-// where there are no more rows: in these the rules of all states are kept.
-fn spare_words(s: Sizes) -> usize
-    ensures { λ r. ⌜ (s .rows ≤ maxRows → r + s .rows < row-room) ⌝ }
-    ensures { λ r. ⌜ r + 1056 ≤ row-room ⌝ }
+// The lesser of two numbers.
+fn lesser(a: usize, b: usize) -> usize
+    ensures { λ c. ⌜ c ≡ min a b ⌝ }
 {
-    if s.rows < 1056 { 482 } else { 0 }
+    if a < b { a } else { b }
 }
 
-// Over lent sets of ceilings.
+// So many of `room` words are more than the rules of any one state need: in these the rules of all states are kept.
+fn spare_words(ws: &[u16], s: Sizes, letter_at: &[u16], room: usize) -> usize
+    requires { ⌜ Ready (now ws) s ⌝ }
+    requires { ⌜ Class-letters (program (now ws) s) (tables (now ws) s) (now «letter_at») ⌝ }
+    requires { ⌜ Rules-fit (now ws) s 0 room ⌝ }
+    ensures { λ r. ⌜ Rules-fit (now (ws .entry)) s r room ⌝ }
+{
+    let by_letter = MAX_BRANCHES * letter_count(ws, s, letter_at);
+    let for_letters = room - by_letter;
+    let for_values = room - s.rows - 1;
+    let for_counters = room - MAX_COUNTERS;
+    lesser(for_letters, lesser(for_values, for_counters))
+}
+
+// Refusal 13, and the totals, over lent sets of ceilings and lists of rules.
 fn leaks_on(
     ws: &[u16],
     s: Sizes,
     afters: &[u16],
     flow_at: &[u16],
     w: usize,
-    flows: &[u64],
+    fitting: &[u64],
     names: &[u64],
     letter_at: &[u16],
-    letters: &[u16],
+    letters: &[u64],
     branches: &[u16],
     n: usize,
     limits: &[u16],
@@ -70,20 +91,22 @@ fn leaks_on(
     group: &mut [u64],
     short: &mut [u64],
     more: &mut [u64],
+    at: &mut [u16],
+    tos: &mut [u16],
+    others: &mut [u16],
 ) -> Leaks
-    requires { ⌜ Rule-tables (now ws) s (now afters) (now «flow_at») w (now flows) (now names)
+    requires { ⌜ Rule-tables (now ws) s (now afters) (now «flow_at») w (now fitting) (now names)
         (now «letter_at») (now letters) (now branches) ⌝ }
     requires { ⌜ Limited (now ws) s n (now limits) (now «ceiling_at») ⌝ }
     requires { ⌜ Mask-room n (now holders) (now unbounded) (now group) (now short) (now more) ⌝ }
+    requires { ⌜ Rule-room (now ws) s (now tos) (now others) × (length (now tos) ≤ 65536) ⌝ }
     ensures { λ l. ⌜ l .verdict ≡
         answer (leak-check (now (ws .entry)) s (ceilings-of (now (ws .entry)) s n)
         (rules (program (now (ws .entry)) s) (tables (now (ws .entry)) s))) ⌝ }
     ensures { λ l. ⌜ Totalled (program (now (ws .entry)) s) (tables (now (ws .entry)) s) (l .totals) ⌝ }
 {
     fill_holders(limits, s.ceilings, n, holders, unbounded);
-    let mut at = row_words16();
-    let mut tos = row_words16();
-    let mut others = row_words16();
+    let spare = spare_words(ws, s, letter_at, tos.len());
     let mut first_at = words16_258();
     let gathered = fill_groups(
         ws,
@@ -91,7 +114,7 @@ fn leaks_on(
         afters,
         flow_at,
         w,
-        flows,
+        fitting,
         names,
         letter_at,
         letters,
@@ -101,10 +124,10 @@ fn leaks_on(
         ceiling_at,
         holders,
         unbounded,
-        spare_words(s),
-        &mut at,
-        &mut tos,
-        &mut others,
+        spare,
+        at,
+        tos,
+        others,
         &mut first_at,
         group,
     );
@@ -115,7 +138,7 @@ fn leaks_on(
         afters,
         flow_at,
         w,
-        flows,
+        fitting,
         names,
         letter_at,
         letters,
@@ -128,9 +151,9 @@ fn leaks_on(
         group,
         kept,
         &first_at,
-        &at,
-        &mut tos,
-        &mut others,
+        at,
+        tos,
+        others,
         short,
         more,
     );
@@ -138,59 +161,57 @@ fn leaks_on(
     Leaks { verdict, totals }
 }
 
-// Refusals 11 to 13 over lent limits and sets of ceilings.
+// Refusals 11 to 14 over lent limits, sets of ceilings and lists of rules.
 fn ceilings_on(
     ws: &[u16],
     s: Sizes,
     afters: &[u16],
     flow_at: &[u16],
     w: usize,
-    flows: &[u64],
+    fitting: &[u64],
     names: &[u64],
     letter_at: &[u16],
-    letters: &[u16],
+    letters: &[u64],
     branches: &[u16],
     n: usize,
     limits: &mut [u16],
     ceiling_at: &mut [u16],
+    sums: &mut [u32],
     holders: &mut [u64],
     unbounded: &mut [u64],
     group: &mut [u64],
     short: &mut [u64],
     more: &mut [u64],
-) -> Leaks
-    requires { ⌜ Rule-tables (now ws) s (now afters) (now «flow_at») w (now flows) (now names)
+    tos: &mut [u16],
+    others: &mut [u16],
+    lent: &mut [u32],
+) -> Verdict
+    requires { ⌜ Rule-tables (now ws) s (now afters) (now «flow_at») w (now fitting) (now names)
         (now «letter_at») (now letters) (now branches) ⌝ }
     requires { ⌜ Numbered (now ws) s n ⌝ }
-    requires { ⌜ Limits-room s n (now limits) (now «ceiling_at») ⌝ }
+    requires { ⌜ Limits-room s n (now limits) (now «ceiling_at») × (n < length (now sums)) ⌝ }
     requires { ⌜ Mask-room n (now holders) (now unbounded) (now group) (now short) (now more) ⌝ }
-    ensures { λ l. ⌜ l .verdict ≡ answer (under-ceilings (now (ws .entry)) s n) ⌝ }
-    ensures { λ l. ⌜ (l .verdict ≡ Safe →
-        Totalled (program (now (ws .entry)) s) (tables (now (ws .entry)) s) (l .totals)) ⌝ }
+    requires { ⌜ Rule-room (now ws) s (now tos) (now others) × (length (now tos) ≤ 65536) ⌝ }
+    ensures { λ v. ⌜ v ≡ answer (below-ceilings (now (ws .entry)) s n (length (now (lent .entry)))) ⌝ }
+    ensures { λ v. ⌜ now (lent .exit) ≡ words-after v (now (ws .entry)) s (now (lent .entry)) ⌝ }
 {
-    let none = Totals { rules: 0, rows: 0 };
     fill_limits(ws, s, n, limits, ceiling_at);
     let begins = start_verdict(ws, s, afters, n, limits);
     if !is_safe(begins) {
-        return Leaks {
-            verdict: begins,
-            totals: none,
-        };
+        return begins;
     }
-    let met = met_verdict(ws, s, letter_at, letters, n, limits);
+    let met = met_verdict(ws, s, letter_at, letters, n, limits, sums);
     if !is_safe(met) {
-        return Leaks {
-            verdict: met,
-            totals: none,
-        };
+        return met;
     }
-    leaks_on(
+    let mut at = row_words16();
+    let leaks = leaks_on(
         ws,
         s,
         afters,
         flow_at,
         w,
-        flows,
+        fitting,
         names,
         letter_at,
         letters,
@@ -203,45 +224,73 @@ fn ceilings_on(
         group,
         short,
         more,
+        &mut at,
+        tos,
+        others,
+    );
+    let held = leaks.verdict;
+    if !is_safe(held) {
+        return held;
+    }
+    let totals = leaks.totals;
+    space_verdict(
+        ws,
+        s,
+        afters,
+        flow_at,
+        w,
+        fitting,
+        names,
+        letter_at,
+        letters,
+        branches,
+        totals,
+        &mut at,
+        tos,
+        others,
+        lent,
     )
 }
 
-// Refusals 11 to 13 of few counters and limits.
+// Refusals 11 to 14 of few counters and limits.
 fn few_limits(
     ws: &[u16],
     s: Sizes,
     afters: &[u16],
     flow_at: &[u16],
     w: usize,
-    flows: &[u64],
+    fitting: &[u64],
     names: &[u64],
     letter_at: &[u16],
-    letters: &[u16],
+    letters: &[u64],
     branches: &[u16],
     n: usize,
-) -> Leaks
-    requires { ⌜ Rule-tables (now ws) s (now afters) (now «flow_at») w (now flows) (now names)
+    lent: &mut [u32],
+) -> Verdict
+    requires { ⌜ Rule-tables (now ws) s (now afters) (now «flow_at») w (now fitting) (now names)
         (now «letter_at») (now letters) (now branches) ⌝ }
     requires { ⌜ Numbered (now ws) s n ⌝ }
     requires { ⌜ (n ≤ 32) × (n * s .ceilings ≤ 2048) ⌝ }
-    ensures { λ l. ⌜ l .verdict ≡ answer (under-ceilings (now (ws .entry)) s n) ⌝ }
-    ensures { λ l. ⌜ (l .verdict ≡ Safe →
-        Totalled (program (now (ws .entry)) s) (tables (now (ws .entry)) s) (l .totals)) ⌝ }
+    ensures { λ v. ⌜ v ≡ answer (below-ceilings (now (ws .entry)) s n (length (now (lent .entry)))) ⌝ }
+    ensures { λ v. ⌜ now (lent .exit) ≡ words-after v (now (ws .entry)) s (now (lent .entry)) ⌝ }
 {
     let mut limits = words16_2048();
     let mut ceiling_at = words16_258();
+    let mut sums = words32_66();
     let mut holders = words64_256();
     let mut unbounded = words64_130();
     let mut group = words64_256();
     let mut short = words64_130();
     let mut more = words64_130();
+    let mut tos = row_words16();
+    let mut others = row_words16();
     ceilings_on(
         ws,
         s,
         afters,
         flow_at,
         w,
-        flows,
+        fitting,
         names,
         letter_at,
         letters,
@@ -249,50 +298,57 @@ fn few_limits(
         n,
         &mut limits,
         &mut ceiling_at,
+        &mut sums,
         &mut holders,
         &mut unbounded,
         &mut group,
         &mut short,
         &mut more,
+        &mut tos,
+        &mut others,
+        lent,
     )
 }
 
-// Refusals 11 to 13 of more.
+// Refusals 11 to 14 of more.
 fn more_limits(
     ws: &[u16],
     s: Sizes,
     afters: &[u16],
     flow_at: &[u16],
     w: usize,
-    flows: &[u64],
+    fitting: &[u64],
     names: &[u64],
     letter_at: &[u16],
-    letters: &[u16],
+    letters: &[u64],
     branches: &[u16],
     n: usize,
-) -> Leaks
-    requires { ⌜ Rule-tables (now ws) s (now afters) (now «flow_at») w (now flows) (now names)
+    lent: &mut [u32],
+) -> Verdict
+    requires { ⌜ Rule-tables (now ws) s (now afters) (now «flow_at») w (now fitting) (now names)
         (now «letter_at») (now letters) (now branches) ⌝ }
     requires { ⌜ Numbered (now ws) s n ⌝ }
     requires { ⌜ (n ≤ 128) × (n * s .ceilings ≤ 16384) ⌝ }
-    ensures { λ l. ⌜ l .verdict ≡ answer (under-ceilings (now (ws .entry)) s n) ⌝ }
-    ensures { λ l. ⌜ (l .verdict ≡ Safe →
-        Totalled (program (now (ws .entry)) s) (tables (now (ws .entry)) s) (l .totals)) ⌝ }
+    ensures { λ v. ⌜ v ≡ answer (below-ceilings (now (ws .entry)) s n (length (now (lent .entry)))) ⌝ }
+    ensures { λ v. ⌜ now (lent .exit) ≡ words-after v (now (ws .entry)) s (now (lent .entry)) ⌝ }
 {
     let mut limits = words16_16384();
     let mut ceiling_at = words16_258();
+    let mut sums = words32_258();
     let mut holders = words64_1024();
     let mut unbounded = words64_512();
     let mut group = words64_1024();
     let mut short = words64_512();
     let mut more = words64_512();
+    let mut tos = words16_2048();
+    let mut others = words16_2048();
     ceilings_on(
         ws,
         s,
         afters,
         flow_at,
         w,
-        flows,
+        fitting,
         names,
         letter_at,
         letters,
@@ -300,49 +356,56 @@ fn more_limits(
         n,
         &mut limits,
         &mut ceiling_at,
+        &mut sums,
         &mut holders,
         &mut unbounded,
         &mut group,
         &mut short,
         &mut more,
+        &mut tos,
+        &mut others,
+        lent,
     )
 }
 
-// Refusals 11 to 13 of any number.
+// Refusals 11 to 14 of any number.
 fn all_limits(
     ws: &[u16],
     s: Sizes,
     afters: &[u16],
     flow_at: &[u16],
     w: usize,
-    flows: &[u64],
+    fitting: &[u64],
     names: &[u64],
     letter_at: &[u16],
-    letters: &[u16],
+    letters: &[u64],
     branches: &[u16],
     n: usize,
-) -> Leaks
-    requires { ⌜ Rule-tables (now ws) s (now afters) (now «flow_at») w (now flows) (now names)
+    lent: &mut [u32],
+) -> Verdict
+    requires { ⌜ Rule-tables (now ws) s (now afters) (now «flow_at») w (now fitting) (now names)
         (now «letter_at») (now letters) (now branches) ⌝ }
     requires { ⌜ Numbered (now ws) s n ⌝ }
-    ensures { λ l. ⌜ l .verdict ≡ answer (under-ceilings (now (ws .entry)) s n) ⌝ }
-    ensures { λ l. ⌜ (l .verdict ≡ Safe →
-        Totalled (program (now (ws .entry)) s) (tables (now (ws .entry)) s) (l .totals)) ⌝ }
+    ensures { λ v. ⌜ v ≡ answer (below-ceilings (now (ws .entry)) s n (length (now (lent .entry)))) ⌝ }
+    ensures { λ v. ⌜ now (lent .exit) ≡ words-after v (now (ws .entry)) s (now (lent .entry)) ⌝ }
 {
     let mut limits = limit_words();
     let mut ceiling_at = words16_258();
+    let mut sums = row_words32();
     let mut holders = holder_masks();
     let mut unbounded = counter_masks();
     let mut group = holder_masks();
     let mut short = counter_masks();
     let mut more = counter_masks();
+    let mut tos = words16_16384();
+    let mut others = words16_16384();
     ceilings_on(
         ws,
         s,
         afters,
         flow_at,
         w,
-        flows,
+        fitting,
         names,
         letter_at,
         letters,
@@ -350,15 +413,19 @@ fn all_limits(
         n,
         &mut limits,
         &mut ceiling_at,
+        &mut sums,
         &mut holders,
         &mut unbounded,
         &mut group,
         &mut short,
         &mut more,
+        &mut tos,
+        &mut others,
+        lent,
     )
 }
 
-// Refusals 11 to 13 over the least scratch that fits, which that for `most` counters or more may be. It calls itself
+// Refusals 11 to 14 over the least scratch that fits, which that for `most` counters or more may be. It calls itself
 // for the next size, as `open_verdict` does: each size has a frame of its own.
 pub fn ceilings_verdict(
     most: usize,
@@ -367,20 +434,20 @@ pub fn ceilings_verdict(
     afters: &[u16],
     flow_at: &[u16],
     w: usize,
-    flows: &[u64],
+    fitting: &[u64],
     names: &[u64],
     letter_at: &[u16],
-    letters: &[u16],
+    letters: &[u64],
     branches: &[u16],
     n: usize,
-) -> Leaks
+    lent: &mut [u32],
+) -> Verdict
     requires { ⌜ 1 ≤ most ⌝ }
-    requires { ⌜ Rule-tables (now ws) s (now afters) (now «flow_at») w (now flows) (now names)
+    requires { ⌜ Rule-tables (now ws) s (now afters) (now «flow_at») w (now fitting) (now names)
         (now «letter_at») (now letters) (now branches) ⌝ }
     requires { ⌜ Numbered (now ws) s n ⌝ }
-    ensures { λ l. ⌜ l .verdict ≡ answer (under-ceilings (now (ws .entry)) s n) ⌝ }
-    ensures { λ l. ⌜ (l .verdict ≡ Safe →
-        Totalled (program (now (ws .entry)) s) (tables (now (ws .entry)) s) (l .totals)) ⌝ }
+    ensures { λ v. ⌜ v ≡ answer (below-ceilings (now (ws .entry)) s n (length (now (lent .entry)))) ⌝ }
+    ensures { λ v. ⌜ now (lent .exit) ≡ words-after v (now (ws .entry)) s (now (lent .entry)) ⌝ }
 {
     if most >= 512 {
         return all_limits(
@@ -389,12 +456,13 @@ pub fn ceilings_verdict(
             afters,
             flow_at,
             w,
-            flows,
+            fitting,
             names,
             letter_at,
             letters,
             branches,
             n,
+            lent,
         );
     }
     if n <= most {
@@ -407,12 +475,13 @@ pub fn ceilings_verdict(
                     afters,
                     flow_at,
                     w,
-                    flows,
+                    fitting,
                     names,
                     letter_at,
                     letters,
                     branches,
                     n,
+                    lent,
                 );
             }
         }
@@ -424,12 +493,13 @@ pub fn ceilings_verdict(
                     afters,
                     flow_at,
                     w,
-                    flows,
+                    fitting,
                     names,
                     letter_at,
                     letters,
                     branches,
                     n,
+                    lent,
                 );
             }
         }
@@ -441,11 +511,12 @@ pub fn ceilings_verdict(
         afters,
         flow_at,
         w,
-        flows,
+        fitting,
         names,
         letter_at,
         letters,
         branches,
         n,
+        lent,
     )
 }

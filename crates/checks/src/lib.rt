@@ -1,6 +1,5 @@
 // The checks of all layers, one after the other: from the words of a message to the verdict and the words written.
 pub mod leaks;
-pub mod listing;
 pub mod order;
 pub mod stages;
 pub mod system;

@@ -2,34 +2,30 @@
 use crate::system::system_verdict;
 use answers::is_safe;
 use bads::bad_check;
-use ceilings_form::entries::ceiling_check;
 use closure_sized::open_verdict;
 use evidence::entries::entry_check;
 use grammar::row_check;
 use layout::ends::fill_ends;
-use mailed::counters_verdict;
+use matching::names::name_width;
 use model::Sizes;
 use model::Verdict;
 use rooms::row_words16;
 use rooms::words16_512;
 use scopes::names::name_check;
 use scopes::scope::scope_check;
-use system_letters::counter_count;
-use system_letters::fill_letters;
-use values::width;
 ghost use mathlib.Core.Path.{_≡_};
 ghost use lib.ListN.{length};
 ghost use Rattle.model.specs.Limits.{present};
 ghost use Rattle.model.specs.Verify.{message-check, answer};
 ghost use Rattle.evidence.specs.Whole.{Parts-whole};
 ghost use Rattle.system_space.specs.Space.{words-after};
+ghost use Rattle.matching.specs.Patterns.{Unfitted};
 ghost use Rattle.checks.specs.Order.{taken};
-ghost use Rattle.closure_sized.specs.Flow.{Flow-room};
 
 // Refusals 3 to 8, 22 and 9 to 14, one after the other; after none the listing is written.
-pub fn words_verdict(ws: &[u16], s: Sizes, flow: &mut [u64], lent: &mut [u32]) -> Verdict
+pub fn words_verdict(ws: &[u16], s: Sizes, fitting: &mut [u64], lent: &mut [u32]) -> Verdict
     requires { ⌜ Parts-whole (now ws) s ⌝ }
-    requires { ⌜ Flow-room s (now flow) ⌝ }
+    requires { ⌜ Unfitted (s .names) (s .rows) (now fitting) ⌝ }
     ensures { λ v. ⌜ v ≡ answer (message-check present (taken (now (ws .entry)) s) (length (now (lent .entry)))) ⌝ }
     ensures { λ v. ⌜ now (lent .exit) ≡ words-after v (now (ws .entry)) s (now (lent .entry)) ⌝ }
 {
@@ -58,35 +54,10 @@ pub fn words_verdict(ws: &[u16], s: Sizes, flow: &mut [u64], lent: &mut [u32]) -
     }
     let mut starts = row_words16();
     let mut branches = row_words16();
-    let open = open_verdict(64, ws, s, &afters, &mut starts, flow, &mut branches);
+    let open = open_verdict(64, ws, s, &afters, &mut starts, fitting, &mut branches);
     if !is_safe(open) {
         return open;
     }
-    let mut letter_at = row_words16();
-    let mut letters = words16_512();
-    fill_letters(ws, s, &mut letter_at, &mut letters);
-    // 22, then 9
-    let counters = counters_verdict(ws, s, &letter_at, &letters);
-    if !is_safe(counters) {
-        return counters;
-    }
-    let n = counter_count(ws, s, &letter_at, &letters);
-    let form = ceiling_check(ws, s, n);
-    if !is_safe(form) {
-        return form;
-    }
-    let w = width(s);
-    system_verdict(
-        ws,
-        s,
-        &afters,
-        &starts,
-        w,
-        flow,
-        &letter_at,
-        &letters,
-        &branches,
-        n,
-        lent,
-    )
+    let w = name_width(s);
+    system_verdict(ws, s, &afters, &starts, w, fitting, &branches, lent)
 }

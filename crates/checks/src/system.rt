@@ -1,100 +1,396 @@
-// Refusals 11 to 14, over room for the letters of names by need; after none the listing is written.
+// Refusals 22 and 9 to 14: the letters that mail allows are counted and listed, and those below stand on them; after
+// none the listing is written. The room for names and sets of letters is by need.
 use crate::leaks::ceilings_verdict;
-use crate::listing::listing_verdict;
 use answers::is_safe;
+use ceilings_form::entries::ceiling_check;
+use kept_letters::fill_reads;
+use letter_codes::fill_codes;
+use letter_sets::fill_letters;
+use mailed::counters_verdict;
+use model::MAX_ARITY;
+use model::MAX_COUNTERS;
+use model::OTHER_HEADS;
 use model::Sizes;
 use model::Verdict;
+use rooms::letter_codes;
+use rooms::letter_sets;
+use rooms::row_words16;
 use rooms::words64_130;
+use rooms::words64_256;
 use rooms::words64_1024;
 use system_letters::fill_names;
+use system_letters::letter_width;
 ghost use mathlib.Core.Path.{_≡_};
-ghost use Prim.Native.Nat.{_*_, _≤_};
+ghost use Prim.Native.Nat.{_+_, _*_, _≤_};
 ghost use lib.ListN.{length};
+ghost use Rattle.model.specs.Limits.{present, maxCounters};
+ghost use Rattle.model.specs.Demands.{Within-limits};
+ghost use Rattle.model.specs.Rows.{program};
+ghost use Rattle.model.specs.Tables.{tables};
 ghost use Rattle.model.specs.Verify.{answer};
 ghost use Rattle.lists.specs.Ready.{Ready};
+ghost use Rattle.values.specs.Values.{Empty};
+ghost use Rattle.system_letters.specs.Letters.{Name-heads, Class-letters, letter-width};
+ghost use Rattle.model.specs.Counters.{counter-count};
+ghost use Rattle.rules.specs.Derived.{owner-at};
+ghost use Rattle.pattern_letters.specs.Picked.{Owners-room};
+ghost use Rattle.letter_codes.specs.Codes.{Coded};
+ghost use Rattle.letter_sets.specs.Sets.{Letter-room};
 ghost use Rattle.system_space.specs.Space.{words-after};
-ghost use Rattle.checks.specs.Order.{from-11};
-ghost use Rattle.checks.specs.Scratch.{Numbered, Unnamed};
+ghost use Rattle.checks.specs.Order.{from-22, from-11};
+ghost use Rattle.checks.specs.Scratch.{Closed-tables, Numbered};
 
-// Over a lent set of letters for each name.
-fn named_verdict(
+// The digits of a letter: its number, and the head of each argument.
+const DIGITS: usize = MAX_ARITY + 1;
+
+// How many sets of letters there are: one for each digit and head, for each mail entry, and for each state.
+fn set_count(s: Sizes) -> usize
+    requires { ⌜ Within-limits present s ⌝ }
+    ensures { λ n. ⌜ n ≡ 9 * (s .constructors + 2) + s .mails + s .states ⌝ }
+{
+    let heads = s.constructors + OTHER_HEADS;
+    DIGITS * heads + s.mails + s.states
+}
+
+// How many words they take, and behind them a word for each state.
+fn letter_words(ws: &[u16], s: Sizes, letter_at: &[u16]) -> usize
+    requires { ⌜ Ready (now ws) s ⌝ }
+    requires { ⌜ Class-letters (program (now ws) s) (tables (now ws) s) (now «letter_at») ⌝ }
+    requires { ⌜ counter-count (program (now ws) s) (tables (now ws) s) ≤ maxCounters ⌝ }
+    ensures { λ n. ⌜ n ≡ owner-at (program (now (ws .entry)) s) (tables (now (ws .entry)) s) (s .states) ⌝ }
+{
+    let sets = set_count(s);
+    let words = letter_width(ws, s, letter_at);
+    sets * words + s.states
+}
+
+// Refusals 11 to 14 over lent sets of letters.
+fn lettered_verdict(
     ws: &[u16],
     s: Sizes,
     afters: &[u16],
     flow_at: &[u16],
     w: usize,
-    flows: &[u64],
-    names: &mut [u64],
+    fitting: &[u64],
+    names: &[u64],
     letter_at: &[u16],
-    letters: &[u16],
+    codes: &[u64],
     branches: &[u16],
     n: usize,
+    letters: &mut [u64],
     lent: &mut [u32],
 ) -> Verdict
-    requires { ⌜ Ready (now ws) s ⌝ }
-    requires { ⌜ Unnamed (now ws) s (now afters) (now «flow_at») w (now flows) (now «letter_at»)
-        (now letters) (now branches) ⌝ }
-    requires { ⌜ Numbered (now ws) s n ⌝ }
-    requires { ⌜ s .names * 2 ≤ length (now names) ⌝ }
+    requires { ⌜ Closed-tables (now ws) s (now afters) (now «flow_at») w (now fitting) (now branches) ⌝ }
+    requires { ⌜ Name-heads (program (now ws) s) (tables (now ws) s) (now names) ⌝ }
+    requires { ⌜ Class-letters (program (now ws) s) (tables (now ws) s) (now «letter_at») ⌝ }
+    requires { ⌜ Coded (program (now ws) s) (tables (now ws) s) (now codes) ⌝ }
+    requires { ⌜ Numbered (now ws) s n × (n ≤ maxCounters) ⌝ }
+    requires { ⌜ Empty (letter-width (program (now ws) s) (tables (now ws) s)) (now letters) ⌝ }
+    requires { ⌜ Letter-room (program (now ws) s) (tables (now ws) s) (now letters) ⌝ }
+    requires { ⌜ Owners-room (program (now ws) s) (tables (now ws) s) (now letters) ⌝ }
     ensures { λ v. ⌜ v ≡ answer (from-11 (now (ws .entry)) s (length (now (lent .entry)))) ⌝ }
     ensures { λ v. ⌜ now (lent .exit) ≡ words-after v (now (ws .entry)) s (now (lent .entry)) ⌝ }
 {
-    fill_names(ws, s, names);
-    let leaks = ceilings_verdict(
+    fill_letters(ws, s, names, letter_at, codes, letters);
+    fill_reads(ws, s, afters, w, fitting, names, letter_at, letters);
+    ceilings_verdict(
         32,
         ws,
         s,
         afters,
         flow_at,
         w,
-        flows,
+        fitting,
         names,
         letter_at,
         letters,
         branches,
         n,
-    );
-    let held = leaks.verdict;
-    if !is_safe(held) {
-        return held;
-    }
-    let totals = leaks.totals;
-    listing_verdict(
+        lent,
+    )
+}
+
+// Refusals 11 to 14 of few letters.
+fn few_letters(
+    ws: &[u16],
+    s: Sizes,
+    afters: &[u16],
+    flow_at: &[u16],
+    w: usize,
+    fitting: &[u64],
+    names: &[u64],
+    letter_at: &[u16],
+    codes: &[u64],
+    branches: &[u16],
+    n: usize,
+    lent: &mut [u32],
+) -> Verdict
+    requires { ⌜ Closed-tables (now ws) s (now afters) (now «flow_at») w (now fitting) (now branches) ⌝ }
+    requires { ⌜ Name-heads (program (now ws) s) (tables (now ws) s) (now names) ⌝ }
+    requires { ⌜ Class-letters (program (now ws) s) (tables (now ws) s) (now «letter_at») ⌝ }
+    requires { ⌜ Coded (program (now ws) s) (tables (now ws) s) (now codes) ⌝ }
+    requires { ⌜ Numbered (now ws) s n × (n ≤ maxCounters) ⌝ }
+    requires { ⌜ owner-at (program (now ws) s) (tables (now ws) s) (s .states) ≤ 256 ⌝ }
+    ensures { λ v. ⌜ v ≡ answer (from-11 (now (ws .entry)) s (length (now (lent .entry)))) ⌝ }
+    ensures { λ v. ⌜ now (lent .exit) ≡ words-after v (now (ws .entry)) s (now (lent .entry)) ⌝ }
+{
+    let mut letters = words64_256();
+    lettered_verdict(
         ws,
         s,
         afters,
         flow_at,
         w,
-        flows,
+        fitting,
         names,
         letter_at,
-        letters,
+        codes,
         branches,
-        totals,
+        n,
+        &mut letters,
         lent,
     )
 }
 
-// Of few names.
+// Refusals 11 to 14 of more.
+fn more_letters(
+    ws: &[u16],
+    s: Sizes,
+    afters: &[u16],
+    flow_at: &[u16],
+    w: usize,
+    fitting: &[u64],
+    names: &[u64],
+    letter_at: &[u16],
+    codes: &[u64],
+    branches: &[u16],
+    n: usize,
+    lent: &mut [u32],
+) -> Verdict
+    requires { ⌜ Closed-tables (now ws) s (now afters) (now «flow_at») w (now fitting) (now branches) ⌝ }
+    requires { ⌜ Name-heads (program (now ws) s) (tables (now ws) s) (now names) ⌝ }
+    requires { ⌜ Class-letters (program (now ws) s) (tables (now ws) s) (now «letter_at») ⌝ }
+    requires { ⌜ Coded (program (now ws) s) (tables (now ws) s) (now codes) ⌝ }
+    requires { ⌜ Numbered (now ws) s n × (n ≤ maxCounters) ⌝ }
+    requires { ⌜ owner-at (program (now ws) s) (tables (now ws) s) (s .states) ≤ 1024 ⌝ }
+    ensures { λ v. ⌜ v ≡ answer (from-11 (now (ws .entry)) s (length (now (lent .entry)))) ⌝ }
+    ensures { λ v. ⌜ now (lent .exit) ≡ words-after v (now (ws .entry)) s (now (lent .entry)) ⌝ }
+{
+    let mut letters = words64_1024();
+    lettered_verdict(
+        ws,
+        s,
+        afters,
+        flow_at,
+        w,
+        fitting,
+        names,
+        letter_at,
+        codes,
+        branches,
+        n,
+        &mut letters,
+        lent,
+    )
+}
+
+// Refusals 11 to 14 of any number.
+fn all_letters(
+    ws: &[u16],
+    s: Sizes,
+    afters: &[u16],
+    flow_at: &[u16],
+    w: usize,
+    fitting: &[u64],
+    names: &[u64],
+    letter_at: &[u16],
+    codes: &[u64],
+    branches: &[u16],
+    n: usize,
+    lent: &mut [u32],
+) -> Verdict
+    requires { ⌜ Closed-tables (now ws) s (now afters) (now «flow_at») w (now fitting) (now branches) ⌝ }
+    requires { ⌜ Name-heads (program (now ws) s) (tables (now ws) s) (now names) ⌝ }
+    requires { ⌜ Class-letters (program (now ws) s) (tables (now ws) s) (now «letter_at») ⌝ }
+    requires { ⌜ Coded (program (now ws) s) (tables (now ws) s) (now codes) ⌝ }
+    requires { ⌜ Numbered (now ws) s n × (n ≤ maxCounters) ⌝ }
+    ensures { λ v. ⌜ v ≡ answer (from-11 (now (ws .entry)) s (length (now (lent .entry)))) ⌝ }
+    ensures { λ v. ⌜ now (lent .exit) ≡ words-after v (now (ws .entry)) s (now (lent .entry)) ⌝ }
+{
+    let mut letters = letter_sets();
+    lettered_verdict(
+        ws,
+        s,
+        afters,
+        flow_at,
+        w,
+        fitting,
+        names,
+        letter_at,
+        codes,
+        branches,
+        n,
+        &mut letters,
+        lent,
+    )
+}
+
+// Refusals 11 to 14 over the least room for sets of letters that fits, which that for `most` words or more may be. It
+// calls itself for the next size: each size has a frame of its own (DECISIONS 46).
+fn sets_verdict(
+    most: usize,
+    ws: &[u16],
+    s: Sizes,
+    afters: &[u16],
+    flow_at: &[u16],
+    w: usize,
+    fitting: &[u64],
+    names: &[u64],
+    letter_at: &[u16],
+    codes: &[u64],
+    branches: &[u16],
+    n: usize,
+    lent: &mut [u32],
+) -> Verdict
+    requires { ⌜ 1 ≤ most ⌝ }
+    requires { ⌜ Closed-tables (now ws) s (now afters) (now «flow_at») w (now fitting) (now branches) ⌝ }
+    requires { ⌜ Name-heads (program (now ws) s) (tables (now ws) s) (now names) ⌝ }
+    requires { ⌜ Class-letters (program (now ws) s) (tables (now ws) s) (now «letter_at») ⌝ }
+    requires { ⌜ Coded (program (now ws) s) (tables (now ws) s) (now codes) ⌝ }
+    requires { ⌜ Numbered (now ws) s n × (n ≤ maxCounters) ⌝ }
+    ensures { λ v. ⌜ v ≡ answer (from-11 (now (ws .entry)) s (length (now (lent .entry)))) ⌝ }
+    ensures { λ v. ⌜ now (lent .exit) ≡ words-after v (now (ws .entry)) s (now (lent .entry)) ⌝ }
+{
+    if most >= 4096 {
+        return all_letters(
+            ws,
+            s,
+            afters,
+            flow_at,
+            w,
+            fitting,
+            names,
+            letter_at,
+            codes,
+            branches,
+            n,
+            lent,
+        );
+    }
+    let words = letter_words(ws, s, letter_at);
+    if words <= most {
+        if most <= 256 {
+            return few_letters(
+                ws,
+                s,
+                afters,
+                flow_at,
+                w,
+                fitting,
+                names,
+                letter_at,
+                codes,
+                branches,
+                n,
+                lent,
+            );
+        }
+        if most <= 1024 {
+            return more_letters(
+                ws,
+                s,
+                afters,
+                flow_at,
+                w,
+                fitting,
+                names,
+                letter_at,
+                codes,
+                branches,
+                n,
+                lent,
+            );
+        }
+    }
+    sets_verdict(
+        4 * most,
+        ws,
+        s,
+        afters,
+        flow_at,
+        w,
+        fitting,
+        names,
+        letter_at,
+        codes,
+        branches,
+        n,
+        lent,
+    )
+}
+
+// Refusals 22 and 9 to 14 over a lent set of heads for each name.
+fn named_verdict(
+    ws: &[u16],
+    s: Sizes,
+    afters: &[u16],
+    flow_at: &[u16],
+    w: usize,
+    fitting: &[u64],
+    names: &mut [u64],
+    branches: &[u16],
+    lent: &mut [u32],
+) -> Verdict
+    requires { ⌜ Closed-tables (now ws) s (now afters) (now «flow_at») w (now fitting) (now branches) ⌝ }
+    requires { ⌜ s .names * 2 ≤ length (now names) ⌝ }
+    ensures { λ v. ⌜ v ≡ answer (from-22 (now (ws .entry)) s (length (now (lent .entry)))) ⌝ }
+    ensures { λ v. ⌜ now (lent .exit) ≡ words-after v (now (ws .entry)) s (now (lent .entry)) ⌝ }
+{
+    fill_names(ws, s, names);
+    let mut letter_at = row_words16();
+    let mut codes = letter_codes();
+    let l = fill_codes(ws, s, names, MAX_COUNTERS, &mut letter_at, &mut codes);
+    // 22, then 9
+    let counters = counters_verdict(ws, s, l);
+    if !is_safe(counters) {
+        return counters;
+    }
+    let n = s.states + l;
+    let form = ceiling_check(ws, s, n);
+    if !is_safe(form) {
+        return form;
+    }
+    sets_verdict(
+        256,
+        ws,
+        s,
+        afters,
+        flow_at,
+        w,
+        fitting,
+        names,
+        &letter_at,
+        &codes,
+        branches,
+        n,
+        lent,
+    )
+}
+
+// Refusals 22 and 9 to 14 of few names.
 fn few_names(
     ws: &[u16],
     s: Sizes,
     afters: &[u16],
     flow_at: &[u16],
     w: usize,
-    flows: &[u64],
-    letter_at: &[u16],
-    letters: &[u16],
+    fitting: &[u64],
     branches: &[u16],
-    n: usize,
     lent: &mut [u32],
 ) -> Verdict
-    requires { ⌜ Ready (now ws) s ⌝ }
-    requires { ⌜ Unnamed (now ws) s (now afters) (now «flow_at») w (now flows) (now «letter_at»)
-        (now letters) (now branches) ⌝ }
-    requires { ⌜ Numbered (now ws) s n ⌝ }
+    requires { ⌜ Closed-tables (now ws) s (now afters) (now «flow_at») w (now fitting) (now branches) ⌝ }
     requires { ⌜ s .names ≤ 64 ⌝ }
-    ensures { λ v. ⌜ v ≡ answer (from-11 (now (ws .entry)) s (length (now (lent .entry)))) ⌝ }
+    ensures { λ v. ⌜ v ≡ answer (from-22 (now (ws .entry)) s (length (now (lent .entry)))) ⌝ }
     ensures { λ v. ⌜ now (lent .exit) ≡ words-after v (now (ws .entry)) s (now (lent .entry)) ⌝ }
 {
     let mut names = words64_130();
@@ -104,35 +400,26 @@ fn few_names(
         afters,
         flow_at,
         w,
-        flows,
+        fitting,
         &mut names,
-        letter_at,
-        letters,
         branches,
-        n,
         lent,
     )
 }
 
-// Of any number.
+// Refusals 22 and 9 to 14 of any number of names.
 fn all_names(
     ws: &[u16],
     s: Sizes,
     afters: &[u16],
     flow_at: &[u16],
     w: usize,
-    flows: &[u64],
-    letter_at: &[u16],
-    letters: &[u16],
+    fitting: &[u64],
     branches: &[u16],
-    n: usize,
     lent: &mut [u32],
 ) -> Verdict
-    requires { ⌜ Ready (now ws) s ⌝ }
-    requires { ⌜ Unnamed (now ws) s (now afters) (now «flow_at») w (now flows) (now «letter_at»)
-        (now letters) (now branches) ⌝ }
-    requires { ⌜ Numbered (now ws) s n ⌝ }
-    ensures { λ v. ⌜ v ≡ answer (from-11 (now (ws .entry)) s (length (now (lent .entry)))) ⌝ }
+    requires { ⌜ Closed-tables (now ws) s (now afters) (now «flow_at») w (now fitting) (now branches) ⌝ }
+    ensures { λ v. ⌜ v ≡ answer (from-22 (now (ws .entry)) s (length (now (lent .entry)))) ⌝ }
     ensures { λ v. ⌜ now (lent .exit) ≡ words-after v (now (ws .entry)) s (now (lent .entry)) ⌝ }
 {
     let mut names = words64_1024();
@@ -142,63 +429,30 @@ fn all_names(
         afters,
         flow_at,
         w,
-        flows,
+        fitting,
         &mut names,
-        letter_at,
-        letters,
         branches,
-        n,
         lent,
     )
 }
 
-// Refusals 11 to 14 of a message of n counters.
+// Refusals 22 and 9 to 14 over the least room for heads of names that fits.
 pub fn system_verdict(
     ws: &[u16],
     s: Sizes,
     afters: &[u16],
     flow_at: &[u16],
     w: usize,
-    flows: &[u64],
-    letter_at: &[u16],
-    letters: &[u16],
+    fitting: &[u64],
     branches: &[u16],
-    n: usize,
     lent: &mut [u32],
 ) -> Verdict
-    requires { ⌜ Ready (now ws) s ⌝ }
-    requires { ⌜ Unnamed (now ws) s (now afters) (now «flow_at») w (now flows) (now «letter_at»)
-        (now letters) (now branches) ⌝ }
-    requires { ⌜ Numbered (now ws) s n ⌝ }
-    ensures { λ v. ⌜ v ≡ answer (from-11 (now (ws .entry)) s (length (now (lent .entry)))) ⌝ }
+    requires { ⌜ Closed-tables (now ws) s (now afters) (now «flow_at») w (now fitting) (now branches) ⌝ }
+    ensures { λ v. ⌜ v ≡ answer (from-22 (now (ws .entry)) s (length (now (lent .entry)))) ⌝ }
     ensures { λ v. ⌜ now (lent .exit) ≡ words-after v (now (ws .entry)) s (now (lent .entry)) ⌝ }
 {
     if s.names <= 64 {
-        return few_names(
-            ws,
-            s,
-            afters,
-            flow_at,
-            w,
-            flows,
-            letter_at,
-            letters,
-            branches,
-            n,
-            lent,
-        );
+        return few_names(ws, s, afters, flow_at, w, fitting, branches, lent);
     }
-    all_names(
-        ws,
-        s,
-        afters,
-        flow_at,
-        w,
-        flows,
-        letter_at,
-        letters,
-        branches,
-        n,
-        lent,
-    )
+    all_names(ws, s, afters, flow_at, w, fitting, branches, lent)
 }

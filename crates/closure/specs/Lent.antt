@@ -12,7 +12,7 @@ pub record Indexed (s : Sizes) (starts firsts nexts : List ℕ) : Type 0 where
   pub constructors : s .constructors ≤ length firsts
   pub rows : s .rows ≤ length nexts
 
--- an empty set for each name, for each name and the class of the start, and two for each row
+-- an empty set of values for each name, for each name and the class of the start, and two for each row
 pub record Cleared (s : Sizes) (flow mail may held : List ℕ) : Type 0 where
   pub flow-empty : Empty (width (s .rows)) flow
   pub flow-room : Room (width (s .rows)) (s .names) flow

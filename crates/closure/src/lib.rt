@@ -4,6 +4,7 @@ use codes::code_at;
 use lists::state_location;
 use lists::tables_at;
 use matching::builds::fill_builds;
+use matching::names::fill_fitting;
 use matching::patterns::fill_patterns;
 use model::Sizes;
 use model::Verdict;
@@ -28,7 +29,7 @@ ghost use Rattle.lists.specs.Ready.{Ready};
 ghost use Rattle.positions.specs.Positions.{Ends};
 ghost use Rattle.positions.specs.Branches.{Branch-bits};
 ghost use Rattle.values.specs.Values.{Flow-sets, Mail-sets};
-ghost use Rattle.matching.specs.Patterns.{Matches};
+ghost use Rattle.matching.specs.Patterns.{Matches, Unfitted, Fitting-sets};
 ghost use Rattle.codes.specs.Codes.{Codes};
 ghost use Rattle.stated.specs.Stated.{Stated};
 ghost use Rattle.closure.specs.Told.{first-open, Told, states-verdict};
@@ -134,26 +135,24 @@ fn first_open(
     i
 }
 
-// The verdict where the opening entries are there, and state i is the first that lacks something.
-fn states_verdict(s: Sizes, i: usize) -> Verdict
+// The verdict where the opening entries are there, and state i lacks something.
+fn state_verdict(s: Sizes, i: usize) -> Verdict
     requires { ⌜ Within-limits present s ⌝ }
-    requires { ⌜ i ≤ s .states ⌝ }
+    requires { ⌜ i < s .states ⌝ }
     ensures { λ v. ⌜ v ≡ states-verdict s i ⌝ }
 {
-    if i == s.states {
-        return Verdict::Safe;
-    }
     let place = tables_at(s) + 3 + s.flows + s.mails + i;
     Verdict::Open(place)
 }
 
-// Refusal 8. Where it is none, `starts` and `flow` have the values of the names, and `branches` has for each state the
-// bits of the branches that may match.
+// Refusal 8. Where it is none, `starts` has where the values of each name begin, `fitting` the names with values that
+// patterns may match, and `branches` for each state the bits of the branches that may match.
 pub fn open_check(
     ws: &[u16],
     s: Sizes,
     afters: &[u16],
     starts: &mut [u16],
+    fitting: &mut [u64],
     flow: &mut [u64],
     mail: &mut [u64],
     firsts: &mut [u16],
@@ -168,13 +167,14 @@ pub fn open_check(
     requires { ⌜ Ends (program (now ws) s) (now afters) ⌝ }
     requires { ⌜ Indexed s (now starts) (now firsts) (now nexts) ⌝ }
     requires { ⌜ Cleared s (now flow) (now mail) (now may) (now held) ⌝ }
+    requires { ⌜ Unfitted (s .names) (s .rows) (now fitting) ⌝ }
     requires { ⌜ s .states ≤ length (now branches) ⌝ }
     requires { ⌜ Unsettled s (now codes) ⌝ }
     ensures { λ v. ⌜ v ≡ answer (open-check s (program (now (ws .entry)) s) (tables (now (ws .entry)) s)) ⌝ }
     ensures { λ v. ⌜ (v ≡ Safe →
         Starts (tables (now (ws .entry)) s .flow) (s .names) (now (starts .exit))) ⌝ }
     ensures { λ v. ⌜ (v ≡ Safe →
-        Flow-sets (program (now (ws .entry)) s) (tables (now (ws .entry)) s) (now (flow .exit))) ⌝ }
+        Fitting-sets (program (now (ws .entry)) s) (tables (now (ws .entry)) s) (now (fitting .exit))) ⌝ }
     ensures { λ v. ⌜ (v ≡ Safe →
         Branch-bits (program (now (ws .entry)) s) (tables (now (ws .entry)) s) (now (branches .exit))) ⌝ }
 {
@@ -195,5 +195,9 @@ pub fn open_check(
         at,
         branches,
     );
-    states_verdict(s, i)
+    if i < s.states {
+        return state_verdict(s, i);
+    }
+    fill_fitting(ws, s, may, fitting);
+    Verdict::Safe
 }

@@ -16,7 +16,7 @@ use Rattle.rooms.specs.Cleared.{Cleared}
 use Rattle.values.specs.Values.{width, Empty, Room}
 use Rattle.closure.specs.Lent as lent
 use Rattle.closure.specs.Lent.{Indexed, Unsettled}
-use Rattle.closure_sized.specs.Flow.{Flow-room}
+use Rattle.matching.specs.Patterns.{Unfitted}
 
 -- a cleared table holds empty sets
 pub empty-sets : (n w : ℕ) (t : List ℕ) → Cleared n t → Empty w t
@@ -38,8 +38,8 @@ unfolding width
 width-most r R h = omega arith
 
 -- what refusal 8 asks of cleared tables: room for a message of no more than R rows and N names
-pub lends : (ws : List ℕ) (s : Sizes) (afters starts flow : List ℕ) (k R N a b d e : ℕ) (mail firsts nexts may held codes : List ℕ) → Ready ws s → Ends (program ws s) afters → Flow-room s flow → (s .names < length starts) × (s .states ≤ k) → s .rows ≤ R → s .names ≤ N → Cleared a mail → Cleared b firsts → Cleared d nexts → Cleared e may → Cleared e held → Cleared d codes → (N + 1) * width R ≤ a → maxConstructors ≤ b → R * width R ≤ e → R ≤ d → Ready ws s × (Ends (program ws s) afters × (Indexed s starts firsts nexts × (lent.Cleared s flow mail may held × ((s .states ≤ k) × Unsettled s codes))))
-lends ws s afters starts flow k R N a b d e mail firsts nexts may held codes ready ends flows tables r n m f x y z o am bc er rd =
+pub lends : (ws : List ℕ) (s : Sizes) (afters starts fitting : List ℕ) (k R N a b d e : ℕ) (flow mail firsts nexts may held codes : List ℕ) → Ready ws s → Ends (program ws s) afters → Unfitted (s .names) (s .rows) fitting → (s .names < length starts) × (s .states ≤ k) → s .rows ≤ R → s .names ≤ N → Cleared a flow → Cleared a mail → Cleared b firsts → Cleared d nexts → Cleared e may → Cleared e held → Cleared d codes → (N + 1) * width R ≤ a → maxConstructors ≤ b → R * width R ≤ e → R ≤ d → Ready ws s × (Ends (program ws s) afters × (Indexed s starts firsts nexts × (lent.Cleared s flow mail may held × (Unfitted (s .names) (s .rows) fitting × ((s .states ≤ k) × Unsettled s codes)))))
+lends ws s afters starts fitting k R N a b d e flow mail firsts nexts may held codes ready ends fits tables r n l m f x y z o am bc er rd =
     let w = width-most (s .rows) R r in (
       ready,
       (
@@ -52,8 +52,8 @@ lends ws s afters starts flow k R N a b d e mail firsts nexts may held codes rea
           },
           (
             record {
-              flow-empty = flows .empty;
-              flow-room = flows .room;
+              flow-empty = empty-sets a _ flow l;
+              flow-room = sets-fit (s .names) _ (N + 1) (width R) a flow l (omega arith) w am;
               mail-empty = empty-sets a _ mail m;
               mail-room = sets-fit (s .names + 1) _ (N + 1) (width R) a mail m (omega arith) w am;
               may-empty = empty-sets e _ may y;
@@ -61,7 +61,7 @@ lends ws s afters starts flow k R N a b d e mail firsts nexts may held codes rea
               held-empty = empty-sets e _ held z;
               held-room = sets-fit (s .rows) _ R (width R) e held z r w er;
             },
-            (tables .1, record { room = let q = o .room in omega arith; none = o .zero }),
+            (fits, (tables .1, record { room = let q = o .room in omega arith; none = o .zero })),
           ),
         ),
       ),

@@ -1,4 +1,4 @@
-// Refusal 8 over scratch by need: the sets of mail and of patterns, what each head asks, and guesses of states.
+// Refusal 8 over scratch by need: the sets of names, of mail and of patterns, what each head asks, and guesses of states.
 use closure::open_check;
 use model::Sizes;
 use model::Verdict;
@@ -24,8 +24,7 @@ ghost use Rattle.lists.specs.Lists.{Starts};
 ghost use Rattle.lists.specs.Ready.{Ready};
 ghost use Rattle.positions.specs.Positions.{Ends};
 ghost use Rattle.positions.specs.Branches.{Branch-bits};
-ghost use Rattle.values.specs.Values.{Flow-sets};
-ghost use Rattle.closure_sized.specs.Flow.{Flow-room};
+ghost use Rattle.matching.specs.Patterns.{Unfitted, Fitting-sets};
 
 // Refusal 8 of a small message.
 fn small_open(
@@ -33,22 +32,23 @@ fn small_open(
     s: Sizes,
     afters: &[u16],
     starts: &mut [u16],
-    flow: &mut [u64],
+    fitting: &mut [u64],
     branches: &mut [u16],
 ) -> Verdict
     requires { ⌜ Ready (now ws) s ⌝ }
     requires { ⌜ Ends (program (now ws) s) (now afters) ⌝ }
-    requires { ⌜ Flow-room s (now flow) ⌝ }
+    requires { ⌜ Unfitted (s .names) (s .rows) (now fitting) ⌝ }
     requires { ⌜ (s .names < length (now starts)) × (s .states ≤ length (now branches)) ⌝ }
     requires { ⌜ (s .rows ≤ 64) × (s .names ≤ 64) ⌝ }
     ensures { λ v. ⌜ v ≡ answer (open-check s (program (now (ws .entry)) s) (tables (now (ws .entry)) s)) ⌝ }
     ensures { λ v. ⌜ (v ≡ Safe →
         Starts (tables (now (ws .entry)) s .flow) (s .names) (now (starts .exit))) ⌝ }
     ensures { λ v. ⌜ (v ≡ Safe →
-        Flow-sets (program (now (ws .entry)) s) (tables (now (ws .entry)) s) (now (flow .exit))) ⌝ }
+        Fitting-sets (program (now (ws .entry)) s) (tables (now (ws .entry)) s) (now (fitting .exit))) ⌝ }
     ensures { λ v. ⌜ (v ≡ Safe →
         Branch-bits (program (now (ws .entry)) s) (tables (now (ws .entry)) s) (now (branches .exit))) ⌝ }
 {
+    let mut flow = words64_130();
     let mut mail = words64_130();
     let mut firsts = words16_66();
     let mut nexts = words16_66();
@@ -61,7 +61,8 @@ fn small_open(
         s,
         afters,
         starts,
-        flow,
+        fitting,
+        &mut flow,
         &mut mail,
         &mut firsts,
         &mut nexts,
@@ -79,22 +80,23 @@ fn middle_open(
     s: Sizes,
     afters: &[u16],
     starts: &mut [u16],
-    flow: &mut [u64],
+    fitting: &mut [u64],
     branches: &mut [u16],
 ) -> Verdict
     requires { ⌜ Ready (now ws) s ⌝ }
     requires { ⌜ Ends (program (now ws) s) (now afters) ⌝ }
-    requires { ⌜ Flow-room s (now flow) ⌝ }
+    requires { ⌜ Unfitted (s .names) (s .rows) (now fitting) ⌝ }
     requires { ⌜ (s .names < length (now starts)) × (s .states ≤ length (now branches)) ⌝ }
     requires { ⌜ (s .rows ≤ 256) × (s .names ≤ 256) ⌝ }
     ensures { λ v. ⌜ v ≡ answer (open-check s (program (now (ws .entry)) s) (tables (now (ws .entry)) s)) ⌝ }
     ensures { λ v. ⌜ (v ≡ Safe →
         Starts (tables (now (ws .entry)) s .flow) (s .names) (now (starts .exit))) ⌝ }
     ensures { λ v. ⌜ (v ≡ Safe →
-        Flow-sets (program (now (ws .entry)) s) (tables (now (ws .entry)) s) (now (flow .exit))) ⌝ }
+        Fitting-sets (program (now (ws .entry)) s) (tables (now (ws .entry)) s) (now (fitting .exit))) ⌝ }
     ensures { λ v. ⌜ (v ≡ Safe →
         Branch-bits (program (now (ws .entry)) s) (tables (now (ws .entry)) s) (now (branches .exit))) ⌝ }
 {
+    let mut flow = words64_1285();
     let mut mail = words64_1285();
     let mut firsts = words16_66();
     let mut nexts = words16_258();
@@ -107,7 +109,8 @@ fn middle_open(
         s,
         afters,
         starts,
-        flow,
+        fitting,
+        &mut flow,
         &mut mail,
         &mut firsts,
         &mut nexts,
@@ -125,21 +128,22 @@ fn large_open(
     s: Sizes,
     afters: &[u16],
     starts: &mut [u16],
-    flow: &mut [u64],
+    fitting: &mut [u64],
     branches: &mut [u16],
 ) -> Verdict
     requires { ⌜ Ready (now ws) s ⌝ }
     requires { ⌜ Ends (program (now ws) s) (now afters) ⌝ }
-    requires { ⌜ Flow-room s (now flow) ⌝ }
+    requires { ⌜ Unfitted (s .names) (s .rows) (now fitting) ⌝ }
     requires { ⌜ (s .names < length (now starts)) × (s .states ≤ length (now branches)) ⌝ }
     ensures { λ v. ⌜ v ≡ answer (open-check s (program (now (ws .entry)) s) (tables (now (ws .entry)) s)) ⌝ }
     ensures { λ v. ⌜ (v ≡ Safe →
         Starts (tables (now (ws .entry)) s .flow) (s .names) (now (starts .exit))) ⌝ }
     ensures { λ v. ⌜ (v ≡ Safe →
-        Flow-sets (program (now (ws .entry)) s) (tables (now (ws .entry)) s) (now (flow .exit))) ⌝ }
+        Fitting-sets (program (now (ws .entry)) s) (tables (now (ws .entry)) s) (now (fitting .exit))) ⌝ }
     ensures { λ v. ⌜ (v ≡ Safe →
         Branch-bits (program (now (ws .entry)) s) (tables (now (ws .entry)) s) (now (branches .exit))) ⌝ }
 {
+    let mut flow = name_sets();
     let mut mail = name_sets();
     let mut firsts = words16_66();
     let mut nexts = row_words16();
@@ -152,7 +156,8 @@ fn large_open(
         s,
         afters,
         starts,
-        flow,
+        fitting,
+        &mut flow,
         &mut mail,
         &mut firsts,
         &mut nexts,
@@ -173,34 +178,34 @@ pub fn open_verdict(
     s: Sizes,
     afters: &[u16],
     starts: &mut [u16],
-    flow: &mut [u64],
+    fitting: &mut [u64],
     branches: &mut [u16],
 ) -> Verdict
     requires { ⌜ 1 ≤ most ⌝ }
     requires { ⌜ Ready (now ws) s ⌝ }
     requires { ⌜ Ends (program (now ws) s) (now afters) ⌝ }
-    requires { ⌜ Flow-room s (now flow) ⌝ }
+    requires { ⌜ Unfitted (s .names) (s .rows) (now fitting) ⌝ }
     requires { ⌜ (s .names < length (now starts)) × (s .states ≤ length (now branches)) ⌝ }
     ensures { λ v. ⌜ v ≡ answer (open-check s (program (now (ws .entry)) s) (tables (now (ws .entry)) s)) ⌝ }
     ensures { λ v. ⌜ (v ≡ Safe →
         Starts (tables (now (ws .entry)) s .flow) (s .names) (now (starts .exit))) ⌝ }
     ensures { λ v. ⌜ (v ≡ Safe →
-        Flow-sets (program (now (ws .entry)) s) (tables (now (ws .entry)) s) (now (flow .exit))) ⌝ }
+        Fitting-sets (program (now (ws .entry)) s) (tables (now (ws .entry)) s) (now (fitting .exit))) ⌝ }
     ensures { λ v. ⌜ (v ≡ Safe →
         Branch-bits (program (now (ws .entry)) s) (tables (now (ws .entry)) s) (now (branches .exit))) ⌝ }
 {
     if most >= 1024 {
-        return large_open(ws, s, afters, starts, flow, branches);
+        return large_open(ws, s, afters, starts, fitting, branches);
     }
     if s.rows <= most {
         if s.names <= most {
             if most <= 64 {
-                return small_open(ws, s, afters, starts, flow, branches);
+                return small_open(ws, s, afters, starts, fitting, branches);
             }
             if most <= 256 {
-                return middle_open(ws, s, afters, starts, flow, branches);
+                return middle_open(ws, s, afters, starts, fitting, branches);
             }
         }
     }
-    open_verdict(4 * most, ws, s, afters, starts, flow, branches)
+    open_verdict(4 * most, ws, s, afters, starts, fitting, branches)
 }

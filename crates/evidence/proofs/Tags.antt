@@ -2,7 +2,7 @@
 use Prim.Native.Nat.{ℕ, _≤_, _<_}
 use native.Mathlib.Decide.{ℕ-discrete}
 use native.Mathlib.Omega.{arith}
-use mathlib.Core.Path.{_≡_, refl}
+use mathlib.Core.Path.{_≡_}
 use mathlib.Core.Bool.{Bool, true, false, _&&_, _||_}
 use mathlib.Core.Logic.{_⊎_, inl, inr, ⊎-elim}
 use lib.Dec.{leb, eqb}
@@ -17,10 +17,6 @@ or-first a b h = rw h
 
 pub or-second : (a b : Bool) → a ≡ false → b ≡ (a || b)
 or-second a b h = rw h
-
-pub or-nothing : (b : Bool) → b ≡ (b || false)
-or-nothing true = refl
-or-nothing false = refl
 
 pub and-first : (a b : Bool) → a ≡ false → a ≡ (a && b)
 and-first a b h = rw h

@@ -35,7 +35,7 @@ lent-rest : (a : ℕ) (xs : List ℕ) → take (length xs - a) (drop a xs) ≡ d
 lent-rest a xs = part-to-end xs a
 
 -- lists with room for a state's rules from a on
-module _ (s : Sizes) (a : ℕ) (tos others : List ℕ) (r : Room-from s a tos others) where
+module _ (ws : List ℕ) (s : Sizes) (a : ℕ) (tos others : List ℕ) (r : Room-from ws s a tos others) where
   pub starts-low : (a ≤ length tos) × (a ≤ length others)
   starts-low =
       let x = length-drop a tos in
@@ -44,7 +44,7 @@ module _ (s : Sizes) (a : ℕ) (tos others : List ℕ) (r : Room-from s a tos ot
       let w = r .room .alike in
       (omega arith, omega arith)
 
-  pub lent-room : Rule-room s (take (length tos - a) (drop a tos)) (take (length others - a) (drop a others))
+  pub lent-room : Rule-room ws s (take (length tos - a) (drop a tos)) (take (length others - a) (drop a others))
   lent-room = rw (lent-rest a tos, lent-rest a others) (r .room)
 
 pub put-rules : (p : Program) (t : Tables) (i a m : ℕ) (tos others ys zs : List ℕ) → a ≤ length tos → a ≤ length others → State-rules p t i ys zs m → Rules-from p t i a (take a tos ++ (ys ++ drop (length tos - a) (drop a tos))) (take a others ++ (zs ++ drop (length others - a) (drop a others))) m
@@ -58,11 +58,11 @@ pub few-rules : (p : Program) (t : Tables) (i a m : ℕ) (tos others : List ℕ)
 few-rules p t i a m tos others r h = let z = length-drop a tos in let y = r .rules .tos-room in omega arith
 
 -- lists with room behind the first `spare` words, later and from a place within these on
-module _ (s : Sizes) (spare : ℕ) (tos₀ others₀ : List ℕ) (r : Room-from s spare tos₀ others₀) where
+module _ (ws : List ℕ) (s : Sizes) (spare : ℕ) (tos₀ others₀ : List ℕ) (r : Room-from ws s spare tos₀ others₀) where
   pub spare-low : length tos₀ ≤ 65536 → spare < 65536
   spare-low h = let z = length-drop spare tos₀ in let y = r .room .values in omega arith
 
-  pub room-later : (used : ℕ) (tos others : List ℕ) → used ≤ spare → length tos ≡ length tos₀ → length others ≡ length others₀ → Room-from s used tos others
+  pub room-later : (used : ℕ) (tos others : List ℕ) → used ≤ spare → length tos ≡ length tos₀ → length others ≡ length others₀ → Room-from ws s used tos others
   room-later used tos others l e f =
       let a = length-drop spare tos₀ in
       let b = length-drop spare others₀ in

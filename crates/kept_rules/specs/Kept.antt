@@ -19,8 +19,8 @@ abbrev pub Same-below : ℕ → List ℕ → List ℕ → Type 0
 Same-below n xs ys = (x : ℕ) → x < n → getD ys x 0 ≡ getD xs x 0
 
 -- from word `first` on the two lists have room for the rules of any state
-pub record Room-from (s : Sizes) (first : ℕ) (tos others : List ℕ) : Type 0 where
-  pub room : Rule-room s (drop first tos) (drop first others)
+pub record Room-from (ws : List ℕ) (s : Sizes) (first : ℕ) (tos others : List ℕ) : Type 0 where
+  pub room : Rule-room ws s (drop first tos) (drop first others)
 
 -- from there on they hold the m rules of state i
 pub record Rules-from (p : Program) (t : Tables) (i first : ℕ) (tos others : List ℕ) (m : ℕ) : Type 0 where

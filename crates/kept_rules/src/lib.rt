@@ -76,10 +76,10 @@ pub fn rules_from(
     afters: &[u16],
     flow_at: &[u16],
     w: usize,
-    flows: &[u64],
+    fitting: &[u64],
     names: &[u64],
     letter_at: &[u16],
-    letters: &[u16],
+    letters: &[u64],
     branches: &[u16],
     at: &[u16],
     i: usize,
@@ -87,10 +87,10 @@ pub fn rules_from(
     tos: &mut [u16],
     others: &mut [u16],
 ) -> usize
-    requires { ⌜ Rule-tables (now ws) s (now afters) (now «flow_at») w (now flows) (now names)
+    requires { ⌜ Rule-tables (now ws) s (now afters) (now «flow_at») w (now fitting) (now names)
         (now «letter_at») (now letters) (now branches) ⌝ }
     requires { ⌜ (i < s .states) × (first < 65536) ⌝ }
-    requires { ⌜ Room-from s first (now tos) (now others) ⌝ }
+    requires { ⌜ Room-from (now ws) s first (now tos) (now others) ⌝ }
     ensures { λ m. ⌜ Rules-from (program (now (ws .entry)) s) (tables (now (ws .entry)) s) i first (now (tos .exit))
         (now (others .exit)) m ⌝ }
     ensures { λ _. ⌜ Same-below first (now (tos .entry)) (now (tos .exit)) ×
@@ -102,7 +102,7 @@ pub fn rules_from(
         afters,
         flow_at,
         w,
-        flows,
+        fitting,
         names,
         letter_at,
         letters,
@@ -121,10 +121,10 @@ pub fn rules_again(
     afters: &[u16],
     flow_at: &[u16],
     w: usize,
-    flows: &[u64],
+    fitting: &[u64],
     names: &[u64],
     letter_at: &[u16],
-    letters: &[u16],
+    letters: &[u64],
     branches: &[u16],
     kept: Kept,
     first_at: &[u16],
@@ -133,12 +133,12 @@ pub fn rules_again(
     tos: &mut [u16],
     others: &mut [u16],
 ) -> Found
-    requires { ⌜ Rule-tables (now ws) s (now afters) (now «flow_at») w (now flows) (now names)
+    requires { ⌜ Rule-tables (now ws) s (now afters) (now «flow_at») w (now fitting) (now names)
         (now «letter_at») (now letters) (now branches) ⌝ }
     requires { ⌜ Kept-rules (program (now ws) s) (tables (now ws) s) (s .states) kept (now «first_at») (now tos)
         (now others) ⌝ }
     requires { ⌜ i < s .states ⌝ }
-    requires { ⌜ Rule-room s (now tos) (now others) ⌝ }
+    requires { ⌜ Rule-room (now ws) s (now tos) (now others) ⌝ }
     ensures { λ f. ⌜ Rules-at (program (now (ws .entry)) s) (tables (now (ws .entry)) s) i (now (tos .exit))
         (now (others .exit)) (f .first) (f .end) ⌝ }
     ensures { λ _. ⌜ Kept-rules (program (now (ws .entry)) s) (tables (now (ws .entry)) s) (s .states) kept
@@ -157,7 +157,7 @@ pub fn rules_again(
         afters,
         flow_at,
         w,
-        flows,
+        fitting,
         names,
         letter_at,
         letters,

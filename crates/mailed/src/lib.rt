@@ -1,18 +1,20 @@
 // Refusal 22 of document 02, (x): no value of the mail list is a function. It stands between 8 and 9.
 use answers::is_safe;
+use letter_codes::counter_check;
 use lists::mail;
 use lists::mail_value;
 use model::Sizes;
 use model::Verdict;
 use program::rows::is_function;
 use program::rows::tag;
-use system_letters::counter_check;
 ghost use mathlib.Core.Path.{_≡_};
 ghost use Rattle.model.specs.Rows.{program};
+ghost use Rattle.model.specs.Limits.{maxCounters};
 ghost use Rattle.model.specs.Tables.{tables, mailed-check};
+ghost use Rattle.model.specs.Counters.{letter-count};
 ghost use Rattle.model.specs.Verify.{answer};
 ghost use Rattle.lists.specs.Ready.{Ready};
-ghost use Rattle.system_letters.specs.Letters.{Class-letters};
+ghost use Rattle.letter_codes.specs.Codes.{capped};
 ghost use Rattle.mailed.specs.Mailed.{mails-function, mails-from, mailed-then-counters};
 
 // Whether the value of mail entry i is a function.
@@ -54,14 +56,14 @@ fn mailed_check(ws: &[u16], s: Sizes) -> Verdict
     Verdict::Safe
 }
 
-// Refusals 22 and 9, of which 22 is told first.
-pub fn counters_verdict(ws: &[u16], s: Sizes, letter_at: &[u16], letters: &[u16]) -> Verdict
+// Refusals 22 and 9 of a message with n letters, or more than the limit of counters; 22 is told first.
+pub fn counters_verdict(ws: &[u16], s: Sizes, n: usize) -> Verdict
     requires { ⌜ Ready (now ws) s ⌝ }
-    requires { ⌜ Class-letters (program (now ws) s) (tables (now ws) s) (now «letter_at») (now letters) ⌝ }
+    requires { ⌜ n ≡ capped maxCounters (letter-count (program (now ws) s) (tables (now ws) s)) ⌝ }
     ensures { λ v. ⌜ v ≡
         answer (mailed-then-counters s (program (now (ws .entry)) s) (tables (now (ws .entry)) s)) ⌝ }
 {
     let mailed = mailed_check(ws, s);
-    let counters = counter_check(ws, s, letter_at, letters);
+    let counters = counter_check(ws, s, n);
     if is_safe(mailed) { counters } else { mailed }
 }

@@ -190,15 +190,16 @@ module _ (ws : List ℕ) (s : Sizes) (q u w : ℕ) (sets t : List ℕ) (b : Bool
         let e = sym tagged ∙ two in
         rw (← same) (joined-there _ (λ v l z. a .alike u v low l c e (rw ew at (sym held ∙ there)) (sym (equal-build (program ws s) v u c e) ∙ z)))
 
+-- one more turn
+pub any-last : (u : ℕ) (f : ℕ → Bool) → any 0 (u + 1) f ≡ (any 0 u f || f u)
+any-last u f = any-split 0 u (u + 1) f (omega arith) (omega arith) ∙ ap (λ b. any 0 u f || b)
+    (test (f u) (λ z. any-hit u (u + 1) f (omega arith) z ∙ sym z)
+    (λ z. any-miss u (u + 1) f (omega arith) z ∙ (any-end (u + 1) (u + 1) f (omega arith) ∙ sym z)))
+
 -- the values of the name before u, and what may be equal to them
 module _ (p : Program) (flow : List ℕ) (w n q : ℕ) where
   unfoldable pub equals-before : ℕ → ℕ → Bool
   equals-before u v = any 0 u (λ x. member flow w n x && may-equal p v x)
-
-  any-last : (u : ℕ) (f : ℕ → Bool) → any 0 (u + 1) f ≡ (any 0 u f || f u)
-  any-last u f = any-split 0 u (u + 1) f (omega arith) (omega arith) ∙ ap (λ b. any 0 u f || b)
-      (test (f u) (λ z. any-hit u (u + 1) f (omega arith) z ∙ sym z)
-      (λ z. any-miss u (u + 1) f (omega arith) z ∙ (any-end (u + 1) (u + 1) f (omega arith) ∙ sym z)))
 
   pub equals-begin : (u : List ℕ) → Joined w q (equals-before 0) u u
   unfolding equals-before

@@ -3,6 +3,7 @@ pub mod Chains
 pub mod Coding
 pub mod Joining
 pub mod Filling
+pub mod Naming
 pub mod Leaves
 pub mod Subpatterns
 pub mod Valued

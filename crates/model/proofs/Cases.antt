@@ -1,5 +1,5 @@
--- The cases of specs/Cases.antt, LongerCases.antt, HeldCases.antt, MailedCases.antt and ReturnCases.antt, by
--- computation: one theorem a table.
+-- The cases of specs/Cases.antt, LongerCases.antt, HeldCases.antt, MailedCases.antt, ReturnCases.antt and
+-- LetterCases.antt, by computation: one theorem a table.
 use mathlib.Core.Path.{_≡_, refl}
 use mathlib.Core.List.{map}
 use Rattle.model.proofs.Opens.{model-opens}
@@ -8,6 +8,7 @@ use Rattle.model.specs.LongerCases.{obtained-each, expected-each, limit-
 use Rattle.model.specs.HeldCases.{reached, held-cases, held-runs}
 use Rattle.model.specs.MailedCases.{mailed-cases, mailed-runs}
 use Rattle.model.specs.ReturnCases.{return-cases}
+use Rattle.model.specs.LetterCases.{letter-cases, crowd-told, crowds, crowds-told, letter-runs}
 
 pub proved-cases-hold : map obtained proved-cases ≡ map (λ k. k .expected) proved-cases
 unfolding model-opens
@@ -40,3 +41,15 @@ mailed-runs-hold = refl
 pub return-cases-hold : map obtained return-cases ≡ map (λ k. k .expected) return-cases
 unfolding model-opens
 return-cases-hold = refl
+
+pub letter-cases-hold : map obtained letter-cases ≡ map (λ k. k .expected) letter-cases
+unfolding model-opens
+letter-cases-hold = refl
+
+pub crowds-hold : map crowd-told crowds ≡ crowds-told
+unfolding model-opens
+crowds-hold = refl
+
+pub letter-runs-hold : map reached letter-runs ≡ map (λ k. k .expected) letter-runs
+unfolding model-opens
+letter-runs-hold = refl

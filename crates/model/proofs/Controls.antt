@@ -1,4 +1,4 @@
--- Controls: demand 3 on three stations, computed. After each number of a list the counts of the station and of the counters stand side by side.
+-- Controls: demand 3 on four stations, computed. After each number of a list the counts of the station and of the counters stand side by side.
 use Prim.Native.Nat.{ℕ}
 use mathlib.Core.Path.{_≡_, refl}
 use mathlib.Core.List.{List, [], _∷_, _++_}
@@ -7,27 +7,28 @@ use lib.ListN.{replicate}
 use Rattle.model.specs.Index.{gather}
 use Rattle.model.specs.Values.{Processes}
 use Rattle.model.specs.Run.{starting, next}
-use Rattle.model.specs.Letters.{processes-at, messages-of}
+use Rattle.model.specs.Letters.{Letter, processes-at, messages-of}
 use Rattle.model.specs.Tables.{state-at}
 use Rattle.model.specs.Rules.{quiet, reads, puts, starts, Rule, rule}
 use Rattle.model.specs.Markings.{Marking, initial, fire-all}
 use Rattle.model.specs.Verify.{Message, message}
 use Rattle.model.proofs.Opens.{model-opens}
-use Rattle.model.specs.Cases.{Pairs, to-bytes, two-classes-with, selective, selective-evidence}
+use Rattle.model.specs.Cases.{to-bytes, two-classes-with, selective, selective-evidence}
 use Rattle.model.specs.ReturnCases.{two-deep-with, two-deep-ends}
+use Rattle.model.specs.LetterCases.{two-pairs, two-pairs-message}
 
 -- the counts of a station in the order of the counters: its states, then the given classes and letters
-tally : Message → Pairs → Processes → List ℕ
+tally : Message → List (ℕ × Letter) → Processes → List ℕ
 tally m letters qs =
     gather 0 (m .tables .states .size) (λ i. processes-at (m .program) qs (state-at (m .tables) i) ∷ []) ++
     mails letters
   where
-    mails : Pairs → List ℕ
+    mails : List (ℕ × Letter) → List ℕ
     mails [] = []
     mails (k ∷ ks) = messages-of (m .program) qs (k .0) (k .1) ∷ mails ks
 
 -- the counts after each number
-station-tallies : Message → Pairs → Processes → List ℕ → List (List ℕ)
+station-tallies : Message → List (ℕ × Letter) → Processes → List ℕ → List (List ℕ)
 station-tallies m letters qs [] = tally m letters qs ∷ []
 station-tallies m letters qs (i ∷ is) = tally m letters qs ∷ station-tallies m letters (next (m .program) qs i) is
 
@@ -66,7 +67,7 @@ record Same (a b : List (List ℕ)) (end : List ℕ) : Type 0 where
   along : a ≡ b
   at-last : last-of a ≡ end
 
-two-classes-followed : Same (station-tallies two-classes-message ((15, 0) ∷ (27, 0) ∷ []) (starting (two-classes-message .program)) two-classes-numbers) (counter-tallies 15 (initial (two-classes-message .program) (two-classes-message .tables)) two-classes-rules) two-classes-end
+two-classes-followed : Same (station-tallies two-classes-message ((15, 0 ∷ []) ∷ (27, 0 ∷ []) ∷ []) (starting (two-classes-message .program)) two-classes-numbers) (counter-tallies 15 (initial (two-classes-message .program) (two-classes-message .tables)) two-classes-rules) two-classes-end
 unfolding tally station-tallies counter-tallies two-classes-message two-classes-numbers two-classes-rules two-classes-end last-of model-opens
 two-classes-followed = record { along = refl; at-last = refl }
 
@@ -79,7 +80,7 @@ selective-rules =
     some (rule 0 1 quiet) ∷ some (rule 1 2 quiet) ∷ some (rule 2 3 quiet) ∷ some (rule 3 4 (puts 8)) ∷ some (rule 4 5 (puts 9)) ∷
     some (rule 5 6 (reads 9)) ∷ some (rule 6 7 (reads 8)) ∷ none ∷ []
 
-selective-followed : Same (station-tallies selective-message ((18, 0) ∷ (18, 1) ∷ []) (starting (selective-message .program)) (0 ∷ 0 ∷ 0 ∷ 0 ∷ 0 ∷ 0 ∷ 0 ∷ 0 ∷ [])) (counter-tallies 10 (initial (selective-message .program) (selective-message .tables)) selective-rules) (0 ∷ 0 ∷ 0 ∷ 0 ∷ 0 ∷ 0 ∷ 0 ∷ 1 ∷ 0 ∷ 0 ∷ [])
+selective-followed : Same (station-tallies selective-message ((18, 0 ∷ []) ∷ (18, 1 ∷ []) ∷ []) (starting (selective-message .program)) (0 ∷ 0 ∷ 0 ∷ 0 ∷ 0 ∷ 0 ∷ 0 ∷ 0 ∷ [])) (counter-tallies 10 (initial (selective-message .program) (selective-message .tables)) selective-rules) (0 ∷ 0 ∷ 0 ∷ 0 ∷ 0 ∷ 0 ∷ 0 ∷ 1 ∷ 0 ∷ 0 ∷ [])
 unfolding tally station-tallies counter-tallies selective-message selective-rules last-of model-opens
 selective-followed = record { along = refl; at-last = refl }
 
@@ -96,3 +97,16 @@ two-deep-rules =
 two-deep-followed : Same (station-tallies two-deep-message [] (starting (two-deep-message .program)) (replicate 10 0)) (counter-tallies 9 (initial (two-deep-message .program) (two-deep-message .tables)) two-deep-rules) (0 ∷ 0 ∷ 0 ∷ 0 ∷ 0 ∷ 0 ∷ 0 ∷ 0 ∷ 1 ∷ [])
 unfolding tally station-tallies counter-tallies two-deep-message two-deep-rules last-of model-opens
 two-deep-followed = record { along = refl; at-last = refl }
+
+-- Two pairs, of a gauge and the own address and of pumps (specs/LetterCases.antt): the receive takes the second message alone.
+two-letters-message : Message
+two-letters-message = message (two-pairs-message (two-pairs (32, 0) (31, 1)))
+
+two-letters-rules : List (Option Rule)
+two-letters-rules =
+    some (rule 0 1 quiet) ∷ some (rule 1 2 quiet) ∷ some (rule 2 3 quiet) ∷ some (rule 3 4 quiet) ∷ some (rule 4 5 quiet) ∷ some (rule 5 6 (puts 9)) ∷
+    some (rule 6 7 (puts 10)) ∷ some (rule 7 8 (reads 10)) ∷ none ∷ []
+
+two-letters-followed : Same (station-tallies two-letters-message ((27, 2 ∷ 0 ∷ 4 ∷ []) ∷ (27, 2 ∷ 1 ∷ 1 ∷ []) ∷ []) (starting (two-letters-message .program)) (replicate 9 0)) (counter-tallies 11 (initial (two-letters-message .program) (two-letters-message .tables)) two-letters-rules) (0 ∷ 0 ∷ 0 ∷ 0 ∷ 0 ∷ 0 ∷ 0 ∷ 0 ∷ 1 ∷ 1 ∷ 0 ∷ [])
+unfolding tally station-tallies counter-tallies two-letters-message two-letters-rules last-of model-opens
+two-letters-followed = record { along = refl; at-last = refl }

@@ -22,8 +22,8 @@ use Rattle.model.proofs.Parse.Lengths.{Columns-whole}
 use Rattle.model.proofs.Listed.{listed-system}
 use Rattle.model.proofs.Runs.{all-runs-followed}
 use Rattle.model.proofs.Rows.{program-end}
-use Rattle.model.proofs.Numbering.Counters.{row-letter-low}
-use Rattle.model.proofs.Bounded.Exact.{message-built, message-keys, tests-exact}
+use Rattle.model.proofs.Numbering.Counters.{row-head-low}
+use Rattle.model.proofs.Bounded.Exact.{message-built, tests-exact}
 
 -- number 0 is safe's alone
 safe-number : (v : Verdict) → number v ≡ 0 → v ≡ Safe
@@ -61,7 +61,7 @@ refusal-changes-nothing =
 
 -- refusals 11 to 13 are exact
 ceilings-exactly : Ceilings-exactly
-ceilings-exactly most bytes short formed = tests-exact bytes short (message-keys bytes (formed .program .rows-fit) (formed .form .mail)) (formed .form .bads)
+ceilings-exactly most bytes short formed = tests-exact bytes short (formed .form .bads)
 
 -- Demand 2
 pub safe-exactly : Safe-exactly
@@ -96,4 +96,4 @@ runs-stay-counted most bytes lent short safe =
     subst (All-runs-followed m)
     (sym (ap listed-rules (system-written most bytes lent safe) ∙ listed-system (m .program) (m .tables) lent))
     (all-runs-followed m (sound .program .rows-fit) w (past-the-end bytes)
-    (row-letter-low (m .program) (message-built bytes (sound .program .rows-fit))) (sound .closed) (sound .bounded))
+    (row-head-low (m .program) (message-built bytes (sound .program .rows-fit))) (sound .closed) (sound .bounded))

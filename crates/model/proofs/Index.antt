@@ -6,8 +6,8 @@ use native.Mathlib.Omega.{arith}
 use mathlib.Core.Path.{_≡_, refl, sym, _∙_, ap, subst}
 use mathlib.Core.Bool.{Bool, true, false}
 use mathlib.Core.Logic.{_⊎_, inl, inr, ⊎-elim}
-use mathlib.Core.List.{List, [], _++_, List·Memᴰ, Memᴰ·append-left, Memᴰ·append-right, List·Memᴰ·append-cases, List·Memᴰ·not-nil, List·Memᴰ·eq-of-singleton, List·Memᴰ·head}
-use Rattle.model.specs.Index.{anyIn, allIn, firstIn, countIn, totalIn, gatherIn, any, all, first, count, total, gather, only}
+use mathlib.Core.List.{List, [], _∷_, _++_, List·Memᴰ, List·Memᴰ·cases-cons, List·Memᴰ·tail, Memᴰ·append-left, Memᴰ·append-right, List·Memᴰ·append-cases, List·Memᴰ·not-nil, List·Memᴰ·eq-of-singleton, List·Memᴰ·head}
+use Rattle.model.specs.Index.{anyIn, allIn, firstIn, countIn, totalIn, gatherIn, any, all, first, count, total, gather, only, from-all}
 use Rattle.model.proofs.Logic.{true-false, test}
 
 -- k is an index from i below e
@@ -410,3 +410,20 @@ pub only-elim : {A : Type 0} (b : Bool) (a x : A) → List·Memᴰ x (only b a) 
 unfolding only
 only-elim true a x m = (refl, List·Memᴰ·eq-of-singleton m)
 only-elim false a x m = absurd (List·Memᴰ·not-nil m)
+
+-- from-all
+
+pub from-all-intro : {A B : Type 0} (bs : List B) (b : B) (f : B → List A) (x : A) → List·Memᴰ b bs → List·Memᴰ x (f b) → List·Memᴰ x (from-all bs f)
+unfolding from-all
+from-all-intro [] b f x m h = absurd (List·Memᴰ·not-nil m)
+from-all-intro (y ∷ bs) b f x m h =
+    ⊎-elim (λ e. Memᴰ·append-left (from-all bs f) (subst (λ z. List·Memᴰ x (f z)) e h))
+    (λ n. Memᴰ·append-right (f y) (from-all-intro bs b f x n h)) (List·Memᴰ·cases-cons m)
+
+pub from-all-elim : {A B : Type 0} (bs : List B) (f : B → List A) (x : A) → List·Memᴰ x (from-all bs f) → (b : B) × List·Memᴰ b bs × List·Memᴰ x (f b)
+unfolding from-all
+from-all-elim [] f x m = absurd (List·Memᴰ·not-nil m)
+from-all-elim (y ∷ bs) f x m =
+    ⊎-elim (λ h. (y, List·Memᴰ·head refl, h))
+    (λ h. let (b, n, k) = from-all-elim bs f x h in (b, List·Memᴰ·tail n, k))
+    (List·Memᴰ·append-cases (f y) m)

@@ -29,6 +29,7 @@ pub mod Stepped
 pub mod Runs
 pub mod Demands
 pub mod Refusals
+pub mod LetterSums
 pub mod Sums
 pub mod Longer
 pub mod Mailed
@@ -38,3 +39,6 @@ pub mod Equality
 pub mod HeldScopes
 pub mod NoEmptyName
 pub mod NameCases
+pub mod TwoDeep
+pub mod OneDeep
+pub mod ByCounter

@@ -8,11 +8,12 @@ use mathlib.Core.List.{List, [], _∷_, _++_, map, append-assoc}
 use lib.ListN.{length, getD, take, drop, length-append, length-map, length-drop}
 use lib.Dec.{eqb}
 use lib.Seq.{take-at, drop-at, drop-append-seam}
+use Rattle.model.specs.Index.{from-all}
 use Rattle.model.specs.Words.{Columns, left, right, columns}
 use Rattle.model.specs.Rows.{Program}
 use Rattle.model.specs.Tables.{Tables}
 use Rattle.model.specs.Counters.{letter-count}
-use Rattle.model.specs.Rules.{Effect, quiet, reads, puts, starts, Rule, rule, from-all, rules}
+use Rattle.model.specs.Rules.{Effect, quiet, reads, puts, starts, Rule, rule, rules}
 use Rattle.model.specs.Listing.{Line, line, effect-lines, rule-lines, listing, system-words, written, listed-rows, effect-at, rules-from, listed-rules}
 
 -- the rows of some rules

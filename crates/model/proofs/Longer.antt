@@ -17,7 +17,8 @@ use Rattle.model.specs.Verdict.{Check, _>>_, number}
 use Rattle.model.specs.Message.{Limited, limited, tables-at, sizes, sizes-check, part-check, program-part, tables-part, parts-check}
 use Rattle.model.specs.Rows.{Program}
 use Rattle.model.specs.Tables.{Tables}
-use Rattle.model.specs.Counters.{counter-count, counter-check}
+use Rattle.model.specs.Counters.{counter-count, counter-check, counters-within}
+use Rattle.model.proofs.Numbering.Within.{within-iff}
 use Rattle.model.specs.Verify.{Message, message, evidence-check, message-check, check, answer, verdict-within, lent-after-within, part-handed-within}
 use Rattle.model.specs.Longer.{By-limit, Wider, Kept, Passes, Turned-away, Messages-kept, Longer-turned-away}
 use Rattle.model.proofs.Logic.{test}
@@ -82,8 +83,8 @@ module _ (few many : Limits) (wider : Wider few many) where
   counter-raised : (s : Sizes) (p : Program) (t : Tables) → Raised (counter-check few s p t) (counter-check many s p t)
   unfolding counter-check number
   counter-raised s p t =
-      test (leb (counter-count p t) (few .counters))
-      (λ a. let c = leb-iff (counter-count p t) (many .counters) .1 (omega (arith, leb-iff (counter-count p t) (few .counters) .0 a, wider .counters)) in
+      test (counters-within (few .counters) p t)
+      (λ a. let c = within-iff p t (many .counters) .1 (omega (arith, within-iff p t (few .counters) .0 a, wider .counters)) in
       inr (unless-none _ _ .1 c ∙ sym (unless-none _ _ .1 a)))
       (λ a. inl (Counters (tables-at s + 2), unless-some _ _ _ .1 (a, refl), inr refl))
 

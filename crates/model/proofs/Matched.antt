@@ -1,10 +1,10 @@
 -- What a match of the run says in the tables: the value's row may match the pattern, and what it binds is at the pattern's spots.
 use Prim.Native.Nat.{ℕ, zero, suc, _+_, _-_, _≤_, _<_}
 use native.Mathlib.Omega.{arith}
-use mathlib.Core.Path.{_≡_, refl, sym, _∙_, ap}
-use mathlib.Core.Bool.{true, false}
+use mathlib.Core.Path.{_≡_, refl, sym, _∙_, ap, subst}
+use mathlib.Core.Bool.{Bool, true, false}
 use mathlib.Core.Logic.{inl, inr, ⊎-elim}
-use mathlib.Core.List.{List, [], _∷_, _++_, append-nil}
+use mathlib.Core.List.{List, [], _∷_, _++_, append-nil, List·Memᴰ}
 use mathlib.Core.Option.{some, Option·some-injective, Option·none-ne-some}
 use lib.ListN.{length, getD, replicate}
 use lib.Dec.{eqb}
@@ -15,18 +15,23 @@ use Rattle.model.specs.Values.{Value, closure, built, address, Bindings,
 use Rattle.model.specs.Matching.{passes-over, match-rows, match}
 use Rattle.model.specs.Patterns.{Equal, one-process, one-constructor}
 use Rattle.model.specs.Tables.{Tables}
-use Rattle.model.specs.Closed.{subpattern, argument, same-constructor}
+use Rattle.model.specs.Limits.{maxDepth}
+use Rattle.model.specs.Index.{implies}
+use Rattle.model.specs.Letters.{head-count, row-head, value-letter}
+use Rattle.model.specs.Rules.{argument-fits, letters-read}
+use Rattle.model.specs.Closed.{subpattern, argument, same-constructor, may-take}
 use Rattle.model.specs.Wanted.{Member, MayEqual, MayMatch, AtSpot, Closed}
 use Rattle.model.proofs.Logic.{test, and-intro}
 use Rattle.model.proofs.Reader.{by-option}
 use Rattle.model.proofs.Covering.{row-for, names-of, Covered, Held}
 use Rattle.model.proofs.Lookups.{held-value}
 use Rattle.model.proofs.Transitions.Equality.{Equals-held, passes-over-iff}
-use Rattle.model.proofs.Steps.Letters.{Classes}
+use Rattle.model.proofs.Exact.MayMatch.{may-match-iff}
+use Rattle.model.proofs.Steps.Letters.{Classes, Fits, all-fit, Arguments-fit, letter-there}
 use Rattle.model.proofs.Parse.Reached.{Rows-fit}
 use Rattle.model.proofs.Parse.Grammar.{pattern-made, pattern-leaf}
 use Rattle.model.proofs.Parse.Lengths.{Columns-whole, row-location, nums-at, build-length}
-use Rattle.model.proofs.Parse.Spans.{Spans, spans-past, spans-unique, spans-none, spans-split, spans-join, spans-first}
+use Rattle.model.proofs.Parse.Spans.{Spans, spans-takes, spans-past, spans-unique, spans-none, spans-split, spans-join, spans-first}
 
 -- Patterns that may be so many levels deep stand from row q up to row e, one for each value; R holds of each depth, pattern row and value.
 data Each (p : Program) (R : ℕ → ℕ → Value → Type 0) : List ℕ → ℕ → Bindings → ℕ → Type 0 where
@@ -119,6 +124,18 @@ module _ (p : Program) (t : Tables) (classes : List ℕ) where
   each-map (suc a) d {q} (more {v = v} s r k) h f =
       more s (f zero (omega arith) q v (spans-none q) r (h .0))
       (each-map a d k (h .2) (λ i l x u b y m. f (suc i) (omega arith) x u (spans-join s b) y m))
+
+  -- each argument passes, where each of which R holds does
+  each-fits : {R : ℕ → ℕ → Value → Type 0} (passes : ℕ → ℕ → Bool) (a d i : ℕ) {q e : ℕ} {us : Bindings} → Each p R (replicate a d) q us e → ((j : ℕ) → j < a → (x : ℕ) (v : Value) → Spans p (replicate j (pattern d)) q x → R d x v → passes (i + j) (row-for classes v) ≡ true) → Fits classes passes i us
+  each-fits passes zero d i (done q) f = tt
+  each-fits passes (suc a) d i {q} (more {v = v} s r k) f =
+      let z : i + 0 ≡ i = omega arith in (
+        subst (λ j. passes j (row-for classes v) ≡ true) z (f zero (omega arith) q v (spans-none q) r),
+        each-fits passes a d (i + 1) k (λ j l x u b y. subst (λ n. passes n (row-for classes u) ≡ true) (shift j) (f (suc j) (omega arith) x u (spans-join s b) y)),
+      )
+    where
+      shift : (j : ℕ) → i + suc j ≡ i + 1 + j
+      shift j = omega arith
 
   -- what a pattern that is no constructor's may match, and what a constructor's may
   may-leaf : (d q v : ℕ) → eqb (tag p q) 31 ≡ false → (tag p q ≡ 33 → (w : ℕ) × Member (t .flow) (num p q) w × MayEqual p v w) → MayMatch p t d q v
@@ -275,3 +292,41 @@ module _ {p : Program} (fit : Rows-fit p) (w : Columns-whole p) (t : Tables) (cl
       -- and where flow has what is at the pattern's spots, the bindings are held
       pub match-held : {d q e : ℕ} (v : Value) (held′ : Bindings) → Spans p (pattern d ∷ []) q e → Covered p t classes v → match p held q v ≡ some held′ → ((n w : ℕ) → AtSpot p t d q (row-for classes v) n w → Member (t .flow) n w) → Held p t classes held′
       match-held {d} {q} {e} v held′ s c h spots = match-one v held′ s c h .holds (more s spots (done e)) kept
+
+      -- the arguments of a value that matches: each may match its pattern
+      inner-is : (l r k : ℕ) (vs inner : Bindings) → arguments-of l (built r k vs) ≡ some inner → inner ≡ vs
+      unfolding arguments-of
+      inner-is l r k vs inner a =
+          test (eqb l k) (λ e. sym (Option·some-injective vs inner (rw (e, arguments-of) at a))) (λ e. absurd (Option·none-ne-some inner (rw (e, arguments-of) at a)))
+
+      match-inner : (n d : ℕ) {q e : ℕ} (r k : ℕ) (vs held′ : Bindings) → Spans p (pattern d ∷ []) q e → Covered p t classes (built r k vs) → eqb (tag p q) 31 ≡ true → match-rows p held (suc n) q (bind 0 (built r k vs) empty) held ≡ some held′ → Each p (May p t classes) (replicate (arity p (num p q)) (d - 1)) (q + 1) vs e
+      unfolding join
+      match-inner n d {q} {e} r k vs held′ s c tagged h =
+          let v : Value = built r k vs in
+          let (inner, a, h′) = turn-made p held n q 0 v empty held held′ h tagged in
+          let (l, cover) = made-inner v s tagged (made-from p t classes q v inner c a) in
+          let g = match-each n held held′ (each-join cover (done e)) h′ in
+          subst (λ us. Each p (May p t classes) (replicate (arity p (num p q)) (d - 1)) (q + 1) us e) (inner-is (num p q) r k vs inner a) (each-split [] empty cover (g .may) .0)
+
+      -- a value that matches is one whose letter the branch reads
+      match-fits : {q e : ℕ} (v : Value) (held′ : Bindings) → Spans p (pattern maxDepth ∷ []) q e → Covered p t classes v → match p held q v ≡ some held′ → Arguments-fit classes (argument-fits p t q) v
+      unfolding match argument-fits subpattern implies
+      match-fits (closure f kept′) held′ s c h = tt
+      match-fits {q} {e} (built r k vs) held′ s c h =
+          test (eqb (tag p q) 31)
+          (λ tagged.
+          let rows = spans-takes s in
+          let n : size p - q ≡ suc (size p - q - 1) = omega arith in
+          let each = match-inner (size p - q - 1) maxDepth r k vs held′ s c tagged (rw n at h) in
+          each-fits p t classes (argument-fits p t q) (arity p (num p q)) (maxDepth - 1) 0 each
+          (λ j l x u before may.
+          let z : 0 + j ≡ j = omega arith in
+          rw (z, tagged, argument-fits, spans-past before) (may-match-iff p t (maxDepth - 1) x (row-for classes u) .1 may)))
+          (λ e. all-fit classes (argument-fits p t q) (λ i u. rw (e, argument-fits)) 0 vs)
+      match-fits (address i) held′ s c h = tt
+
+      pub letter-read : tag p (size p) ≡ 0 → ((v : ℕ) → row-head p v < head-count p) → {q e : ℕ} (v : Value) (held′ : Bindings) → Spans p (pattern maxDepth ∷ []) q e → Covered p t classes v → match p held q v ≡ some held′ → List·Memᴰ (value-letter p v) (letters-read p t q (row-for classes v))
+      unfolding letters-read may-take
+      letter-read past-end low {q} v held′ s c h =
+          rw (may-match-iff p t maxDepth q (row-for classes v) .1 (match-may v held′ s c h), letters-read)
+          (letter-there p t fit w past-end low classes classed (argument-fits p t q) v c (match-fits v held′ s c h))

@@ -2,3 +2,5 @@
 pub mod States
 pub mod Letters
 pub mod Counters
+pub mod Choices
+pub mod Within

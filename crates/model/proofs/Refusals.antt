@@ -51,9 +51,9 @@ use Rattle.model.proofs.Exact.Entries.{ceiling-none, pair-iff, state-if
 use Rattle.model.proofs.Exact.Closed.{finds-first, lacks-iff, function-below, open-none}
 use Rattle.model.proofs.Exact.Finds.{Finds, found-iff, missing-iff}
 use Rattle.model.proofs.Bounded.Under.{under-some-exact}
-use Rattle.model.proofs.Numbering.Letters.{Keys}
+use Rattle.model.proofs.Numbering.Within.{within-iff}
 use Rattle.model.proofs.Bounded.Leak.{start-check-exact}
-use Rattle.model.proofs.Bounded.Exact.{message-keys, met-exact, met-refuses, leak-none, leak-refuses}
+use Rattle.model.proofs.Bounded.Exact.{met-exact, met-refuses, leak-none, leak-refuses}
 use Rattle.model.proofs.Demands.{safe-exactly}
 
 -- a reading refuses its first wrong row
@@ -161,11 +161,11 @@ module _ (most : Limits) (bytes : List ℕ) (short : Bytes bytes) (lent : ℕ) w
 
   counter-some : (v : Verdict) → (counter-check most s p t ≡ some v) ↔ ((counter-count p t ≤ most .counters → ⊥) × (Counters (tables-at s + 2) ≡ v))
   unfolding counter-check
-  counter-some v = unless-refutes _ _ v (leb-iff (counter-count p t) (most .counters))
+  counter-some v = unless-refutes _ _ v (within-iff p t (most .counters))
 
   counter-none : (counter-check most s p t ≡ none) ↔ (counter-count p t ≤ most .counters)
   unfolding counter-check
-  counter-none = unless-iff _ _ (leb-iff (counter-count p t) (most .counters))
+  counter-none = unless-iff _ _ (within-iff p t (most .counters))
 
   ceiling-some : (v : Verdict) → (ceiling-check (m .words) s (counter-count p t) ≡ some v) ↔ ((e : ℕ) × Wrong (ceiling-step (bs .counters)) (ceiling-entries (m .words) s) (ceilings-ahead (s .ceilings)) e × (Ceiling (ceilings-at s + 2 + e) ≡ v))
   unfolding ceiling-check message ceilings-of
@@ -175,9 +175,6 @@ module _ (most : Limits) (bytes : List ℕ) (short : Bytes bytes) (lent : ℕ) w
   unfolding start-check
   start-some v = unless-refutes _ _ v (under-some-exact bs (initial p t))
 
-  keys : Passed most bytes 12 → Keys p t
-  keys (start-passed (ceilings-passed (counters-passed (mailed-passed (closed-passed (entries-passed (bads-passed (scopes-passed (names-passed (rows-passed x fit) again bound) within) bads) flow mail states) closed) mailed) few) form) under) = message-keys bytes fit mail
-
   bads-known : Passed most bytes 12 → first-wrong (bad-step p) (m .bads) (replicate (s .bads) bad) ≡ none
   bads-known (start-passed (ceilings-passed (counters-passed (mailed-passed (closed-passed (entries-passed (bads-passed x bads) flow mail states) closed) mailed) few) form) under) = bads
 
@@ -186,9 +183,6 @@ module _ (most : Limits) (bytes : List ℕ) (short : Bytes bytes) (lent : ℕ) w
 
   met-some : Passed most bytes 12 → (v : Verdict) → (met-check s p t bs (m .bads) ≡ some v) ↔ ((j : ℕ) × First-such (s .bads) (Allowed m) j × (Met (bads-at s + 2 + bad-row p (m .bads) j) ≡ v))
   met-some x = met-refuses bytes short (bads-known x)
-
-  keys-met : Passed most bytes 13 → Keys p t
-  keys-met (bad-passed x n) = keys x
 
   space-some : (v : Verdict) → (space-check p t lent ≡ some v) ↔ ((length (system-words p t) ≤ lent → ⊥) × (Space (length (system-words p t)) ≡ v))
   unfolding space-check
@@ -318,8 +312,8 @@ module _ (most : Limits) (bytes : List ℕ) (short : Bytes bytes) (lent : ℕ) w
   leak-stage : Stage (leak-check (m .words) s bs (rules p t)) (Passed most bytes 13) (Passed most bytes 14)
   leak-stage =
       record {
-        refuses = λ x v h. let (k, f, q) = leak-refuses bytes short (keys-met x) v .0 h in told (ceiling-left k x f) q;
-        passes = λ x h. kept-passed x (leak-none bytes short (keys-met x) .0 h);
+        refuses = λ x v h. let (k, f, q) = leak-refuses bytes short v .0 h in told (ceiling-left k x f) q;
+        passes = λ x h. kept-passed x (leak-none bytes short .0 h);
       }
 
   space-stage : Stage (space-check p t lent) (Passed most bytes 14) (Unit {0})
@@ -370,7 +364,7 @@ module _ (most : Limits) (bytes : List ℕ) (short : Bytes bytes) (lent : ℕ) w
   others (ceilings-passed x fit) = others x ∙ skip _ (ceiling-none (m .words) s (bs .counters) .1 fit)
   others (start-passed x under) = others x ∙ skip _ (start-check-exact s p t bs .1 under)
   others (bad-passed x none-met) = others x ∙ skip _ (met-none x .1 none-met)
-  others (kept-passed x none-left) = others x ∙ skip _ (leak-none bytes short (keys-met x) .1 none-left)
+  others (kept-passed x none-left) = others x ∙ skip _ (leak-none bytes short .1 none-left)
 
   -- A line that holds is the answer.
   part-told : {v : Verdict} (k : ℕ) (part : Message-part) → Behind (Whole (m .words)) (parts most s) k part → Part-wrong (m .words) part v → check most bytes lent ≡ some v
@@ -401,7 +395,7 @@ module _ (most : Limits) (bytes : List ℕ) (short : Bytes bytes) (lent : ℕ) w
   said-refuses v (ceiling-wrong e x w) = others x ∙ stop _ (ceiling-some v .1 (e, w, refl))
   said-refuses v (start-outside x n) = others x ∙ stop _ (start-some v .1 (n, refl))
   said-refuses v (bad-met j x f) = others x ∙ stop _ (met-some x v .1 (j, f, refl))
-  said-refuses v (ceiling-left k x f) = others x ∙ stop _ (leak-refuses bytes short (keys-met x) v .1 (k, f, refl))
+  said-refuses v (ceiling-left k x f) = others x ∙ stop _ (leak-refuses bytes short v .1 (k, f, refl))
   said-refuses v (no-space x l) = others x ∙ space-some v .1 (λ z. omega arith, refl)
 
 answer-iff : (c : Check) (v : Verdict) → Refuses c → ((answer c ≡ v) × (v ≡ Safe → ⊥)) ↔ (c ≡ some v)

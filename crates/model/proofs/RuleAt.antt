@@ -1,28 +1,29 @@
 -- For each kind of step the rule that it follows is among the rules.
-use Prim.Native.Nat.{ℕ, _+_, _<_}
+use Prim.Native.Nat.{ℕ, _+_}
 use native.Mathlib.Omega.{arith}
-use mathlib.Core.Path.{_≡_, refl, subst}
-use mathlib.Core.Bool.{Bool, true, false, _&&_}
-use mathlib.Core.List.{List, [], _∷_, List·Memᴰ, List·Memᴰ·head, Memᴰ·append-left, Memᴰ·append-right, List·Memᴰ·cases-cons}
-use mathlib.Core.Logic.{⊎-elim}
+use mathlib.Core.Path.{_≡_, refl}
+use mathlib.Core.Bool.{Bool, true, false}
+use mathlib.Core.List.{List, [], map, List·Memᴰ, List·Memᴰ·head, Memᴰ·map}
 use lib.Dec.{eqb}
 use borrow.Author.Tests.{eq-eqb}
 use Rattle.model.specs.Index.{only}
+use Rattle.model.specs.Keys.{ascending}
 use Rattle.model.specs.Words.{Columns, left, right}
 use Rattle.model.specs.Rows.{Program, size, tag, num, kind}
 use Rattle.model.specs.Rows.{give, build, function, call, send, spawn, self, case, receive}
 use Rattle.model.specs.Scopes.{rest}
 use Rattle.model.specs.Heads.{call-at, branch-rows, branch-body, is-class, body, takes}
-use Rattle.model.specs.Letters.{letters, row-letter}
+use Rattle.model.specs.Letters.{Letter}
 use Rattle.model.specs.Tables.{Tables, State, onward, state-at, state-index, some-of}
 use Rattle.model.specs.Tables.{state as triple}
 use Rattle.model.specs.Closed.{may-take, entered, waits-for, resumed, begun}
-use Rattle.model.specs.Counters.{letter-index}
-use Rattle.model.specs.Rules.{Effect, quiet, reads, puts, starts, Rule, rule, from-each, from-all, from-letters, letter-of-some, state-rules, rules}
+use Rattle.model.specs.Counters.{letters-allowed, letter-index}
+use Rattle.model.specs.Rules.{Effect, quiet, reads, puts, starts, Rule, rule, from-each, letters-read, state-rules, rules}
 use Rattle.model.specs.Limits.{maxDepth}
 use Rattle.model.specs.Wanted.{Member, Listed-state, MayMatch, MayCall}
 use Rattle.model.proofs.Logic.{and-intro}
-use Rattle.model.proofs.Index.{gather-intro, only-intro}
+use Rattle.model.proofs.Index.{gather-intro, only-intro, from-all-intro}
+use Rattle.model.proofs.Keys.{ascending-has}
 use Rattle.model.proofs.Exact.Members.{some-of-iff}
 use Rattle.model.proofs.Exact.MayMatch.{may-match-iff}
 use Rattle.model.proofs.Numbering.States.{listed-has, index-below, state-at-index}
@@ -30,36 +31,17 @@ use Rattle.model.proofs.Heads.{head-give, head-build, head-function, he
 
 -- what stands in the lists that rules are gathered from
 
-from-each-intro : {A : Type 0} (c : Columns) (a b : ℕ) (f : ℕ → List A) (x : A) → Member c a b → List·Memᴰ x (f b) → List·Memᴰ x (from-each c a f)
+pub from-each-intro : {A : Type 0} (c : Columns) (a b : ℕ) (f : ℕ → List A) (x : A) → Member c a b → List·Memᴰ x (f b) → List·Memᴰ x (from-each c a f)
 unfolding from-each
 from-each-intro c a b f x m h =
     gather-intro 0 (c .size) (m .at) (λ i. elim (eqb (left c i) a) [ true ↦ f (right c i) | false ↦ [] ]) x (omega arith) (m .below)
     (rw (eq-eqb (left c (m .at)) a (m .first)) (rw (m .second) h))
 
-from-all-intro : {A B : Type 0} (bs : List B) (b : B) (f : B → List A) (x : A) → List·Memᴰ b bs → List·Memᴰ x (f b) → List·Memᴰ x (from-all bs f)
-unfolding from-all
-from-all-intro [] b f x m h = elim m [ ]
-from-all-intro (y ∷ bs) b f x m h =
-    ⊎-elim (λ e. Memᴰ·append-left (from-all bs f) (subst (λ z. List·Memᴰ x (f z)) e h))
-    (λ n. Memᴰ·append-right (f y) (from-all-intro bs b f x n h)) (List·Memᴰ·cases-cons m)
-
-from-letters-intro : {A : Type 0} (p : Program) (test : ℕ → Bool) (f : ℕ → A) (l : ℕ) → l < letters p → test l ≡ true → List·Memᴰ (f l) (from-letters p test f)
-unfolding from-letters
-from-letters-intro p test f l h t =
-    gather-intro 0 (letters p) l (λ k. only (test k) (f k)) (f l) (omega arith) h (only-intro (test l) (f l) t)
-
 some-of-intro : (c : Columns) (a b : ℕ) (f : ℕ → Bool) → Member c a b → f b ≡ true → some-of c a f ≡ true
 some-of-intro c a b f m h = some-of-iff c a f (λ x. (λ e. e, λ e. e)) .1 (b, m, h)
 
--- a value that the list has gives its letter
-letter-some : (p : Program) (c : Columns) (a v : ℕ) (test : ℕ → Bool) → Member c a v → test v ≡ true → letter-of-some p c a test (row-letter p v) ≡ true
-unfolding letter-of-some
-letter-some p c a v test m h =
-    some-of-intro c a v (λ w. eqb (row-letter p w) (row-letter p v) && test w) m
-    (and-intro (eqb (row-letter p v) (row-letter p v)) (test v) (eq-eqb (row-letter p v) (row-letter p v) refl) h)
-
 module _ (p : Program) (t : Tables) where
-  takes-it : (q v : ℕ) → MayMatch p t maxDepth q v → may-take p t q v ≡ true
+  pub takes-it : (q v : ℕ) → MayMatch p t maxDepth q v → may-take p t q v ≡ true
   unfolding may-take
   takes-it q v may = may-match-iff p t maxDepth q v .1 may
 
@@ -127,15 +109,15 @@ module _ (p : Program) (t : Tables) where
         (rw (head-spawn p r k, state-rules)
         (from-each-intro (t .flow) (num p (r + 1)) f (λ g. only (takes p g 0) (ρ g)) (ρ f) may (only-intro (takes p f 0) (ρ f) none-taken)))
 
-    pub rule-send : (d v : ℕ) → kind (tag p (s .location)) ≡ send → Member (t .flow) (num p (s .location + 1)) d → is-class p d ≡ true → Member (t .flow) (num p (s .location + 2)) v → row-letter p v < letters p → List·Memᴰ (moving s (onward s (rest p (s .location))) (puts (letter-index p t d (row-letter p v)))) (rules p t)
+    pub rule-send : (d v : ℕ) (l : Letter) → kind (tag p (s .location)) ≡ send → Member (t .flow) (num p (s .location + 1)) d → is-class p d ≡ true → Member (t .flow) (num p (s .location + 2)) v → List·Memᴰ l (letters-allowed p t v) → List·Memᴰ (moving s (onward s (rest p (s .location))) (puts (letter-index p t d l))) (rules p t)
     unfolding state-rules
-    rule-send d v k target class message small =
-        let ρ : ℕ → ℕ → Rule = λ e l. on (rest p r) (puts (letter-index p t e l)) in
-        let some-letter : ℕ → Bool = letter-of-some p (t .flow) (num p (r + 2)) (λ w. true) in
-        in-rules s (ρ d (row-letter p v)) m
+    rule-send d v l k target class message allowed =
+        let ρ : ℕ → Letter → Rule = λ e x. on (rest p r) (puts (letter-index p t e x)) in
+        let ls : List Letter = ascending (from-each (t .flow) (num p (r + 2)) (letters-allowed p t)) in
+        in-rules s (ρ d l) m
         (rw (head-send p r k, state-rules)
-        (from-each-intro (t .flow) (num p (r + 1)) d (λ e. elim (is-class p e) [ true ↦ from-letters p some-letter (ρ e) | false ↦ [] ]) (ρ d (row-letter p v)) target
-        (rw class (from-letters-intro p some-letter (ρ d) (row-letter p v) small (letter-some p (t .flow) (num p (r + 2)) v (λ w. true) message refl)))))
+        (from-each-intro (t .flow) (num p (r + 1)) d (λ e. elim (is-class p e) [ true ↦ map (ρ e) ls | false ↦ [] ]) (ρ d l) target
+        (rw class (Memᴰ·map (ρ d) (ascending-has l _ (from-each-intro (t .flow) (num p (r + 2)) v (letters-allowed p t) l message allowed))))))
 
     pub rule-case : (q v : ℕ) → kind (tag p (s .location)) ≡ case → List·Memᴰ q (branch-rows p (num p (s .location + 1)) (s .location + 2)) → Member (t .flow) (num p (s .location)) v → MayMatch p t maxDepth q v → List·Memᴰ (moving s (onward s (branch-body p q)) quiet) (rules p t)
     unfolding state-rules
@@ -146,12 +128,12 @@ module _ (p : Program) (t : Tables) where
         (from-all-intro (branch-rows p (num p (r + 1)) (r + 2)) q (λ b. only (some-of (t .flow) (num p r) (may-take p t b)) (ρ b)) (ρ q) branch
         (only-intro (some-of (t .flow) (num p r) (may-take p t q)) (ρ q) (some-of-intro (t .flow) (num p r) v (may-take p t q) value (takes-it q v may)))))
 
-    pub rule-receive : (q v : ℕ) → kind (tag p (s .location)) ≡ receive → List·Memᴰ q (branch-rows p (num p (s .location)) (s .location + 1)) → Member (t .mail) (s .class) v → MayMatch p t maxDepth q v → row-letter p v < letters p → List·Memᴰ (moving s (onward s (branch-body p q)) (reads (letter-index p t (s .class) (row-letter p v)))) (rules p t)
+    pub rule-receive : (q v : ℕ) (l : Letter) → kind (tag p (s .location)) ≡ receive → List·Memᴰ q (branch-rows p (num p (s .location)) (s .location + 1)) → Member (t .mail) (s .class) v → List·Memᴰ l (letters-read p t q v) → List·Memᴰ (moving s (onward s (branch-body p q)) (reads (letter-index p t (s .class) l))) (rules p t)
     unfolding state-rules
-    rule-receive q v k branch value may small =
+    rule-receive q v l k branch value read =
         let c : ℕ = s .class in
-        let ρ : ℕ → ℕ → Rule = λ b l. on (branch-body p b) (reads (letter-index p t c l)) in
-        in-rules s (ρ q (row-letter p v)) m
+        let ρ : ℕ → Letter → Rule = λ b x. on (branch-body p b) (reads (letter-index p t c x)) in
+        in-rules s (ρ q l) m
         (rw (head-receive p r k, state-rules)
-        (from-all-intro (branch-rows p (num p r) (r + 1)) q (λ b. from-letters p (letter-of-some p (t .mail) c (may-take p t b)) (ρ b)) (ρ q (row-letter p v)) branch
-        (from-letters-intro p (letter-of-some p (t .mail) c (may-take p t q)) (ρ q) (row-letter p v) small (letter-some p (t .mail) c v (may-take p t q) value (takes-it q v may)))))
+        (from-all-intro (branch-rows p (num p r) (r + 1)) q (λ b. map (ρ b) (ascending (from-each (t .mail) c (letters-read p t b)))) (ρ q l) branch
+        (Memᴰ·map (ρ q) (ascending-has l _ (from-each-intro (t .mail) c v (letters-read p t q) l value read)))))

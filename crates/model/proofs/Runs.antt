@@ -10,7 +10,7 @@ use Rattle.model.specs.Rows.{Program, size, tag}
 use lib.Dec.{eqb}
 use borrow.Author.Tests.{eq-eqb}
 use Rattle.model.specs.Heads.{start, is-class}
-use Rattle.model.specs.Letters.{letters, row-letter, return-of}
+use Rattle.model.specs.Letters.{head-count, row-head, return-of}
 use Rattle.model.specs.Values.{Processes}
 use Rattle.model.specs.Run.{step-of, starting, next, run-from, run}
 use Rattle.model.specs.Tables.{Tables}
@@ -65,7 +65,7 @@ unfolding used
 used-more none os = refl
 used-more (some ρ) os = refl
 
-module _ (m : Message) (fit : Rows-fit (m .program)) (w : Columns-whole (m .program)) (past-end : tag (m .program) (size (m .program)) ≡ 0) (low : (v : ℕ) → row-letter (m .program) v < letters (m .program)) (closed : Closed (m .program) (m .tables)) (inductive : Inductive m) where
+module _ (m : Message) (fit : Rows-fit (m .program)) (w : Columns-whole (m .program)) (past-end : tag (m .program) (size (m .program)) ≡ 0) (low : (v : ℕ) → row-head (m .program) v < head-count (m .program)) (closed : Closed (m .program) (m .tables)) (inductive : Inductive m) where
   abbrev p : Program
   p = m .program
 

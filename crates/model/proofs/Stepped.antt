@@ -9,19 +9,19 @@ use lib.ListN.{length, getD, getElem?, set, length-map}
 use Rattle.model.specs.Rows.{Program, size, tag, kind}
 use Rattle.model.specs.Scopes.{rest}
 use Rattle.model.specs.Heads.{body}
-use Rattle.model.specs.Letters.{letters, row-letter, value-letter, return-of, state-in}
+use Rattle.model.specs.Letters.{head-count, row-head, value-letter, return-of, state-in}
 use Rattle.model.specs.Values.{Value, Process, process, Processes}
 use Rattle.model.specs.Run.{moved, spawned, act, step-of}
 use Rattle.model.specs.Tables.{Tables, State, onward}
 use Rattle.model.specs.Tables.{state as triple}
-use Rattle.model.specs.Counters.{letter-key, has-letter}
+use Rattle.model.specs.Counters.{letters-allowed, has-letter}
 use Rattle.model.specs.Rules.{rules}
 use Rattle.model.specs.Wanted.{Member, Listed-state, Closed}
 use Rattle.model.proofs.Reader.{by-option}
 use Rattle.model.proofs.Heads.{by-kind}
 use Rattle.model.proofs.Acts.{act-other}
 use Rattle.model.proofs.Covering.{row-for}
-use Rattle.model.proofs.Numbering.Letters.{member-letter}
+use Rattle.model.proofs.Numbering.Letters.{key-of, key-has}
 use Rattle.model.proofs.Counting.Deliveries.{Delivery, deliver-some}
 use Rattle.model.proofs.Follow.Changes.{Change, no-change, read-one, put-one, start-one, Moves, Known, rule-of}
 use Rattle.model.proofs.Follow.Steps.{moves-on, receives-one, sends-one, starts-one}
@@ -76,7 +76,7 @@ sized : (qs : Processes) → length qs ≡ length (classes-of qs)
 unfolding classes-of
 sized qs = sym (length-map qs (λ q. q .class))
 
-module _ (p : Program) (t : Tables) (fit : Rows-fit p) (w : Columns-whole p) (past-end : tag p (size p) ≡ 0) (low : (v : ℕ) → row-letter p v < letters p) (closed : Closed p t) (qs : Processes) (good : All-good p t (classes-of qs) qs) (i : ℕ) (q : Process) (there : getElem? qs i ≡ some q) (qs′ : Processes) where
+module _ (p : Program) (t : Tables) (fit : Rows-fit p) (w : Columns-whole p) (past-end : tag p (size p) ≡ 0) (low : (v : ℕ) → row-head p v < head-count p) (closed : Closed p t) (qs : Processes) (good : All-good p t (classes-of qs) qs) (i : ℕ) (q : Process) (there : getElem? qs i ≡ some q) (qs′ : Processes) where
   abbrev classes : List ℕ
   classes = classes-of qs
 
@@ -88,9 +88,8 @@ module _ (p : Program) (t : Tables) (fit : Rows-fit p) (w : Columns-whole p) (pa
   q-good = good-at p t classes qs i q good there
 
   -- a covered value that mail has, has a letter counter
-  letter-known : (c : ℕ) (v : Value) → Member (t .mail) c (row-for classes v) → row-letter p (row-for classes v) ≡ value-letter p v → (value-letter p v < letters p) × (has-letter p t (letter-key p c (value-letter p v)) ≡ true)
-  letter-known c v m e =
-      subst (λ (l : ℕ). (l < letters p) × (has-letter p t (letter-key p c l) ≡ true)) e (low (row-for classes v), member-letter p t c (row-for classes v) m)
+  letter-known : (c : ℕ) (v : Value) → Member (t .mail) c (row-for classes v) → List·Memᴰ (value-letter p v) (letters-allowed p t (row-for classes v)) → has-letter p t c (value-letter p v) ≡ true
+  letter-known c v m a = key-has p t c (value-letter p v) (key-of p t c (row-for classes v) (value-letter p v) m a)
 
   quietly : Quietly p t classes qs i q qs′ → Stepped p t qs qs′
   quietly x =
@@ -112,7 +111,7 @@ module _ (p : Program) (t : Tables) (fit : Rows-fit p) (w : Columns-whole p) (pa
   receiving x =
       let q′ : Process = process (q .class) (x .to) (x .held) (q .frames) (x .received .mailbox) in
       let v : Value = x .taken .message in
-      let (mailed, same) = x .mailed in
+      let (mailed, allowed) = x .mailed in
       subst (Stepped p t qs) (sym (x .result))
       (record {
         from = state-in p q;
@@ -122,7 +121,7 @@ module _ (p : Program) (t : Tables) (fit : Rows-fit p) (w : Columns-whole p) (pa
         moves = receives-one p qs i q q′ there refl (x .branches) (x .received) (x .taken) refl;
         from-there = q-good .present;
         to-there = x .good .present;
-        known = letter-known (q .class) v mailed same;
+        known = letter-known (q .class) v mailed allowed;
         good = set-good q′ refl (x .good);
       })
 
@@ -165,7 +164,7 @@ module _ (p : Program) (t : Tables) (fit : Rows-fit p) (w : Columns-whole p) (pa
         moves = moves;
         from-there = q-good .present;
         to-there = x .good .present;
-        known = subst (λ (c : ℕ). Known p t (put-one c (value-letter p v))) same-class (letter-known (getD classes (x .target) 0) v (x .mailed) (x .same));
+        known = subst (λ (c : ℕ). Known p t (put-one c (value-letter p v))) same-class (letter-known (getD classes (x .target) 0) v (x .mailed) (x .allowed));
         good = delivered-good x (deliver-some (set qs i q′) (x .target) v qs′ (x .result));
       }
 
@@ -210,7 +209,7 @@ module _ (p : Program) (t : Tables) (fit : Rows-fit p) (w : Columns-whole p) (pa
       (λ k. absurd (Option·none-ne-some qs′ (sym (act-other p qs i q k) ∙ h)))
 
 -- "For each number in turn that process steps"
-pub step-stepped : (p : Program) (t : Tables) → Rows-fit p → Columns-whole p → tag p (size p) ≡ 0 → ((v : ℕ) → row-letter p v < letters p) → Closed p t → (qs : Processes) → All-good p t (classes-of qs) qs → (i : ℕ) (qs′ : Processes) → step-of p qs i ≡ some qs′ → Stepped p t qs qs′
+pub step-stepped : (p : Program) (t : Tables) → Rows-fit p → Columns-whole p → tag p (size p) ≡ 0 → ((v : ℕ) → row-head p v < head-count p) → Closed p t → (qs : Processes) → All-good p t (classes-of qs) qs → (i : ℕ) (qs′ : Processes) → step-of p qs i ≡ some qs′ → Stepped p t qs qs′
 unfolding step-of
 step-stepped p t fit w past-end low closed qs good i qs′ h =
     by-option (getElem? qs i) (λ e. absurd (Option·none-ne-some qs′ (rw (e, step-of) at h)))

@@ -1,32 +1,33 @@
--- The counts per class and place are the sums of those per triple (specs/Sums.antt), and no run of a safe message meets a bad.
+-- The counts per class and place are the sums of those per triple, those per class and constructor the sums of those per letter (specs/Sums.antt),
+-- and no run of a safe message meets a bad.
 use Prim.Native.Nat.{ℕ, _+_, _≤_, _<_}
 use native.Mathlib.Omega.{arith}
 use mathlib.Core.Path.{_≡_, refl, sym, _∙_, ap, subst}
 use mathlib.Core.Bool.{Bool, true, false, _&&_}
 use mathlib.Core.Logic.{_↔_, ⊎-elim}
 use mathlib.Core.List.{List, [], _∷_}
-use mathlib.Core.Option.{Option, some, none}
+use mathlib.Core.Option.{some}
 use lib.ListN.{length, getD}
 use lib.Seq.{take-length}
 use lib.Dec.{ltb, eqb}
-use borrow.Author.Tests.{eqb-true, eq-eqb, ne-eqb}
+use borrow.Author.Tests.{eqb-true, eq-eqb}
 use Rattle.model.specs.Limits.{Limits}
 use Rattle.model.specs.Index.{total}
 use Rattle.model.specs.Words.{words}
 use Rattle.model.specs.Message.{sizes}
-use Rattle.model.specs.Rows.{Program, size, tag}
+use Rattle.model.specs.Rows.{Program, size, tag, num}
 use Rattle.model.specs.Values.{Processes}
 use Rattle.model.specs.Run.{run}
 use Rattle.model.specs.Tables.{Tables, State, state, state-at, same-state, state-index}
-use Rattle.model.specs.Letters.{letters, row-letter, one-if, return-of, state-in, processes-at, messages-of}
-use Rattle.model.specs.Bads.{Subject, at-head, of-letter}
+use Rattle.model.specs.Letters.{head-count, row-head, Letter, one-if, return-of, state-in, processes-at, messages-of}
+use Rattle.model.specs.Bads.{letter-arity, Subject, at-head, of-letters, of-letter}
 use Rattle.model.specs.Counters.{counter-count, Counted, state-of, letter-of, counter-of, stands-in, is-counter, counts}
-use Rattle.model.specs.Markings.{Marking, standing, count-in, sum-in}
+use Rattle.model.specs.Markings.{Marking, count-in, sum-in}
 use Rattle.model.specs.Wanted.{Listed-state}
 use Rattle.model.specs.Met.{All-met}
 use Rattle.model.specs.Verify.{Message, message}
 use Rattle.model.specs.Demands.{States-listed, Equal-counts, Sound}
-use Rattle.model.specs.Sums.{processes-in, counted-in, over-returns, Sums, Counts-are-sums, No-run-meets-a-bad}
+use Rattle.model.specs.Sums.{processes-in, counted-in, over-returns, over-letters, Sums, Counts-are-sums, No-run-meets-a-bad}
 use Rattle.model.proofs.Logic.{test, true-false}
 use Rattle.model.proofs.Reader.{by-option}
 use Rattle.model.proofs.Index.{total-same, total-none, total-plus, total-swap, total-one}
@@ -34,7 +35,9 @@ use Rattle.model.proofs.Rows.{tag-inside}
 use Rattle.model.proofs.Exact.Tests.{ltb-iff, eqb-iff, and-iff}
 use Rattle.model.proofs.Exact.Members.{same-state-iff}
 use Rattle.model.proofs.Numbering.States.{Ascending, index-below, state-at-index, index-state-at, listed-has}
-use Rattle.model.proofs.Numbering.Counters.{state-counter, state-numbered, numbered, Numbered, counter-below, row-letter-low}
+use Rattle.model.proofs.Numbering.Counters.{state-counter, state-numbered, counter-below, row-head-low}
+use Rattle.model.proofs.LetterSums.{heads-same, Mails-proper, messages-sum, where-passes, standing-sum, letters-sum, good-proper}
+use Rattle.model.proofs.Stepped.{classed}
 use Rattle.model.proofs.Invariant.{classes-of, All-good}
 use Rattle.model.proofs.Bounded.Exact.{message-built}
 use Rattle.model.proofs.Runs.{run-good, all-runs-followed}
@@ -77,18 +80,6 @@ station-sum p (q ∷ qs) low c r =
     omega arith
 
 -- The counters: each counter of a state belongs to one third number
-
--- what a counter gives where a test passes
-abbrev where-passes : Bool → ℕ → ℕ
-where-passes passes n = elim passes [ true ↦ n | false ↦ 0 ]
-
--- the counter alone, of all there are
-standing-sum : (n : ℕ) (m : Marking) (o : Option ℕ) → ((y : ℕ) → o ≡ some y → y < n) → total 0 n (λ x. where-passes (is-counter o x) (m x)) ≡ standing m o
-unfolding is-counter standing
-standing-sum n m none below = total-none 0 n (λ x. 0) (λ x lo hi. refl)
-standing-sum n m (some y) below =
-    let f : ℕ → ℕ = λ x. where-passes (eqb x y) (m x) in
-    total-one 0 n y f (omega arith) (below y refl) (λ x z. rw (ne-eqb x y z)) ∙ (rw (eq-eqb y y refl))
 
 module _ (p : Program) (t : Tables) (ascending : Ascending t) (low : (i : ℕ) → i < t .states .size → state-at t i .return ≤ size p) (m : Marking) where
   abbrev n : ℕ
@@ -146,17 +137,19 @@ module _ (p : Program) (t : Tables) (ascending : Ascending t) (low : (i : ℕ) �
         (total-swap 0 n 0 (size p + 1) (λ x b. where-passes (is-counter (counter-of p t (state-of (state c r b))) x) (m x)) ∙
         total-same 0 (size p + 1) _ _ (λ b lo hi. standing-sum n m (counter-of p t (state-of (state c r b))) (below (state-of (state c r b)))))
 
-    letter-sum : (c l : ℕ) → sum-in p t m (of-letter c l) ≡ count-in p t m (letter-of c l)
+    letter-sum : (c : ℕ) (l : Letter) → sum-in p t m (of-letter c l) ≡ count-in p t m (letter-of c l)
     unfolding sum-in count-in counts
     letter-sum c l = standing-sum n m (counter-of p t (letter-of c l)) (below (letter-of c l))
 
     -- what an item counts in the counters is what it counts in the station, where the counts are equal
-    items-alike : (qs : Processes) → Returns-low p qs → ((s : State) → processes-at p qs s ≡ count-in p t m (state-of s)) → ((c l : ℕ) → messages-of p qs c l ≡ count-in p t m (letter-of c l)) → (k : Subject) → counted-in p qs k ≡ sum-in p t m k
-    unfolding counted-in over-returns
-    items-alike qs lows processes messages (at-head c r) =
+    items-alike : ((v : ℕ) → tag p v ≡ 2 → num p (v + 1) < p .constructors) → (qs : Processes) → Returns-low p qs → Mails-proper p qs → ((s : State) → processes-at p qs s ≡ count-in p t m (state-of s)) → ((c : ℕ) (l : Letter) → messages-of p qs c l ≡ count-in p t m (letter-of c l)) → (k : Subject) → counted-in p qs k ≡ sum-in p t m k
+    unfolding counted-in over-returns over-letters
+    items-alike made qs lows proper processes messages (at-head c r) =
         station-sum p qs lows c r ∙
         (total-same 0 (size p + 1) _ _ (λ b lo hi. processes (state c r b)) ∙ sym (counters-sum c r))
-    items-alike qs lows processes messages (of-letter c l) = messages c l ∙ sym (letter-sum c l)
+    items-alike made qs lows proper processes messages (of-letters c k) =
+        messages-sum p qs proper c k ∙ (heads-same p (letter-arity p k) _ _ (λ hs. messages c (k ∷ hs)) ∙ sym (letters-sum p t made m below c k))
+    items-alike made qs lows proper processes messages (of-letter c l) = messages c l ∙ sym (letter-sum c l)
 
 -- a state of tables in form returns to a row or to R
 listed-low : (p : Program) (t : Tables) → ((r : ℕ) → tag p r ≡ 4 → r < size p) → States-listed p t → (s : State) → Listed-state t s → s .return ≤ size p
@@ -188,27 +181,31 @@ module _ (most : Limits) (bytes : List ℕ) (lent : ℕ) (sound : Sound most byt
   low : (s : State) → Listed-state t s → s .return ≤ size p
   low = listed-low p t (λ r e. inside 4 r (omega arith) e) (sound .form .states)
 
-  in-order : Numbered p t
-  in-order = numbered p t (λ r e. inside 6 r (omega arith) e) (message-built bytes (sound .program .rows-fit)) (sound .form .mail) (sound .form .states)
+  made : (v : ℕ) → tag p v ≡ 2 → num p (v + 1) < p .constructors
+  made = message-built bytes (sound .program .rows-fit)
 
-  letters-low : (v : ℕ) → row-letter p v < letters p
-  letters-low = row-letter-low p (message-built bytes (sound .program .rows-fit))
+  heads-low : (v : ℕ) → row-head p v < head-count p
+  heads-low = row-head-low p made
 
   pub sums : (numbers : List ℕ) (counts : Marking) → Equal-counts m (run p numbers) counts → Sums m (run p numbers) counts
   sums numbers counts equal =
       let qs : Processes = run p numbers in
-      let good = run-good m (sound .program .rows-fit) (rows-whole bytes (sound .whole)) (past-the-end bytes) letters-low (sound .closed) (sound .bounded) numbers in
+      let good = run-good m (sound .program .rows-fit) (rows-whole bytes (sound .whole)) (past-the-end bytes) heads-low (sound .closed) (sound .bounded) numbers in
       let lows = good-low p t (classes-of qs) low qs good in
+      let proper = good-proper p t (sound .program .rows-fit) (rows-whole bytes (sound .whole)) (past-the-end bytes) made heads-low (classes-of qs) (classed p t (classes-of qs) qs good) qs good in
+      let ascending = sound .form .states .ascending in
       let returns : (i : ℕ) → i < t .states .size → state-at t i .return ≤ size p = λ i b. low (state-at t i) (record { at = i; below = b; here = refl }) in
       record {
         in-station = station-sum p qs lows;
-        in-counters = counters-sum p t (in-order .ascending) returns counts (counter-below p t in-order);
-        alike = items-alike p t (in-order .ascending) returns counts (counter-below p t in-order) qs lows (equal .processes) (equal .messages);
+        in-counters = counters-sum p t ascending returns counts (counter-below p t);
+        letters-in-station = messages-sum p qs proper;
+        letters-in-counters = letters-sum p t made counts (counter-below p t);
+        alike = items-alike p t ascending returns counts (counter-below p t) made qs lows proper (equal .processes) (equal .messages);
       }
 
   pub never-met : (numbers : List ℕ) (j : ℕ) → j < m .sizes .bads → All-met (counted-in p (run p numbers)) (m .bads) j → ⊥
   never-met numbers j b met =
-      let runs = all-runs-followed m (sound .program .rows-fit) (rows-whole bytes (sound .whole)) (past-the-end bytes) letters-low (sound .closed) (sound .bounded) in
+      let runs = all-runs-followed m (sound .program .rows-fit) (rows-whole bytes (sound .whole)) (past-the-end bytes) heads-low (sound .closed) (sound .bounded) in
       let together = runs .followed numbers .throughout (length numbers) (omega arith) in
       let equal = subst (λ (is : List ℕ). Equal-counts m (run p is) (together .counts)) (take-length numbers) (together .equal) in
       let alike = sums numbers (together .counts) equal .alike in

@@ -5,7 +5,7 @@ use Prim.Native.Nat.{ℕ, _+_, _/_, _%_}
 use mathlib.Core.List.{List, [], _∷_, _++_, map}
 use lib.ListN.{length, take, set, replicate}
 use Rattle.model.specs.Limits.{Limits, present}
-use Rattle.model.specs.Rules.{from-all}
+use Rattle.model.specs.Index.{from-all}
 use Rattle.model.specs.Verdict.{number, place}
 use Rattle.model.specs.Verify.{verdict-within, lent-after-within, part-handed-within}
 

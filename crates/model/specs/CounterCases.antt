@@ -7,12 +7,11 @@ use mathlib.Core.List.{List, [], _∷_, _++_, map}
 use lib.ListN.{drop}
 use Rattle.model.specs.declared.Sizes.{Sizes}
 use Rattle.model.specs.Limits.{former, present}
-use Rattle.model.specs.Index.{gather}
+use Rattle.model.specs.Index.{gather, from-all}
 use Rattle.model.specs.Verdict.{number, place}
 use Rattle.model.specs.Rows.{Program}
 use Rattle.model.specs.Tables.{Tables}
 use Rattle.model.specs.Counters.{counter-check}
-use Rattle.model.specs.Rules.{from-all}
 use Rattle.model.specs.Verify.{verdict-within, answer}
 use Rattle.model.specs.Cases.{Pairs, program-words, bad-words, table-words, ceiling-words, to-bytes, returning}
 use Rattle.model.specs.VerdictCases.{Verdict-case, at}

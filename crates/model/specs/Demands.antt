@@ -21,7 +21,7 @@ use Rattle.model.specs.Scopes.{binds, uses, binds-name, in-scope}
 use Rattle.model.specs.Heads.{is-class}
 use Rattle.model.specs.Values.{Processes}
 use Rattle.model.specs.Run.{step-of, run}
-use Rattle.model.specs.Letters.{processes-at, messages-of}
+use Rattle.model.specs.Letters.{Letter, processes-at, messages-of}
 use Rattle.model.specs.Bads.{bad-step, bad}
 use Rattle.model.specs.Tables.{Tables, is-value, State}
 use Rattle.model.specs.Wanted.{Closed}
@@ -190,7 +190,8 @@ used (some ρ ∷ os) = ρ ∷ used os
 -- mailboxes"; document 02, (iv): "Station and counters share counts per triple", class, place and the call returned to
 pub record Equal-counts (m : Message) (qs : Processes) (counts : Marking) : Type 0 where
   pub processes : (s : State) → processes-at (m .program) qs s ≡ count-in (m .program) (m .tables) counts (state-of s)
-  pub messages : (c l : ℕ) → messages-of (m .program) qs c l ≡ count-in (m .program) (m .tables) counts (letter-of c l)
+  pub messages : (c : ℕ) (l : Letter) →
+      messages-of (m .program) qs c l ≡ count-in (m .program) (m .tables) counts (letter-of c l)
 
 -- after some numbers of a list: the rules used so far are a run, and its counts are those of the station, under one
 -- ceiling, meeting no bad

@@ -13,9 +13,10 @@ use Rattle.model.specs.Scopes.{binds, in-scope}
 use Rattle.model.specs.Heads.{head-at, cases, receives, branch-body}
 use Rattle.model.specs.Values.{Value, closure, built, Bindings, bind, equal, Process}
 use Rattle.model.specs.Run.{run}
-use Rattle.model.specs.Letters.{row-letter, value-letter, state-in}
+use Rattle.model.specs.Letters.{value-letter, state-in}
 use Rattle.model.specs.Patterns.{Holds, Match}
 use Rattle.model.specs.Tables.{Tables}
+use Rattle.model.specs.Rules.{letters-read}
 use Rattle.model.specs.Wanted.{MayTake}
 use Rattle.model.specs.Verify.{message, verdict-within}
 use Rattle.model.specs.Demands.{Bytes}
@@ -40,10 +41,10 @@ pub record Equality-laws : Type 0 where
   -- and any other is equal to itself
   pub itself : (v : Value) → (equal v v ≡ true) ↔ (Holds-function v → ⊥)
 
--- a value of the tables for the value of the run: the branch at row b may take it in the process's state, and the
--- letters are equal
+-- a value of the tables for the value of the run: the branch at row b may take it in the process's state, and reads the
+-- letter of the value of the run
 abbrev pub May-take : Program → Tables → Process → ℕ → Value → Type 0
-May-take p t q b v = (u : ℕ) × MayTake p t (state-in p q) b u × (row-letter p u ≡ value-letter p v)
+May-take p t q b v = (u : ℕ) × MayTake p t (state-in p q) b u × List·Memᴰ (value-letter p v) (letters-read p t b u)
 
 -- What matches in a run may match in the tables: of each process of a run, each branch, at a case or a receive.
 pub record Matches-may (p : Program) (t : Tables) (q : Process) : Type 0 where

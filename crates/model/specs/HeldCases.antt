@@ -1,27 +1,26 @@
 -- Document 02, (iii): cases of a held name in a pattern, worked out by hand from the papers: verdicts, and where
 -- runs get to.
 use Prim.Native.Nat.{ℕ, _*_}
-use mathlib.Core.List.{List, [], _∷_, _++_, map}
+use mathlib.Core.List.{List, [], _∷_, _++_}
 use lib.ListN.{length, replicate}
-use Rattle.model.specs.Index.{gather}
+use Rattle.model.specs.Index.{gather, from-all}
 use Rattle.model.specs.Message.{sizes}
 use Rattle.model.specs.Rows.{Program, program}
 use Rattle.model.specs.Values.{Process}
 use Rattle.model.specs.Letters.{value-letter}
 use Rattle.model.specs.Run.{run}
-use Rattle.model.specs.Rules.{from-all}
 use Rattle.model.specs.Cases.{Pairs, Triples, program-words, bad-words, table-words, ceiling-words, to-bytes}
 use Rattle.model.specs.Cases.{Case, returning, refused, safe, a-listing}
 
--- A run, and its processes then: of each its class, its place, and the letters in its mailbox with their count
--- before them
+-- A run, and its processes then: of each its class, its place, and the letters in its mailbox, each with its heads,
+-- with their count before them
 pub record Arrival : Type 0 where
   pub program : List ℕ
   pub numbers : List ℕ
   pub expected : List ℕ
 
 unfoldable pub process-words : Program → Process → List ℕ
-process-words p q = q .class ∷ q .location ∷ length (q .mailbox) ∷ map (value-letter p) (q .mailbox)
+process-words p q = q .class ∷ q .location ∷ length (q .mailbox) ∷ from-all (q .mailbox) (value-letter p)
 
 unfoldable pub reached : Arrival → List ℕ
 reached k =
@@ -351,11 +350,11 @@ held-runs =
     -- the own address is the one held
     steps (sent (33, 0)) 4 (12 ∷ 11 ∷ 0 ∷ []) ∷
     -- and no built value: the message stays, and the process waits
-    steps (sent (33, 1)) 4 (12 ∷ 8 ∷ 1 ∷ 0 ∷ []) ∷
+    steps (sent (33, 1)) 4 (12 ∷ 8 ∷ 1 ∷ 0 ∷ 2 ∷ []) ∷
     steps (four-deep (33, 0)) 5 (18 ∷ 17 ∷ 0 ∷ []) ∷
     steps (four-deep (33, 1)) 5 (18 ∷ 11 ∷ 0 ∷ []) ∷
     steps (deep-receive (33, 0)) 6 (20 ∷ 19 ∷ 0 ∷ []) ∷
-    steps (deep-receive (33, 1)) 6 (20 ∷ 14 ∷ 1 ∷ 0 ∷ []) ∷
+    steps (deep-receive (33, 1)) 6 (20 ∷ 14 ∷ 1 ∷ 0 ∷ 0 ∷ []) ∷
     -- a function is not equal to itself, nor is what holds one; one in the mailbox, of letter C, stays there
     steps function-sent 4 (10 ∷ 7 ∷ 1 ∷ 0 ∷ []) ∷
     steps global 1 (10 ∷ 9 ∷ 0 ∷ []) ∷

@@ -62,3 +62,8 @@ gather i e f = gatherIn (e - i) i f
 unfoldable pub only : {A : Type 0} → Bool → A → List A
 only true a = a ∷ []
 only false a = []
+
+-- what the elements of a list give, joined in order
+unfoldable pub from-all : {A B : Type 0} → List B → (B → List A) → List A
+from-all [] f = []
+from-all (b ∷ bs) f = f b ++ from-all bs f

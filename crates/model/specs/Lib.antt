@@ -43,3 +43,6 @@ pub mod MailedCases
 pub mod NoEmptyName
 pub mod NameCases
 pub mod ReturnCases
+pub mod LetterCases
+pub mod TwoDeep
+pub mod OneDeep

@@ -6,12 +6,13 @@ use lib.ListN.{length, getD, drop}
 use lib.Dec.{leb, eqb}
 use Rattle.model.specs.declared.Verdict.the-variants.{Space}
 use Rattle.model.specs.Tags.{tag-from, tag-to, tag-reads, tag-puts, tag-starts}
+use Rattle.model.specs.Index.{from-all}
 use Rattle.model.specs.Verdict.{Check, unless}
 use Rattle.model.specs.Words.{Columns, left, right, columns}
 use Rattle.model.specs.Rows.{Program}
 use Rattle.model.specs.Tables.{Tables}
 use Rattle.model.specs.Counters.{letter-count}
-use Rattle.model.specs.Rules.{Effect, quiet, reads, puts, starts, Rule, rule, from-all, rules}
+use Rattle.model.specs.Rules.{Effect, quiet, reads, puts, starts, Rule, rule, rules}
 
 -- a row of the listing
 pub record Line : Type 0 where

@@ -1,7 +1,7 @@
 -- Document 02, (x), "Functions by mail retired": what is promised of mailboxes and of letter C, as types.
 use Prim.Native.Nat.{ℕ}
 use mathlib.Core.Path.{_≡_}
-use mathlib.Core.List.{List, List·Memᴰ}
+use mathlib.Core.List.{List, _∷_, List·Memᴰ}
 use mathlib.Core.Option.{some, none}
 use lib.ListN.{getElem?}
 use Rattle.model.specs.declared.Verdict.the-variants.{Safe}
@@ -10,8 +10,9 @@ use Rattle.model.specs.Rows.{Program}
 use Rattle.model.specs.Values.{closure, Bindings, Process}
 use Rattle.model.specs.Run.{run}
 use Rattle.model.specs.Tables.{Tables}
+use Rattle.model.specs.Bads.{of-letters}
 use Rattle.model.specs.Counters.{Counted, letter-of, counter-of}
-use Rattle.model.specs.Markings.{Marking, count-in}
+use Rattle.model.specs.Markings.{Marking, count-in, sum-in}
 use Rattle.model.specs.Verify.{message, verdict-within}
 use Rattle.model.specs.Demands.{Bytes}
 use Rattle.model.specs.Refusals.{Passed}
@@ -34,10 +35,15 @@ pub record Without-counter (p : Program) (t : Tables) (k : Counted) : Type 0 whe
   pub no-counter : counter-of p t k ≡ none
   pub stands-at-0 : (counts : Marking) → count-in p t counts k ≡ 0
 
+-- letter C in a class's mailboxes: no letter of its number has a counter, with whatever heads, and an item (42, C)
+-- counts nothing
+pub record C-uncounted (p : Program) (t : Tables) (c : ℕ) : Type 0 where
+  pub letters : (hs : List ℕ) → Without-counter p t (letter-of c (p .constructors ∷ hs))
+  pub item : (counts : Marking) → sum-in p t counts (of-letters c (p .constructors)) ≡ 0
+
 -- "letter C keeps its number and has no counter": once 22 has passed, for no class. So no counts meet an item (42, C),
 -- whose minimum is from 1.
 abbrev pub Letter-uncounted : Type 0
 Letter-uncounted =
     (most : Limits) (bytes : List ℕ) → Passed most bytes 9 → (c : ℕ) →
-    Without-counter (message bytes .program) (message bytes .tables)
-    (letter-of c (message bytes .program .constructors))
+    C-uncounted (message bytes .program) (message bytes .tables) c

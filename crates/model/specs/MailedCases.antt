@@ -70,8 +70,8 @@ mailed-cases =
 -- The run is as it was: a mailbox can hold a function, in a program that is not found safe.
 unfoldable pub mailed-runs : List Arrival
 mailed-runs =
-    -- c0(u) has letter 0, and is received
-    steps (mailing 4) 4 (22 ∷ 15 ∷ 1 ∷ 0 ∷ []) ∷
+    -- c0(u) has letter 0 with head C, and is received
+    steps (mailing 4) 4 (22 ∷ 15 ∷ 1 ∷ 0 ∷ 1 ∷ []) ∷
     steps (mailing 4) 5 (22 ∷ 18 ∷ 0 ∷ []) ∷
     -- u and g have letter C, and match no constructor
     steps (mailing 3) 5 (22 ∷ 15 ∷ 1 ∷ 1 ∷ []) ∷

@@ -4,6 +4,7 @@ use Prim.Native.Nat.{ℕ, _+_, _≤_, _<_}
 use mathlib.Core.Path.{_≡_}
 use mathlib.Core.Bool.{true}
 use mathlib.Core.Logic.{_↔_}
+use mathlib.Core.List.{_∷_}
 use mathlib.Core.Option.{none}
 use lib.ListN.{replicate}
 use lib.Dec.{eqb}
@@ -12,7 +13,7 @@ use Rattle.model.specs.Index.{count}
 use Rattle.model.specs.Words.{Columns, left, right}
 use Rattle.model.specs.Reader.{first-wrong}
 use Rattle.model.specs.Rows.{Program}
-use Rattle.model.specs.Bads.{Subject, at-head, of-letter, bad, bad-step, items, met}
+use Rattle.model.specs.Bads.{Subject, at-head, of-letters, of-letter, numbers, bad, bad-step, items, met}
 
 -- "(40, class), (41, head) or (42, letter), (43, minimum from 1)": the item whose first row is r, what it counts, and
 -- its minimum
@@ -20,9 +21,14 @@ pub data Item (rows : Columns) (r : ℕ) : Subject → ℕ → Type 0 where
   of-states :
       left rows r ≡ 40 → left rows (r + 1) ≡ 41 → left rows (r + 2) ≡ 43 →
       Item rows r (at-head (right rows r) (right rows (r + 1))) (right rows (r + 2))
-  of-letters :
+  of-sum :
       left rows r ≡ 40 → left rows (r + 1) ≡ 42 → left rows (r + 2) ≡ 43 →
-      Item rows r (of-letter (right rows r) (right rows (r + 1))) (right rows (r + 2))
+      Item rows r (of-letters (right rows r) (right rows (r + 1))) (right rows (r + 2))
+  -- document 02, (viii): "(42, constructor) may be followed by (45, head) for each argument", in the rows up to e
+  of-one :
+      (e : ℕ) → r + 2 < e → left rows r ≡ 40 → left rows (r + 1) ≡ 42 →
+      ((i : ℕ) → r + 2 ≤ i → i < e → left rows i ≡ 45) → left rows e ≡ 43 →
+      Item rows r (of-letter (right rows r) (right rows (r + 1) ∷ numbers rows (r + 2) e)) (right rows e)
 
 -- "then (44, 0)" closes a bad: a row is of bad number j where so many bads are closed before it
 unfoldable pub closed-before : Columns → ℕ → ℕ

@@ -234,7 +234,7 @@ module _ (most : Limits) (bytes : List ℕ) where
     function-mailed :
         (i : ℕ) → Passed 22 → First-such (t .mail .size) (Mails-function p t) i →
         Refused lent (FunctionMailed (tables-at s + 3 + s .flows + i))
-    -- 9 counters: "over 512: size S", by the limits in force
+    -- 9 counters: "over 512: size S", by the limits in force; (viii): "Refusal 9 counts the new letters"
     counters-over : Passed 9 → most .counters < counter-count p t → Refused lent (Counters (tables-at s + 2))
     -- 10 ceiling: "form, or not K ceilings: first such entry's counter number, an entry after K ceilings included;
     -- entries ending early: the word past the counter numbers"

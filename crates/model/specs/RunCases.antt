@@ -562,6 +562,22 @@ two-callers =
     (22, 1) ∷ (21, 3) ∷ (1, 4) ∷ (11, 5) ∷ (22, 1) ∷ (23, 6) ∷ (1, 6) ∷ (2, 7) ∷ (20, 0) ∷ (4, 8) ∷ (21, 1) ∷
     (22, 1) ∷ (21, 7) ∷ (4, 9) ∷ (21, 1) ∷ (22, 1) ∷ (21, 7) ∷ (1, 9) ∷ [])
 
+-- Messages of one constructor that differ by the heads of their arguments, or below these.
+--     constructors gauge/0, pump/0, level/1.
+--     start ->
+--         Me = self(),
+--         Me ! level(gauge),
+--         Me ! level(level(pump)),
+--         Me ! level(pump),
+--         receive level(pump) -> receive level(gauge) -> Me end end.
+unfoldable pub two-levels : Program
+two-levels =
+    station 11 3 0
+    ((10, 0) ∷ (10, 0) ∷ (10, 1) ∷ (7, 0) ∷ (2, 1) ∷ (20, 0) ∷ (2, 2) ∷ (20, 2) ∷ (21, 1) ∷ (5, 3) ∷ (21, 0) ∷
+    (21, 2) ∷ (2, 4) ∷ (20, 1) ∷ (2, 5) ∷ (20, 2) ∷ (21, 4) ∷ (2, 6) ∷ (20, 2) ∷ (21, 5) ∷ (5, 7) ∷ (21, 0) ∷
+    (21, 6) ∷ (2, 8) ∷ (20, 1) ∷ (2, 9) ∷ (20, 2) ∷ (21, 8) ∷ (5, 10) ∷ (21, 0) ∷ (21, 9) ∷ (9, 1) ∷ (31, 2) ∷
+    (31, 1) ∷ (9, 1) ∷ (31, 2) ∷ (31, 0) ∷ (1, 0) ∷ [])
+
 unfoldable pub run-stations : List Program
 run-stations =
     (one-message ∷ three-letters ∷ passed-over ∷ any-branch ∷ both-branches ∷ case-branches ∷ half-match ∷
@@ -569,7 +585,7 @@ run-stations =
     callees-bindings ∷ callers-bindings ∷ arguments-in-order ∷ pushed-calls ∷ calls-itself ∷ endless ∷
     receives-inside ∷ spawned ∷ two-of-one-row ∷ numbers-as-spawned ∷ own-address ∷ function-sent ∷ sent-on ∷ waits ∷
     no-target ∷ wrong-count ∷ no-spawn ∷ no-match ∷ other-values ∷ arguments-kept ∷ held-names ∷ held-functions ∷
-    two-callers ∷ [])
+    two-callers ∷ two-levels ∷ [])
 
 unfoldable pub run-cases : List Run-case
 run-cases =
@@ -960,6 +976,15 @@ run-cases =
     -- Giving back with nothing pushed ends the spawned processes, as it ends the start.
     after two-callers ((0, 11) ∷ (1, 1) ∷ (2, 1) ∷ (0, 1) ∷ [])
     ("29@28" ∷ "7@3" ∷ "7@3" ∷ []) ∷
+    -- Three levels, which are three letters.
+    after two-levels ((0, 11) ∷ [])
+    ("38@31 : c2@6(c0@4) c2@17(c2@14(c1@12)) c2@25(c1@23)" ∷ []) ∷
+    -- The last is taken, and the two of other letters are passed over.
+    after two-levels ((0, 12) ∷ [])
+    ("38@34 : c2@6(c0@4) c2@17(c2@14(c1@12))" ∷ []) ∷
+    -- Then the first; what lies below the second is not looked at.
+    after two-levels ((0, 13) ∷ [])
+    ("38@37 : c2@17(c2@14(c1@12))" ∷ []) ∷
     []
 
 -- the definitions above opened at once, for the theorems that compute the table
@@ -968,5 +993,5 @@ unfolding one-message three-letters passed-over any-branch both-branches case-br
     fresh-names yields-message kept-bindings global-function closure-over-closure callees-bindings callers-bindings
     arguments-in-order pushed-calls calls-itself endless receives-inside spawned two-of-one-row numbers-as-spawned
     own-address function-sent sent-on waits no-target wrong-count no-spawn no-match other-values arguments-kept
-    held-names held-functions two-callers run-stations run-cases
+    held-names held-functions two-callers two-levels run-stations run-cases
 run-cases-opens = tt

@@ -10,7 +10,7 @@ use Rattle.model.specs.Message.{sizes}
 use Rattle.model.specs.Rows.{Program, program}
 use Rattle.model.specs.Values.{Value, closure, built, address, Bindings, empty, bind, Frame, Process}
 use Rattle.model.specs.Run.{run}
-use Rattle.model.specs.Rules.{from-all}
+use Rattle.model.specs.Index.{from-all}
 use Rattle.model.specs.Cases.{Pairs, program-words}
 
 -- a number of at most d digits

@@ -102,6 +102,10 @@ tag-letter = 42
 abbrev pub tag-minimum : ℕ
 tag-minimum = 43
 
+-- the head of an argument of its letter
+abbrev pub tag-argument : ℕ
+tag-argument = 45
+
 -- closes a bad
 abbrev pub tag-bad-end : ℕ
 tag-bad-end = 44

@@ -1314,7 +1314,8 @@ returns-third-listing =
     (50 ∷ 51 ∷ 50 ∷ 51 ∷ 50 ∷ 51 ∷ []) ++
     (0 ∷ 3 ∷ 1 ∷ 2 ∷ 2 ∷ 0 ∷ [])
 
--- The same, and the give back of the start expression with the call's row too: an extra entry, which leads back behind
+-- The same, and the give back of the start expression with the call's row too: an extra entry, which leads back
+-- behind
 -- the call. The third array is words 55 to 59, the flow's second columns are words 46 to 49.
 unfoldable pub returns-extra-program : List ℕ
 returns-extra-program =
@@ -1359,7 +1360,8 @@ returns-extra-open-words =
     ceiling-words 1
     ((0, 1) ∷ (1, 1) ∷ (2, 1) ∷ (3, 1) ∷ (4, 1) ∷ (5, 1) ∷ (6, 1) ∷ (7, 0) ∷ [])
 
--- The first with a state of the body that has R, where it wants nothing: two counters of one place. The third array is
+-- The first with a state of the body that has R, where it wants nothing: two counters of one place. The third
+-- array is
 -- words 55 to 59, the last ceiling's limits are words 74 to 76.
 unfoldable pub returns-summed-program : List ℕ
 returns-summed-program =
@@ -1521,6 +1523,231 @@ returns-a-65534-words =
     ((10, 1, 10) ∷ (10, 2, 10) ∷ (10, 4, 10) ∷ (10, 7, 10) ∷ (10, 9, 10) ∷ []) ++
     ceiling-words 1
     ((0, 65535) ∷ (1, 65535) ∷ (2, 65535) ∷ (3, 65535) ∷ (4, 65535) ∷ (5, 65534) ∷ (6, 0) ∷ [])
+
+-- A bad with the heads of a letter: its tags are words 28 to 33, its numbers 34 to 39. x = self; b = pair(x, x); x
+-- ! b; x.
+unfoldable pub letter-heads-program : List ℕ
+letter-heads-program =
+    program-words 3 2 0
+    ((10, 2) ∷ (10, 0) ∷ (7, 0) ∷ (2, 1) ∷ (20, 0) ∷ (21, 0) ∷ (21, 0) ∷ (5, 2) ∷ (21, 0) ∷ (21, 1) ∷ (1, 0) ∷ [])
+
+unfoldable pub letter-heads-words : List ℕ
+letter-heads-words =
+    letter-heads-program ++
+    bad-words 1
+    ((40, 11) ∷ (42, 0) ∷ (45, 3) ∷ (45, 3) ∷ (43, 2) ∷ (44, 0) ∷ []) ++
+    table-words
+    ((0, 11) ∷ (1, 3) ∷ (2, 3) ∷ [])
+    ((11, 3) ∷ [])
+    ((11, 2, 11) ∷ (11, 3, 11) ∷ (11, 7, 11) ∷ (11, 10, 11) ∷ []) ++
+    ceiling-words 4
+    ((0, 1) ∷ (5, 0) ∷ (1, 1) ∷ (5, 0) ∷ (2, 1) ∷ (5, 0) ∷ (3, 1) ∷ (4, 1) ∷ (5, 0) ∷ [])
+
+unfoldable pub letter-heads-listing : List ℕ
+letter-heads-listing =
+    (4 ∷ 1 ∷ 3 ∷ 7 ∷ []) ++
+    (50 ∷ 51 ∷ 50 ∷ 51 ∷ 50 ∷ 51 ∷ 53 ∷ []) ++
+    (0 ∷ 1 ∷ 1 ∷ 2 ∷ 2 ∷ 3 ∷ 4 ∷ [])
+
+-- Two letters of one constructor, box(a) and box(address), counters 6 and 7; a bad without heads asks for 65,535
+-- of both together. x = self; a; box(x); box(a); receive.
+unfoldable pub heads-summed-program : List ℕ
+heads-summed-program =
+    program-words 4 2 0
+    ((10, 1) ∷ (10, 0) ∷ (7, 0) ∷ (2, 1) ∷ (20, 1) ∷ (2, 2) ∷ (20, 0) ∷ (21, 0) ∷ (2, 3) ∷ (20, 0) ∷ (21, 1) ∷
+    (9, 1) ∷ (32, 0) ∷ (1, 0) ∷ [])
+
+unfoldable pub heads-summed-words : List ℕ
+heads-summed-words =
+    heads-summed-program ++
+    bad-words 1
+    ((40, 14) ∷ (42, 0) ∷ (43, 65535) ∷ (44, 0) ∷ []) ++
+    table-words
+    ((0, 14) ∷ (1, 3) ∷ (2, 5) ∷ (3, 8) ∷ [])
+    ((14, 5) ∷ (14, 8) ∷ [])
+    ((14, 2, 14) ∷ (14, 3, 14) ∷ (14, 5, 14) ∷ (14, 8, 14) ∷ (14, 11, 14) ∷ (14, 13, 14) ∷ []) ++
+    ceiling-words 1
+    ((0, 65535) ∷ (1, 65535) ∷ (2, 65535) ∷ (3, 65535) ∷ (4, 65535) ∷ (5, 65535) ∷ (6, 40000) ∷ (7, 25534) ∷ (8, 0) ∷
+    [])
+
+unfoldable pub heads-summed-listing : List ℕ
+heads-summed-listing =
+    (6 ∷ 2 ∷ 6 ∷ 14 ∷ []) ++
+    (50 ∷ 51 ∷ 50 ∷ 51 ∷ 50 ∷ 51 ∷ 50 ∷ 51 ∷ 50 ∷ 51 ∷ 52 ∷ 50 ∷ 51 ∷ 52 ∷ []) ++
+    (0 ∷ 1 ∷ 1 ∷ 2 ∷ 2 ∷ 3 ∷ 3 ∷ 4 ∷ 4 ∷ 5 ∷ 6 ∷ 4 ∷ 5 ∷ 7 ∷ [])
+
+-- The same name twice, which holds an address and a pair: each argument by its name alone. x = self; b = pair(x,
+-- x); receive.
+unfoldable pub independent-heads-program : List ℕ
+independent-heads-program =
+    program-words 2 1 0
+    ((10, 2) ∷ (7, 0) ∷ (2, 1) ∷ (20, 0) ∷ (21, 0) ∷ (21, 0) ∷ (9, 1) ∷ (32, 0) ∷ (1, 0) ∷ [])
+
+unfoldable pub independent-heads-words : List ℕ
+independent-heads-words =
+    independent-heads-program ++
+    bad-words 1
+    ((40, 9) ∷ (42, 1) ∷ (43, 1) ∷ (44, 0) ∷ []) ++
+    table-words
+    ((0, 2) ∷ (0, 9) ∷ (1, 2) ∷ [])
+    ((9, 2) ∷ [])
+    ((9, 1, 9) ∷ (9, 2, 9) ∷ (9, 6, 9) ∷ (9, 8, 9) ∷ []) ++
+    ceiling-words 1
+    ((0, 65535) ∷ (1, 65535) ∷ (2, 65535) ∷ (3, 65535) ∷ (4, 65535) ∷ (5, 65535) ∷ (6, 65535) ∷ (7, 65535) ∷ (8, 0) ∷
+    [])
+
+unfoldable pub independent-heads-listing : List ℕ
+independent-heads-listing =
+    (4 ∷ 4 ∷ 6 ∷ 16 ∷ []) ++
+    (50 ∷ 51 ∷ 50 ∷ 51 ∷ 50 ∷ 51 ∷ 52 ∷ 50 ∷ 51 ∷ 52 ∷ 50 ∷ 51 ∷ 52 ∷ 50 ∷ 51 ∷ 52 ∷ []) ++
+    (0 ∷ 1 ∷ 1 ∷ 2 ∷ 2 ∷ 3 ∷ 4 ∷ 2 ∷ 3 ∷ 5 ∷ 2 ∷ 3 ∷ 6 ∷ 2 ∷ 3 ∷ 7 ∷ [])
+
+-- An argument name without a value allows no letter. f(x) = (y = self; b = box(x); y ! b; b) has states and is
+-- never called; s = self; s.
+unfoldable pub no-letter-program : List ℕ
+no-letter-program =
+    program-words 6 1 1
+    ((10, 1) ∷ (11, 0) ∷ (22, 1) ∷ (23, 1) ∷ (7, 2) ∷ (2, 3) ∷ (20, 0) ∷ (21, 1) ∷ (5, 4) ∷ (21, 2) ∷ (21, 3) ∷
+    (1, 3) ∷ (7, 5) ∷ (1, 5) ∷ [])
+
+unfoldable pub no-letter-words : List ℕ
+no-letter-words =
+    no-letter-program ++
+    bad-words 1
+    ((40, 14) ∷ (42, 0) ∷ (43, 1) ∷ (44, 0) ∷ []) ++
+    table-words
+    ((0, 1) ∷ (2, 14) ∷ (3, 5) ∷ (4, 5) ∷ (5, 14) ∷ [])
+    ((14, 5) ∷ [])
+    ((14, 4, 14) ∷ (14, 5, 14) ∷ (14, 8, 14) ∷ (14, 11, 14) ∷ (14, 12, 14) ∷ (14, 13, 14) ∷ []) ++
+    ceiling-words 1
+    ((0, 65535) ∷ (1, 65535) ∷ (2, 65535) ∷ (3, 65535) ∷ (4, 65535) ∷ (5, 65535) ∷ (6, 0) ∷ [])
+
+unfoldable pub no-letter-listing : List ℕ
+no-letter-listing =
+    (6 ∷ 0 ∷ 3 ∷ 6 ∷ []) ++
+    (50 ∷ 51 ∷ 50 ∷ 51 ∷ 50 ∷ 51 ∷ []) ++
+    (0 ∷ 1 ∷ 1 ∷ 2 ∷ 4 ∷ 5 ∷ [])
+
+-- Mail pair(gauge, me) and pair(pump, pump): a branch reads by one row, and its arguments are never mixed with
+-- those of the other.
+unfoldable pub read-by-row-program : List ℕ
+read-by-row-program =
+    program-words 5 3 0
+    ((10, 2) ∷ (10, 0) ∷ (10, 0) ∷ (7, 0) ∷ (2, 1) ∷ (20, 1) ∷ (2, 2) ∷ (20, 2) ∷ (2, 3) ∷ (20, 0) ∷ (21, 1) ∷
+    (21, 0) ∷ (2, 4) ∷ (20, 0) ∷ (21, 2) ∷ (21, 2) ∷ (9, 2) ∷ (31, 0) ∷ (31, 1) ∷ (31, 2) ∷ (1, 0) ∷ (31, 0) ∷
+    (32, 0) ∷ (31, 2) ∷ (1, 0) ∷ [])
+
+unfoldable pub read-by-row-words : List ℕ
+read-by-row-words =
+    read-by-row-program ++
+    bad-words 1
+    ((40, 25) ∷ (42, 3) ∷ (43, 1) ∷ (44, 0) ∷ []) ++
+    table-words
+    ((0, 25) ∷ (1, 4) ∷ (2, 6) ∷ (3, 8) ∷ (4, 12) ∷ [])
+    ((25, 8) ∷ (25, 12) ∷ [])
+    ((25, 3, 25) ∷ (25, 4, 25) ∷ (25, 6, 25) ∷ (25, 8, 25) ∷ (25, 12, 25) ∷ (25, 16, 25) ∷ (25, 24, 25) ∷ []) ++
+    ceiling-words 1
+    ((0, 65535) ∷ (1, 65535) ∷ (2, 65535) ∷ (3, 65535) ∷ (4, 65535) ∷ (5, 65535) ∷ (6, 65535) ∷ (7, 65535) ∷
+    (8, 65535) ∷ (9, 0) ∷ [])
+
+unfoldable pub read-by-row-listing : List ℕ
+read-by-row-listing =
+    (7 ∷ 2 ∷ 6 ∷ 13 ∷ []) ++
+    (50 ∷ 51 ∷ 50 ∷ 51 ∷ 50 ∷ 51 ∷ 50 ∷ 51 ∷ 50 ∷ 51 ∷ 50 ∷ 51 ∷ 52 ∷ []) ++
+    (0 ∷ 1 ∷ 1 ∷ 2 ∷ 2 ∷ 3 ∷ 3 ∷ 4 ∷ 4 ∷ 5 ∷ 5 ∷ 6 ∷ 8 ∷ [])
+
+-- A held name below a constructor selects heads; as the whole pattern it reads every letter of the rows that it
+-- may match. x = self, which holds a too; a; b = box(x); receive box(^a); ^b; ^a.
+unfoldable pub held-heads-program : List ℕ
+held-heads-program =
+    program-words 3 2 0
+    ((10, 1) ∷ (10, 0) ∷ (7, 0) ∷ (2, 1) ∷ (20, 1) ∷ (2, 2) ∷ (20, 0) ∷ (21, 0) ∷ (9, 3) ∷ (31, 0) ∷ (33, 1) ∷
+    (1, 0) ∷ (33, 2) ∷ (1, 0) ∷ (33, 1) ∷ (1, 0) ∷ [])
+
+unfoldable pub held-heads-words : List ℕ
+held-heads-words =
+    held-heads-program ++
+    bad-words 1
+    ((40, 16) ∷ (42, 2) ∷ (43, 1) ∷ (44, 0) ∷ []) ++
+    table-words
+    ((0, 3) ∷ (0, 16) ∷ (1, 3) ∷ (2, 5) ∷ [])
+    ((16, 5) ∷ [])
+    ((16, 2, 16) ∷ (16, 3, 16) ∷ (16, 5, 16) ∷ (16, 8, 16) ∷ (16, 11, 16) ∷ (16, 13, 16) ∷ []) ++
+    ceiling-words 1
+    ((0, 65535) ∷ (1, 65535) ∷ (2, 65535) ∷ (3, 65535) ∷ (4, 65535) ∷ (5, 65535) ∷ (6, 65535) ∷ (7, 65535) ∷ (8, 0) ∷
+    [])
+
+unfoldable pub held-heads-listing : List ℕ
+held-heads-listing =
+    (6 ∷ 2 ∷ 6 ∷ 15 ∷ []) ++
+    (50 ∷ 51 ∷ 50 ∷ 51 ∷ 50 ∷ 51 ∷ 50 ∷ 51 ∷ 52 ∷ 50 ∷ 51 ∷ 52 ∷ 50 ∷ 51 ∷ 52 ∷ []) ++
+    (0 ∷ 1 ∷ 1 ∷ 2 ∷ 2 ∷ 3 ∷ 3 ∷ 4 ∷ 6 ∷ 3 ∷ 5 ∷ 6 ∷ 3 ∷ 5 ∷ 7 ∷ [])
+
+-- Five arguments of four heads: 1,024 letters beside four states. f() = f; x = self, which holds all; a; b = m(x,
+-- x, x, x, x); x.
+unfoldable pub letter-limit-program : List ℕ
+letter-limit-program =
+    program-words 4 2 1
+    ((10, 5) ∷ (10, 0) ∷ (11, 0) ∷ (22, 0) ∷ (1, 0) ∷ (7, 1) ∷ (2, 2) ∷ (20, 1) ∷ (2, 3) ∷ (20, 0) ∷ (21, 1) ∷
+    (21, 1) ∷ (21, 1) ∷ (21, 1) ∷ (21, 1) ∷ (1, 1) ∷ [])
+
+unfoldable pub letter-limit-words : List ℕ
+letter-limit-words =
+    letter-limit-program ++
+    bad-words 1
+    ((40, 16) ∷ (42, 0) ∷ (43, 1) ∷ (44, 0) ∷ []) ++
+    table-words
+    ((0, 2) ∷ (1, 2) ∷ (1, 6) ∷ (1, 8) ∷ (1, 16) ∷ (2, 6) ∷ (3, 8) ∷ [])
+    ((16, 8) ∷ [])
+    ((16, 5, 16) ∷ (16, 6, 16) ∷ (16, 8, 16) ∷ (16, 15, 16) ∷ []) ++
+    ceiling-words 0
+    []
+
+-- Eight arguments of four heads: 65,536 letters, which is 0 in 16 bits.
+unfoldable pub letter-product-program : List ℕ
+letter-product-program =
+    program-words 4 2 1
+    ((10, 8) ∷ (10, 0) ∷ (11, 0) ∷ (22, 0) ∷ (1, 0) ∷ (7, 1) ∷ (2, 2) ∷ (20, 1) ∷ (2, 3) ∷ (20, 0) ∷ (21, 1) ∷
+    (21, 1) ∷ (21, 1) ∷ (21, 1) ∷ (21, 1) ∷ (21, 1) ∷ (21, 1) ∷ (21, 1) ∷ (1, 1) ∷ [])
+
+unfoldable pub letter-product-words : List ℕ
+letter-product-words =
+    letter-product-program ++
+    bad-words 1
+    ((40, 19) ∷ (42, 0) ∷ (43, 1) ∷ (44, 0) ∷ []) ++
+    table-words
+    ((0, 2) ∷ (1, 2) ∷ (1, 6) ∷ (1, 8) ∷ (1, 19) ∷ (2, 6) ∷ (3, 8) ∷ [])
+    ((19, 8) ∷ [])
+    ((19, 5, 19) ∷ (19, 6, 19) ∷ (19, 8, 19) ∷ (19, 18, 19) ∷ []) ++
+    ceiling-words 0
+    []
+
+-- Seven arguments of four heads and an eighth without a value, in a function that is never called: no letter. The
+-- branch is wanted, and has no rule.
+unfoldable pub letter-empty-program : List ℕ
+letter-empty-program =
+    program-words 6 2 1
+    ((10, 8) ∷ (10, 0) ∷ (11, 0) ∷ (22, 1) ∷ (23, 1) ∷ (7, 2) ∷ (2, 3) ∷ (20, 1) ∷ (2, 4) ∷ (20, 0) ∷ (21, 2) ∷
+    (21, 2) ∷ (21, 2) ∷ (21, 2) ∷ (21, 2) ∷ (21, 2) ∷ (21, 2) ∷ (21, 1) ∷ (1, 2) ∷ (7, 5) ∷ (9, 1) ∷ (32, 0) ∷
+    (1, 5) ∷ [])
+
+unfoldable pub letter-empty-words : List ℕ
+letter-empty-words =
+    letter-empty-program ++
+    bad-words 1
+    ((40, 23) ∷ (42, 0) ∷ (43, 1) ∷ (44, 0) ∷ []) ++
+    table-words
+    ((0, 2) ∷ (2, 2) ∷ (2, 6) ∷ (2, 8) ∷ (2, 23) ∷ (5, 23) ∷ [])
+    ((23, 8) ∷ [])
+    ((23, 19, 23) ∷ (23, 20, 23) ∷ (23, 22, 23) ∷ []) ++
+    ceiling-words 1
+    ((0, 65535) ∷ (1, 65535) ∷ (2, 65535) ∷ (3, 0) ∷ [])
+
+unfoldable pub letter-empty-listing : List ℕ
+letter-empty-listing =
+    (3 ∷ 0 ∷ 1 ∷ 2 ∷ []) ++
+    (50 ∷ 51 ∷ []) ++
+    (0 ∷ 1 ∷ [])
 
 unfoldable pub verdict-cases : List Verdict-case
 verdict-cases =
@@ -1988,6 +2215,40 @@ verdict-cases =
     at 13 68 (to-bytes returns-a-last-gone-words) ∷
     -- 13 at 62.
     at 13 62 (to-bytes returns-a-65534-words) ∷
+    -- One such pair meets the bad.
+    at 12 28 (to-bytes (changed letter-heads-words ((38, 1) ∷ []))) ∷
+    -- A pair whose first head is a function has no counter: the bad is not met.
+    at 0 0 (to-bytes (changed letter-heads-words ((36, 2) ∷ (38, 1) ∷ []))) ∷
+    -- 6: heads go from 0 to C + 1.
+    at 6 31 (to-bytes (changed letter-heads-words ((37, 4) ∷ []))) ∷
+    -- 6: a minimum where the second head is to stand.
+    at 6 31 (to-bytes (changed letter-heads-words ((31, 43) ∷ (37, 1) ∷ []))) ∷
+    -- 6: no heads, and one behind the minimum.
+    at 6 31 (to-bytes (changed letter-heads-words ((30, 43) ∷ (36, 1) ∷ []))) ∷
+    -- 6: a third head of two arguments.
+    at 6 32 (to-bytes (changed letter-heads-words ((32, 45) ∷ (38, 0) ∷ []))) ∷
+    -- 6: none behind a constructor without arguments.
+    at 6 30 (to-bytes (changed letter-heads-words ((35, 1) ∷ []))) ∷
+    -- 6: none behind C, a function.
+    at 6 30 (to-bytes (changed letter-heads-words ((35, 2) ∷ []))) ∷
+    -- 6: none behind C + 1, an address.
+    at 6 30 (to-bytes (changed letter-heads-words ((35, 3) ∷ []))) ∷
+    -- 6: none behind a place.
+    at 6 30 (to-bytes (changed letter-heads-words ((29, 41) ∷ (35, 10) ∷ []))) ∷
+    -- 40,000 and 25,535 do.
+    at 12 34 (to-bytes (changed heads-summed-words ((93, 25535) ∷ []))) ∷
+    -- 40,000 and 40,000 do.
+    at 12 34 (to-bytes (changed heads-summed-words ((93, 40000) ∷ []))) ∷
+    -- An unbounded one does.
+    at 12 34 (to-bytes (changed heads-summed-words ((93, 65535) ∷ []))) ∷
+    -- The send wants its mail all the same.
+    at 8 53 (to-bytes (changed no-letter-words ((62, 14) ∷ []))) ∷
+    -- And its name to hold the message.
+    at 8 53 (to-bytes (changed no-letter-words ((60, 14) ∷ []))) ∷
+    -- 9: over 1,024 counters.
+    at 9 48 (to-bytes letter-limit-words) ∷
+    -- 9: it is refused without a list of them.
+    at 9 54 (to-bytes letter-product-words) ∷
     []
 
 unfoldable pub listing-cases : List Case
@@ -2060,6 +2321,20 @@ listing-cases =
     safe 2 returns-a-counter-program (to-bytes returns-a-counter-words) returns-a-counter-listing ∷
     -- The listing of station A stays.
     safe 2 returns-a-program (to-bytes returns-a-words) returns-a-listing ∷
+    -- A pair of two addresses, of which there is one.
+    safe 2 letter-heads-program (to-bytes letter-heads-words) letter-heads-listing ∷
+    -- 40,000 and 25,534 do not come to 65,535; the branch reads either.
+    safe 2 heads-summed-program (to-bytes heads-summed-words) heads-summed-listing ∷
+    -- Four letters, in the order of their heads from the left.
+    safe 2 independent-heads-program (to-bytes independent-heads-words) independent-heads-listing ∷
+    -- The send has no rule and the letter no counter, so the bad is not met.
+    safe 2 no-letter-program (to-bytes no-letter-words) no-letter-listing ∷
+    -- pair(gauge, pump) reads nothing; pair(_, pump) reads the second alone.
+    safe 2 read-by-row-program (to-bytes read-by-row-words) read-by-row-listing ∷
+    -- The first branch reads box(a), the second both letters, the third none.
+    safe 2 held-heads-program (to-bytes held-heads-words) held-heads-listing ∷
+    -- Three counters and one rule.
+    safe 2 letter-empty-program (to-bytes letter-empty-words) letter-empty-listing ∷
     []
 
 -- the definitions above opened at once, for the theorems that compute the table
@@ -2093,5 +2368,10 @@ unfolding bads-sizes-program bads-sizes-words tables-sizes-program tables-sizes-
     returns-no-counter-listing returns-a-counter-program returns-a-counter-words returns-a-counter-listing
     returns-lengths-program returns-lengths-words returns-a-program returns-a-words returns-a-listing
     returns-a-first-gone-program returns-a-first-gone-words returns-a-last-gone-program returns-a-last-gone-words
-    returns-a-65534-program returns-a-65534-words verdict-cases listing-cases
+    returns-a-65534-program returns-a-65534-words letter-heads-program letter-heads-words letter-heads-listing
+    heads-summed-program heads-summed-words heads-summed-listing independent-heads-program independent-heads-words
+    independent-heads-listing no-letter-program no-letter-words no-letter-listing read-by-row-program
+    read-by-row-words read-by-row-listing held-heads-program held-heads-words held-heads-listing letter-limit-program
+    letter-limit-words letter-product-program letter-product-words letter-empty-program letter-empty-words
+    letter-empty-listing verdict-cases listing-cases
 verdict-cases-opens = tt

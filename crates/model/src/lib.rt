@@ -140,6 +140,8 @@ pub const TAG_MINIMUM: usize = 43;
 
 pub const TAG_BAD_END: usize = 44;
 
+pub const TAG_ARGUMENT: usize = 45;
+
 pub const TAG_FROM: u32 = 50;
 
 pub const TAG_TO: u32 = 51;
@@ -150,7 +152,8 @@ pub const TAG_PUTS: u32 = 53;
 
 pub const TAG_STARTS: u32 = 54;
 
-// Letters: a constructor's own number; then C for a function and C + 1 for an address: so many more than C in all.
-pub const ADDRESS_LETTER: usize = 1;
+// Heads of values: a constructor's own number; then C for a function and C + 1 for an address: so many more than C in
+// all.
+pub const ADDRESS_HEAD: usize = 1;
 
-pub const OTHER_LETTERS: usize = 2;
+pub const OTHER_HEADS: usize = 2;

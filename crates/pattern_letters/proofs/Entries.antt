@@ -1,39 +1,37 @@
--- Entries of the lists: a value of a list that passes, one entry at a time; the mail of a class as a range.
-use Prim.Native.Nat.{ℕ, _+_, _*_, _≤_, _<_}
+-- Entries of the lists: those of a name and of a class as ranges, and the entry of a pair that is there.
+use Prim.Native.Nat.{ℕ, _+_, _≤_, _<_}
 use native.Mathlib.Decide.{decLt}
 use native.Mathlib.Omega.{arith}
-use mathlib.Core.Path.{_≡_, refl, sym, _∙_, ap}
-use mathlib.Core.Bool.{Bool, true, false, _&&_}
+use mathlib.Core.Path.{_≡_, sym, _∙_}
+use mathlib.Core.Bool.{Bool, true, false}
 use mathlib.Core.List.{List, [], _∷_}
 use lib.Dec.{eqb}
-use lib.ListN.{length}
+use lib.ListN.{getD}
 use borrow.Author.Tests.{eqb-true, eq-eqb}
 use Rattle.model.specs.declared.Sizes.{Sizes}
 use Rattle.model.specs.Index.{any}
 use Rattle.model.specs.Words.{Columns, left, right, columns}
-use Rattle.model.specs.Rows.{program}
-use Rattle.model.specs.Heads.{is-class}
-use Rattle.model.specs.Tables.{tables, entries, has, some-of}
+use Rattle.model.specs.Rows.{Program, program}
+use Rattle.model.specs.Tables.{Tables, tables, entries, has, each, some-of}
+use Rattle.model.specs.Wanted.{Member}
 use Rattle.model.proofs.Logic.{and-left, and-right, and-intro}
 use Rattle.model.proofs.Index.{any-end, any-hit, any-miss, any-intro, any-elim}
-use Rattle.model.proofs.Numbering.Letters.{key-room}
-use Rattle.bits.specs.Bits.{member, Row}
+use Rattle.model.proofs.Exact.Members.{has-iff}
 use Rattle.bits.proofs.Loops.{both}
-use Rattle.lists.specs.Lists.{Ascending, range-from, range-to}
+use Rattle.lists.specs.Lists.{Ascending, place, range-from, range-to, Starts}
 use Rattle.lists.specs.Ready.{Ready}
-use Rattle.lists.proofs.Facts.{mail-rises}
-use Rattle.lists.proofs.Rising.{begins-before, begins-within, begins-behind, begins-order, place-upto}
-use Rattle.values.proofs.Names.{mail-upto}
-use Rattle.values.specs.Values.{width, Flow-sets}
-use Rattle.values.proofs.Gathered.{width-above}
+use Rattle.lists.proofs.Facts.{flow-rises, mail-rises}
+use Rattle.lists.proofs.Rising.{heads-before, heads-within, heads-behind, begins-before, begins-within, begins-behind, begins-order, place-upto}
+use Rattle.values.proofs.Names.{flow-upto, mail-upto}
+use Rattle.values.proofs.Members.{each-at}
 
-pub some-elim : (c : Columns) (a : ℕ) (f : ℕ → Bool) → some-of c a f ≡ true → (j : ℕ) × (j < c .size) × (left c j ≡ a) × (f (right c j) ≡ true)
+some-elim : (c : Columns) (a : ℕ) (f : ℕ → Bool) → some-of c a f ≡ true → (j : ℕ) × (j < c .size) × (left c j ≡ a) × (f (right c j) ≡ true)
 unfolding some-of
 some-elim c a f e =
     let (j, w, z) = any-elim 0 (c .size) _ e in
     (j, w .1, eqb-true (left c j) a (and-left (eqb (left c j) a) (f (right c j)) z), and-right (eqb (left c j) a) (f (right c j)) z)
 
-pub some-intro : (c : Columns) (a j : ℕ) (f : ℕ → Bool) → j < c .size → left c j ≡ a → f (right c j) ≡ true → some-of c a f ≡ true
+some-intro : (c : Columns) (a j : ℕ) (f : ℕ → Bool) → j < c .size → left c j ≡ a → f (right c j) ≡ true → some-of c a f ≡ true
 unfolding some-of
 some-intro c a j f l same e = any-intro 0 (c .size) j _ (omega arith) l (and-intro (eqb (left c j) a) (f (right c j)) (eq-eqb (left c j) a same) e)
 
@@ -51,35 +49,68 @@ some-range c a f rising = both (some-of c a f) (any (range-from c a) (range-to c
     (λ h. let (j, b, z) = any-elim (range-from c a) (range-to c a) (λ i. f (right c i)) h in
     some-intro c a j f (let y = place-upto c [] ((a + 1) ∷ 0 ∷ 0 ∷ []) in omega (arith, b .1)) (begins-within c [] a rising j (b .0) (b .1)) z)
 
--- the mail of a class
-module _ {ws : List ℕ} {s : Sizes} (h : Ready ws s) (c from to : ℕ) (a : from ≡ range-from (tables ws s .mail) c) (b : to ≡ range-to (tables ws s .mail) c) where
-  pub mail-range : (f : ℕ → Bool) → some-of (tables ws s .mail) c f ≡ any from to (λ j. f (right (tables ws s .mail) j))
-  mail-range f = rw (a, b) (some-range (tables ws s .mail) c f (mail-rises h))
+-- a pair that is there stands at its place
+placed : (c : Columns) → Ascending c [] → (a b j : ℕ) → j ≡ place c [] (a ∷ b ∷ 0 ∷ []) → has c a b ≡ true → (j < c .size) × (left c j ≡ a) × (right c j ≡ b)
+placed c rising a b j e h =
+    let m = has-iff c a b .0 h in
+    elim (decLt (m .at) j) [
+      | yes l ↦ absurd (heads-before c [] a b (m .at) (omega arith) (m .first) (m .second))
+      | no l ↦ elim (decLt (m .at) (place c [] (a ∷ (b + 1) ∷ 0 ∷ []))) [
+        | yes k ↦ let (x, y) = heads-within c [] a b rising j (omega arith) (omega arith) in (omega (arith, m .below), x, y)
+        | no k ↦ absurd (heads-behind c [] a b rising (m .at) (omega arith) (m .below) (m .first) (m .second))
+      ]
+    ]
 
-  pub mail-order : (from ≤ to) × (to ≤ s .mails)
+module _ {ws : List ℕ} {s : Sizes} (h : Ready ws s) where
+  abbrev p : Program
+  p = program ws s
+
+  abbrev t : Tables
+  t = tables ws s
+
+  -- the entries of a name, by the table of where they start
+  pub name-starts : (flow-at : List ℕ) (a from to : ℕ) → Starts (t .flow) (s .names) flow-at → a < s .names → from ≡ getD flow-at a 0 → to ≡ getD flow-at (a + 1) 0 → (from ≡ range-from (t .flow) a) × (to ≡ range-to (t .flow) a)
+  unfolding range-from range-to
+  name-starts flow-at a from to g l e f = (e ∙ g .start a (omega arith), f ∙ g .start (a + 1) (omega arith))
+
+  pub flow-order : (a from to : ℕ) → from ≡ range-from (t .flow) a → to ≡ range-to (t .flow) a → (from ≤ to) × (to ≤ s .flows)
   unfolding range-from range-to tables entries columns
-  mail-order = (omega (arith, begins-order (tables ws s .mail) [] c (mail-rises h)), omega (arith, place-upto (tables ws s .mail) [] ((c + 1) ∷ 0 ∷ 0 ∷ [])))
+  flow-order a from to e f = (omega (arith, begins-order (t .flow) [] a (flow-rises h)), omega (arith, place-upto (t .flow) [] ((a + 1) ∷ 0 ∷ 0 ∷ [])))
 
-  pub mail-low : (j v : ℕ) → j < to → v ≡ right (tables ws s .mail) j → v ≤ s .rows
-  unfolding program columns tables entries
-  mail-low j v l e = omega (arith, mail-upto h j (let y = mail-order in omega arith))
+  -- an entry of a name
+  pub entry-in : (a j : ℕ) → range-from (t .flow) a ≤ j → j < range-to (t .flow) a → (left (t .flow) j ≡ a) × (j < t .flow .size)
+  unfolding range-from range-to
+  entry-in a j b c = let upto = place-upto (t .flow) [] ((a + 1) ∷ 0 ∷ 0 ∷ []) in (begins-within (t .flow) [] a (flow-rises h) j b c, omega arith)
 
--- a table of m sets has room for each
-pub set-room : (w n m : ℕ) (sets : List ℕ) → n < m → m * w ≤ length sets → Row sets w n
-set-room w n m sets l k = record { room = omega (arith, key-room w n m l) }
+  -- the mail entry of a value of the name m, each of which is in the mail of class d
+  pub mailed-at : (m d from to i v j : ℕ) → each (t .flow) m (has (t .mail) d) ≡ true → from ≡ range-from (t .flow) m → to ≡ range-to (t .flow) m → from ≤ i → i < to → v ≡ right (t .flow) i → j ≡ place (t .mail) [] (d ∷ v ∷ 0 ∷ []) → (j < s .mails) × (left (t .mail) j ≡ d) × (right (t .mail) j ≡ v)
+  unfolding tables entries columns
+  mailed-at m d from to i v j all e f a b same at =
+      let (x, y) = entry-in m i (omega arith) (omega arith) in
+      let mem : Member (t .flow) m v = record { at = i; below = y; first = x; second = sym same } in
+      placed (t .mail) (mail-rises h) d v j at (each-at (t .flow) m (has (t .mail) d) all v mem)
 
--- one value, in the set of a name
-module _ (ws : List ℕ) (s : Sizes) {w : ℕ} {flows : List ℕ} (g : (w ≡ width (s .rows)) × Flow-sets (program ws s) (tables ws s) flows) (n v : ℕ) (low : (n < s .names) × (v ≤ s .rows)) where
-  pub flow-set : (v < 64 * w) × Row flows w n
-  unfolding program columns
-  flow-set = rw (g .0) (width-above (s .rows) v (low .1), g .1 .of-name n (low .0) .row)
+  module _ (a from to : ℕ) (e : from ≡ range-from (t .flow) a) (f : to ≡ range-to (t .flow) a) where
+    pub flow-range : (g : ℕ → Bool) → some-of (t .flow) a g ≡ any from to (λ j. g (right (t .flow) j))
+    flow-range g = rw (e, f) (some-range (t .flow) a g (flow-rises h))
 
-  pub shared-told : (a b : Bool) → a ≡ is-class (program ws s) v → a ≡ true → b ≡ member flows w n v → b ≡ (is-class (program ws s) v && has (tables ws s .flow) n v)
-  unfolding program columns
-  shared-told a b e f k = k ∙ (rw (g .0) (g .1 .of-name n (low .0) .holds v (width-above (s .rows) v (low .1))) ∙ ap (λ x. x && has (tables ws s .flow) n v) (sym (sym e ∙ f)))
+    pub flow-low : (j v : ℕ) → j < to → v ≡ right (t .flow) j → v ≤ s .rows
+    unfolding program columns tables entries
+    flow-low j v l same = omega (arith, flow-upto h j (let y = flow-order a from to e f in omega arith))
 
-pub unshared : (a x y : Bool) → a ≡ x → a ≡ false → false ≡ (x && y)
-unshared a x y e f = ap (λ z. z && y) (sym f ∙ e)
+  -- the mail of a class
+  module _ (c from to : ℕ) (e : from ≡ range-from (t .mail) c) (f : to ≡ range-to (t .mail) c) where
+    pub mail-order : (from ≤ to) × (to ≤ s .mails)
+    unfolding range-from range-to tables entries columns
+    mail-order = (omega (arith, begins-order (t .mail) [] c (mail-rises h)), omega (arith, place-upto (t .mail) [] ((c + 1) ∷ 0 ∷ 0 ∷ [])))
+
+    pub mail-low : (j v : ℕ) → j < to → v ≡ right (t .mail) j → v ≤ s .rows
+    unfolding program columns tables entries
+    mail-low j v l same = omega (arith, mail-upto h j (let y = mail-order in omega arith))
+
+    pub mail-class : (j : ℕ) → from ≤ j → j < to → left (t .mail) j ≡ c
+    unfolding range-from range-to
+    mail-class j a b = begins-within (t .mail) [] c (mail-rises h) j (omega arith) (omega arith)
 
 -- the entries from j on, turn by turn
 module _ (j to : ℕ) (f : ℕ → Bool) (x b : Bool) (less : j < to) (e : x ≡ any j to f) (same : b ≡ f j) where

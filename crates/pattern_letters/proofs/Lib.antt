@@ -1,2 +1,4 @@
 pub mod Entries
-pub mod Letters
+pub mod Lessening
+pub mod Fitting
+pub mod Keeping

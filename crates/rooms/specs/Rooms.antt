@@ -1,6 +1,7 @@
 -- The rooms that hold any message within the limits, each by what stands in it.
 use Prim.Native.Nat.{ℕ, _+_, _*_, _/_}
-use Rattle.model.specs.Limits.{maxRows, maxNames, maxCeilings, maxCounters}
+use Rattle.model.specs.Limits.{maxRows, maxNames, maxConstructors, maxArity, maxMails}
+use Rattle.model.specs.Limits.{maxCeilings, maxCounters}
 
 -- a word for each row, one for the end, and one for where what belongs to the end ends
 abbrev pub row-room : ℕ
@@ -17,6 +18,22 @@ name-sets = (maxNames + 1) * set-words
 -- a set for each row
 abbrev pub row-sets : ℕ
 row-sets = maxRows * set-words
+
+-- a set of names for each row
+abbrev pub fitting-sets : ℕ
+fitting-sets = maxRows * (maxNames / 64 + 1)
+
+-- the number of each letter, and room for one that is too many
+abbrev pub letter-codes : ℕ
+letter-codes = maxCounters + 1
+
+-- the words of a set of letters
+abbrev pub letter-words : ℕ
+letter-words = maxCounters / 64 + 1
+
+-- a set of letters for each digit and each head, and for each mail entry
+abbrev pub letter-sets : ℕ
+letter-sets = ((maxArity + 1) * (maxConstructors + 2) + maxMails) * letter-words
 
 -- for each counter the ceilings, a bit each
 abbrev pub counter-masks : ℕ

@@ -1,13 +1,18 @@
 // Cleared arrays. Each is made by a function whose contract says how long it is and that all is 0: so no caller's
 // proof counts it out. Some have a size of their own; those that hold any message go by the limits.
+use model::MAX_ARITY;
 use model::MAX_CEILINGS;
+use model::MAX_CONSTRUCTORS;
 use model::MAX_COUNTERS;
+use model::MAX_MAILS;
 use model::MAX_NAMES;
 use model::MAX_ROWS;
 use model::MAX_WORDS;
+use model::OTHER_HEADS;
 ghost use Rattle.model.specs.Message.{maxWords};
 ghost use Rattle.rooms.specs.Cleared.{Cleared};
-ghost use Rattle.rooms.specs.Rooms.{row-room, name-sets, row-sets, counter-masks, holder-masks, limit-room};
+ghost use Rattle.rooms.specs.Rooms.{row-room, name-sets, row-sets, fitting-sets};
+ghost use Rattle.rooms.specs.Rooms.{letter-codes, letter-sets, counter-masks, holder-masks, limit-room};
 
 // specs/Rooms.antt says what each of these is for.
 const ROW_ROOM: usize = MAX_ROWS + 2;
@@ -17,6 +22,15 @@ const SET_WORDS: usize = MAX_ROWS / 64 + 1;
 const NAME_SETS: usize = (MAX_NAMES + 1) * SET_WORDS;
 
 const ROW_SETS: usize = MAX_ROWS * SET_WORDS;
+
+const FITTING_SETS: usize = MAX_ROWS * (MAX_NAMES / 64 + 1);
+
+const LETTER_CODES: usize = MAX_COUNTERS + 1;
+
+const LETTER_WORDS: usize = MAX_COUNTERS / 64 + 1;
+
+const LETTER_SETS: usize = ((MAX_ARITY + 1) * (MAX_CONSTRUCTORS + OTHER_HEADS) + MAX_MAILS)
+    * LETTER_WORDS;
 
 const COUNTER_MASKS: usize = MAX_COUNTERS * 4;
 
@@ -122,6 +136,27 @@ pub fn row_sets() -> [u64; ROW_SETS]
     ensures { λ r. ⌜ Cleared row-sets r ⌝ }
 {
     [0; ROW_SETS]
+}
+
+// A set of names for each row.
+pub fn fitting_sets() -> [u64; FITTING_SETS]
+    ensures { λ r. ⌜ Cleared fitting-sets r ⌝ }
+{
+    [0; FITTING_SETS]
+}
+
+// A number for each letter, and one more.
+pub fn letter_codes() -> [u64; LETTER_CODES]
+    ensures { λ r. ⌜ Cleared letter-codes r ⌝ }
+{
+    [0; LETTER_CODES]
+}
+
+// A set of letters for each digit and what it is, and for each mail entry.
+pub fn letter_sets() -> [u64; LETTER_SETS]
+    ensures { λ r. ⌜ Cleared letter-sets r ⌝ }
+{
+    [0; LETTER_SETS]
 }
 
 // A set of ceilings for each counter.

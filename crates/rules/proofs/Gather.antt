@@ -3,17 +3,16 @@ use Prim.Native.Nat.{ℕ, zero, suc, _+_, _-_, _≤_, _<_}
 use native.Mathlib.Omega.{arith}
 use native.Mathlib.Numerals.{add-one}
 use mathlib.Core.Path.{_≡_, refl, sym, _∙_, ap, ap₂}
-use mathlib.Core.Bool.{Bool, true, false}
+use mathlib.Core.Bool.{true, false}
 use mathlib.Core.List.{List, [], _∷_, _++_, append-assoc, append-nil}
 use lib.Dec.{eqb}
 use borrow.Author.Tests.{eq-eqb, ne-eqb}
-use Rattle.model.specs.Index.{gatherIn, gather, count}
+use Rattle.model.specs.Index.{gatherIn, gather, from-all}
 use Rattle.model.specs.Words.{Columns, left, right}
 use Rattle.model.specs.Rows.{Program, branch, past-items}
 use Rattle.model.specs.Heads.{branch-rows}
-use Rattle.model.specs.Rules.{from-each, from-all}
-use Rattle.model.proofs.Logic.{test}
-use Rattle.model.proofs.Index.{gather-end, gather-turn, count-split, count-last, count-last-miss}
+use Rattle.model.specs.Rules.{from-each}
+use Rattle.model.proofs.Index.{gather-end, gather-turn}
 use Rattle.lists.specs.Lists.{Ascending, range-from, range-to}
 use Rattle.lists.proofs.Rising.{place-upto, begins-before, begins-within, begins-behind, begins-order}
 use Rattle.positions.specs.Positions.{branch-row}
@@ -66,30 +65,6 @@ gather-part a b e f g l m front middle back =
     gather-split 0 a e f (omega arith) (omega arith) ∙
     (ap₂ (λ xs ys. xs ++ ys) (gather-none 0 a f (λ k x y. front k y)) (gather-split a b e f l m) ∙
     (ap₂ (λ xs ys. xs ++ ys) (gather-same a b f g middle) (gather-none b e f back) ∙ append-nil (gather a b g)))
-
--- what the indices that pass give, one after the other: index k is the one that so many pass before
-gather-counted-in : {A : Type 0} (h : ℕ → Bool) (f g : ℕ → List A) (a n : ℕ) → ((k : ℕ) → a ≤ k → k < a + n → h k ≡ true → f k ≡ g (count 0 k h)) → ((k : ℕ) → a ≤ k → k < a + n → h k ≡ false → f k ≡ []) → gather a (a + n) f ≡ gather (count 0 a h) (count 0 (a + n) h) g
-gather-counted-in h f g a zero hit miss =
-    let z : a + zero ≡ a = omega arith in
-    rw z (gather-end a a f (omega arith) ∙ sym (gather-end (count 0 a h) (count 0 a h) g (omega arith)))
-gather-counted-in h f g a (suc n) hit miss =
-    let z : a + suc n ≡ a + n + 1 = omega arith in
-    let before = gather-counted-in h f g a n (λ k x y. hit k x (omega arith)) (λ k x y. miss k x (omega arith)) in
-    let up = count-up a n in
-    rw z (gather-last a (a + n) f (omega arith) ∙
-    (test (h (a + n))
-    (λ t. let e = count-last 0 (a + n) h (omega arith) t in
-    rw e (ap₂ (λ xs ys. xs ++ ys) before (hit (a + n) (omega arith) (omega arith) t) ∙ sym (gather-last (count 0 a h) (count 0 (a + n) h) g up)))
-    (λ t. let e = count-last-miss 0 (a + n) h (omega arith) t in
-    rw e (ap₂ (λ xs ys. xs ++ ys) before (miss (a + n) (omega arith) (omega arith) t) ∙ append-nil (gather (count 0 a h) (count 0 (a + n) h) g)))))
-  where
-    count-up : (a n : ℕ) → count 0 a h ≤ count 0 (a + n) h
-    count-up a n = let e = count-split 0 a (a + n) h (omega arith) (omega arith) in omega arith
-
-pub gather-counted : {A : Type 0} (h : ℕ → Bool) (f g : ℕ → List A) (a e : ℕ) → a ≤ e → ((k : ℕ) → a ≤ k → k < e → h k ≡ true → f k ≡ g (count 0 k h)) → ((k : ℕ) → a ≤ k → k < e → h k ≡ false → f k ≡ []) → gather a e f ≡ gather (count 0 a h) (count 0 e h) g
-gather-counted h f g a e l hit miss =
-    let z : a + (e - a) ≡ e = omega arith in
-    rw z at (gather-counted-in h f g a (e - a) (λ k x y. hit k x (omega arith)) (λ k x y. miss k x (omega arith)))
 
 -- the indices from a on
 gatherIn-from : {A : Type 0} (n i a : ℕ) (f : ℕ → List A) → gatherIn n i (λ k. f (a + k)) ≡ gatherIn n (a + i) f

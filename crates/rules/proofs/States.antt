@@ -11,7 +11,8 @@ use Rattle.model.specs.Words.{left, right, columns}
 use Rattle.model.specs.Rows.{Program, program, tag, is-head}
 use Rattle.model.specs.Tables.{Tables, tables, entries, State, state-index}
 use Rattle.model.proofs.Index.{first-is}
-use Rattle.model.proofs.Numbering.Counters.{class-at-most, tag-inside}
+use Rattle.model.proofs.Numbering.Counters.{tag-inside}
+use Rattle.system_letters.proofs.Tables.{class-at-most}
 use Rattle.model.proofs.Parse.Locations.{head-range}
 use Rattle.model.proofs.Parse.Lengths.{row-within}
 use Rattle.lists.specs.Ready.{Ready}

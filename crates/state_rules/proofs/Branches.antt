@@ -1,6 +1,6 @@
 -- The rules of a case and of a receive, branch by branch.
 use Prim.Native.Nat.{ℕ, zero, suc, _+_, _*_, _-_, _≤_, _<_}
-use native.Mathlib.Nat.{suc-mul}
+use native.Mathlib.Nat.{suc-mul, mul-le-mul-right}
 use native.Mathlib.Numerals.{add-one}
 use native.Mathlib.Omega.{arith}
 use mathlib.Core.Path.{_≡_, refl, sym, _∙_, ap}
@@ -8,22 +8,21 @@ use mathlib.Core.Bool.{Bool, true, false, not}
 use mathlib.Core.List.{List, [], _∷_}
 use lib.ListN.{length, getD}
 use lib.Dec.{eqb, leb}
-use borrow.Author.Tests.{leb-true, not-true, not-false}
-use Rattle.bits.specs.Bits.{bit}
+use borrow.Author.Tests.{eqb-true, leb-true, not-true}
+use Rattle.bits.specs.Bits.{bit, Row}
 use Rattle.model.specs.declared.Sizes.{Sizes}
 use Rattle.model.specs.Index.{gather, only}
-use Rattle.model.specs.Limits.{maxBranches}
+use Rattle.model.specs.Limits.{maxDepth, maxBranches, maxCounters}
+use Rattle.model.specs.Keys.{ascending}
 use Rattle.model.specs.Words.{left, right, columns}
-use Rattle.model.specs.Rows.{Program, program, size, tag, num, kind, branch, step, expression-step, is-branch-count, past-items, case}
+use Rattle.model.specs.Rows.{Program, program, size, tag, num, kind, branch, step, expression-step, is-branch-count, past-items, case, receive}
 use Rattle.model.specs.Heads.{branch-rows, branch-body, head-at, cases, receives}
-use Rattle.model.specs.Letters.{letters}
 use Rattle.model.specs.Tables.{Tables, tables, entries, some-of, state-at, state-index, onward}
 use Rattle.model.specs.Closed.{may-take}
-use Rattle.model.specs.Counters.{letter-index}
-use Rattle.model.specs.Rules.{quiet, reads, rule, from-letters, letter-of-some, state-rules}
-use Rattle.model.proofs.Logic.{test, true-false, and-right}
+use Rattle.model.specs.Counters.{letter-count, counter-count}
+use Rattle.model.specs.Rules.{quiet, reads, rule, from-each, letters-read, state-rules}
+use Rattle.model.proofs.Logic.{test, and-right}
 use Rattle.model.proofs.Heads.{head-case, head-receive}
-use Rattle.model.proofs.Numbering.Letters.{key-room}
 use Rattle.model.proofs.Parse.Grammar.{fits-some}
 use Rattle.model.proofs.Parse.Reached.{stands-only}
 use Rattle.model.proofs.Parse.Locations.{Location, location-follows}
@@ -31,16 +30,16 @@ use Rattle.lists.specs.Ready.{Ready}
 use Rattle.positions.specs.Positions.{branch-row, Run, Ends}
 use Rattle.positions.specs.Branches.{Branch-bits}
 use Rattle.positions.proofs.Standing.{run-first, run-prefix, run-body, case-run, receive-run}
-use Rattle.system_letters.specs.Letters.{Class-letters}
-use Rattle.system_letters.proofs.Pairs.{pairs-told}
+use Rattle.values.proofs.Members.{each-none}
+use Rattle.matching.specs.Patterns.{Pattern}
+use Rattle.system_letters.specs.Letters.{Class-letters, letter-width, Found}
 use Rattle.rules.specs.Derived.{Rule-room}
+use Rattle.rules.specs.Listed.{kind-effect}
 use Rattle.rules.proofs.States.{class-low}
 use Rattle.rules.proofs.Gather.{gather-same, gather-none, rows-range}
-use Rattle.state_rules.specs.Heads.{Pair-room, case-turn, class-turn, receive-turn}
-use Rattle.pattern_letters.specs.Takes.{takes-letter}
-use Rattle.pattern_letters.proofs.Letters.{taken-letter, taken-there, taken-some}
-use Rattle.state_rules.proofs.Heads.{only-both, only-no, kept, tag-head, here}
-use Rattle.state_rules.proofs.Letters.{letters-paired}
+use Rattle.state_rules.specs.Heads.{letter-rules, case-turn, class-turn, receive-turn, Letter-room}
+use Rattle.state_rules.proofs.Heads.{only-both, kept, tag-head, here}
+use Rattle.state_rules.proofs.Letters.{class-order, letters-ruled, read-there, letter-room}
 
 -- the rows of branches
 rows-length : (p : Program) (m q : ℕ) → length (branch-rows p m q) ≡ m
@@ -144,53 +143,62 @@ module _ {ws : List ℕ} {s : Sizes} (h : Ready ws s) where
   case-kept branches x q₀ m b q f here e y a g n u v = kept y _ _ _ g n (λ z. ap (λ k. rule e k quiet) (ap (λ k. state-index t (onward (state-at t x) (branch-body p k))) (a .at) ∙ (ap (λ k. state-index t (onward (state-at t x) k)) (sym u) ∙ sym v)))
 
   -- the rules of a receive
-  receive-turned : (starts ls : List ℕ) → Class-letters p t starts ls → (c q to e : ℕ) (b : Bool) → c ≤ size p → b ≡ some-of (t .mail) c (may-take p t q) → elim b [ true ↦ class-turn (s .states) starts ls (takes-letter p t c q) reads to c e | false ↦ [] ] ≡ from-letters p (letter-of-some p (t .mail) c (may-take p t q)) (λ l. rule e to (reads (letter-index p t c l)))
-  unfolding from-letters
-  receive-turned starts ls g c q to e true low f =
-      sym (letters-paired h starts ls g c low (letter-of-some p (t .mail) c (may-take p t q)) (takes-letter p t c q) reads to e
-      (λ l o w. taken-there h c q l w)
-      (λ l o w. taken-letter h c q (sym f) l o w))
-  receive-turned starts ls g c q to e false low f =
-      sym (gather-none 0 (letters p) _ (λ l x y. only-no _ _ (test (letter-of-some p (t .mail) c (may-take p t q) l) (λ z. true-false (taken-some h c q l z) (sym f)) (λ z. z))))
-
-  pub receive-gathered : (bits starts ls : List ℕ) → Branch-bits p t bits → Class-letters p t starts ls → (x r m e : ℕ) → tag p r ≡ 9 → x < s .states → r ≡ right (t .states) x → m ≡ num p r → gather 0 m (receive-turn p t (state-at t x) starts ls (getD bits x 0) (r + 1) e) ≡ state-rules p t e (state-at t x)
-  unfolding state-rules kind receive-turn program tables entries columns state-at
-  receive-gathered bits starts ls g n x r m e is low same u =
-      let c = left (t .states) x in
+  pub receive-gathered : (x r m e : ℕ) → tag p r ≡ 9 → r ≡ right (t .states) x → m ≡ num p r → gather 0 m (receive-turn p t (state-at t x) (r + 1) e) ≡ state-rules p t e (state-at t x)
+  unfolding state-rules kind receive-turn letter-rules state-at
+  receive-gathered x r m e is same u =
       let head : head-at p (right (t .states) x) ≡ receives (branch-rows p m (r + 1)) = ap (head-at p) (sym same) ∙ (head-receive p r (rw is) ∙ ap (λ n. receives (branch-rows p n (r + 1))) (sym u)) in
       rw (head, state-rules)
-      (gather-same 0 m _ _ (λ b y z.
-      let q = branch-row p (r + 1) b in
-      let bit′ : bit (getD bits x 0) b ≡ some-of (t .mail) c (may-take p t q) = g .receive-bit x b (branch-rows p m (r + 1)) low head (omega (arith, rows-length p m (r + 1))) ∙ ap (λ q. some-of (t .mail) c (may-take p t q)) (rows-at p m (r + 1) b z) in
-      receive-turned starts ls n c q (state-index t (onward (state-at t x) (branch-body p q))) e (bit (getD bits x 0) b) (class-low h x low) bit′) ∙
-      sym (rows-range p m (r + 1) (λ q. from-letters p (letter-of-some p (t .mail) c (may-take p t q)) (λ l. rule e (state-index t (onward (state-at t x) (branch-body p q))) (reads (letter-index p t c l))))))
+      (sym (rows-range p m (r + 1) (λ q. letter-rules p t reads (state-index t (onward (state-at t x) (branch-body p q))) (left (t .states) x) (from-each (t .mail) (left (t .states) x) (letters-read p t q)) e)))
 
-  module _ (starts ls bits : List ℕ) (c x q₀ m b q e : ℕ) (y : Bool) (class : c ≡ left (t .states) x) (a : Branch-at p q₀ m b q) (f : y ≡ bit (getD bits x 0) b) where
-    pub receive-kept : (k to : ℕ) → not y ≡ false → k ≡ branch-body p q → to ≡ state-index t (onward (state-at t x) k) → class-turn (s .states) starts ls (takes-letter p t c q) reads to c e ≡ receive-turn p t (state-at t x) starts ls (getD bits x 0) q₀ e b
-    unfolding receive-turn tables entries columns state-at
-    receive-kept k to n u v = rw (sym f ∙ not-false y n, receive-turn, a .at, ← u, ← v, ← class)
+  -- a branch that may match nothing reads nothing
+  reads-nothing : (c q : ℕ) → some-of (t .mail) c (may-take p t q) ≡ false → from-each (t .mail) c (letters-read p t q) ≡ []
+  unfolding from-each letters-read
+  reads-nothing c q none =
+      gather-none 0 (t .mail .size) _
+      (λ i a b. test (eqb (left (t .mail) i) c)
+      (λ z. rw (z, each-none (t .mail) c (may-take p t q) none (right (t .mail) i) (record { at = i; below = b; first = eqb-true (left (t .mail) i) c z; second = refl }), letters-read))
+      (λ z. rw z))
 
-    pub receive-skipped : not y ≡ true → receive-turn p t (state-at t x) starts ls (getD bits x 0) q₀ e b ≡ []
-    unfolding receive-turn
-    receive-skipped n = rw (sym f ∙ not-true y n, receive-turn)
+  module _ (x q₀ m b q e : ℕ) (y : Bool) (a : Branch-at p q₀ m b q) where
+    pub receive-skipped : (bits : List ℕ) → Branch-bits p t bits → (r : ℕ) → tag p r ≡ 9 → x < s .states → r ≡ right (t .states) x → m ≡ num p r → q₀ ≡ r + 1 → b < m → y ≡ bit (getD bits x 0) b → not y ≡ true → receive-turn p t (state-at t x) q₀ e b ≡ []
+    unfolding receive-turn letter-rules kind ascending tables entries columns state-at
+    receive-skipped bits g r is low same u begin less f n =
+        let c = left (t .states) x in
+        let head : head-at p (right (t .states) x) ≡ receives (branch-rows p m (r + 1)) = ap (head-at p) (sym same) ∙ (head-receive p r (rw is) ∙ ap (λ n. receives (branch-rows p n (r + 1))) (sym u)) in
+        let bit′ : bit (getD bits x 0) b ≡ some-of (t .mail) c (may-take p t (branch-row p (r + 1) b)) = g .receive-bit x b (branch-rows p m (r + 1)) low head (omega (arith, rows-length p m (r + 1))) ∙ ap (λ q. some-of (t .mail) c (may-take p t q)) (rows-at p m (r + 1) b less) in
+        rw (begin, reads-nothing c (branch-row p (r + 1) b) (sym bit′ ∙ (sym f ∙ not-true y n)))
+
+    pub receive-kept : (starts : List ℕ) → Class-letters p t starts → (w : ℕ) (found : List ℕ) → w ≡ letter-width p t → (c k to : ℕ) → c ≡ left (t .states) x → x < s .states → Found p t c (from-each (t .mail) c (letters-read p t q)) found → k ≡ branch-body p q → to ≡ state-index t (onward (state-at t x) k) → class-turn (s .states) starts w found (kind-effect receive) to c e ≡ receive-turn p t (state-at t x) q₀ e b
+    unfolding receive-turn letter-rules kind-effect state-at program columns
+    receive-kept starts g w found wide c k to class low f u v =
+        letters-ruled h starts g c (omega (arith, class-low h x low)) (from-each (t .mail) c (letters-read p t q)) (read-there h c q) w found wide f (kind-effect receive) to e ∙
+        rw (a .at, ← u, ← v, ← class)
+
+  -- the pattern of a branch
+  pub branch-pattern : (q₀ m b q : ℕ) → Branch-at p q₀ m b q → b < m → Pattern p maxDepth q
+  branch-pattern q₀ m b q a low =
+      let z : m - b ≡ suc (m - (b + 1)) = omega arith in
+      let (x, front, tail, same, next) = run-first q (m - (b + 1)) (rw z at (a .run)) in
+      record { end = branch-body p q; reads = front .reads }
 
   -- the room for a branch's letters
   next-most : (L b : ℕ) → (b + 1) * L ≡ b * L + L
   next-most L b = let z : b + 1 ≡ suc b = omega arith in rw z (suc-mul b L)
 
-  pub receive-room : (starts ls : List ℕ) → Class-letters p t starts ls → (tos₀ others₀ tos others : List ℕ) → Rule-room s tos₀ others₀ → length tos ≡ length tos₀ → length others ≡ length others₀ → (n b m c : ℕ) → c ≤ s .rows → b < m → m ≤ maxBranches → n ≤ b * (s .constructors + 2) → Pair-room starts tos others n c
-  receive-room starts ls g tos₀ others₀ tos others room e f n b m c low l k most =
-      let (x, y, z, w, v) = pairs-told h starts ls g c _ _ low refl refl in
-      let all = key-room (s .constructors + 2) b maxBranches (omega arith) in
-      record { tos-room = omega (arith, room .letters); others-room = omega (arith, room .alike); low = omega (arith, h .limits .constructors) }
+  pub receive-room : (starts : List ℕ) → Class-letters p t starts → counter-count p t ≤ maxCounters → (w : ℕ) → w ≡ letter-width p t → (found tos₀ others₀ tos others : List ℕ) → Row found (letter-width p t) 0 → Rule-room ws s tos₀ others₀ → length tos ≡ length tos₀ → length others ≡ length others₀ → (n b m c : ℕ) → c ≤ s .rows → b < m → m ≤ maxBranches → n ≤ b * letter-count p t → Letter-room (s .states) starts found tos others w n c
+  unfolding program columns counter-count
+  receive-room starts g few w wide found tos₀ others₀ tos others row room e f n b m c low l k most =
+      let less : b + 1 ≤ maxBranches = omega arith in
+      let all = mul-le-mul-right (letter-count p t) less in
+      let next = next-most (letter-count p t) b in
+      letter-room h starts g few w wide found tos others row n c low (omega (arith, room .letters, class-order h starts g c low)) (omega arith) (omega (arith, room .alike))
 
-  pub receive-most : (starts ls : List ℕ) → Class-letters p t starts ls → (n n′ b c : ℕ) → c ≤ s .rows → n ≤ b * (s .constructors + 2) → n′ + getD starts c 0 ≤ n + getD starts (c + 1) 0 → n′ ≤ (b + 1) * (s .constructors + 2)
-  receive-most starts ls g n n′ b c low most more =
-      let (x, y, z, w, v) = pairs-told h starts ls g c _ _ low refl refl in
-      omega (arith, next-most (s .constructors + 2) b)
+  pub receive-most : (starts : List ℕ) → Class-letters p t starts → (n n′ b c : ℕ) → c ≤ s .rows → n ≤ b * letter-count p t → n′ + getD starts c 0 ≤ n + getD starts (c + 1) 0 → n′ ≤ (b + 1) * letter-count p t
+  unfolding program columns
+  receive-most starts g n n′ b c low most more = omega (arith, class-order h starts g c low, next-most (letter-count p t) b)
 
-  pub most-kept : (n b : ℕ) → n ≤ b * (s .constructors + 2) → n ≤ (b + 1) * (s .constructors + 2)
-  most-kept n b most = omega (arith, next-most (s .constructors + 2) b)
+  pub most-kept : (n b : ℕ) → n ≤ b * letter-count p t → n ≤ (b + 1) * letter-count p t
+  most-kept n b most = omega (arith, next-most (letter-count p t) b)
 
   pub receive-class : (i c : ℕ) → i < s .states → c ≡ left (t .states) i → c ≤ s .rows
   receive-class i c l e = omega (arith, class-low h i l)

@@ -14,19 +14,19 @@ use Rattle.model.specs.Words.{left, right, columns}
 use Rattle.model.specs.Rows.{Program, program, size, tag, num, kind, is-head, give, call, send, spawn, case, receive, other}
 use Rattle.model.specs.Scopes.{rest}
 use Rattle.model.specs.Heads.{call-at, is-function, body, takes, head-at, gives, calls, spawns}
-use Rattle.model.specs.Tables.{Tables, tables, entries, is-value, state, state-at, state-index, onward}
+use Rattle.model.specs.Tables.{Tables, tables, entries, state, state-at, state-index, onward}
 use Rattle.model.specs.Closed.{entered, begun, waits-for, resumed}
 use Rattle.model.specs.Rules.{quiet, starts, rule, state-rules}
 use Rattle.model.proofs.Logic.{test, and-left, and-right}
 use Rattle.model.proofs.Heads.{by-kind, tag-is, head-give, head-build, head-function, head-call, head-spawn, head-self, head-other}
-use Rattle.model.proofs.Numbering.Counters.{class-at-most, tag-inside}
 use Rattle.model.proofs.Parse.Locations.{Location, head-range, location-known}
 use Rattle.model.proofs.Parse.Lengths.{row-location, row-within}
-use Rattle.lists.specs.Lists.{range-from, range-to, head-from, head-to, Starts}
+use Rattle.lists.specs.Lists.{range-from, range-to, head-from, head-to}
 use Rattle.lists.specs.Ready.{Ready}
 use Rattle.lists.proofs.Facts.{rows-fit, columns-whole, flow-form, flow-rises, states-rise}
-use Rattle.lists.proofs.Rising.{begins-within, begins-order, heads-before, heads-within, heads-behind, heads-order, place-upto}
-use Rattle.positions.proofs.Standing.{body-row, call-name, spawn-name, send-names}
+use Rattle.lists.proofs.Rising.{begins-within, heads-before, heads-within, heads-behind, heads-order, place-upto}
+use Rattle.positions.proofs.Standing.{call-name, spawn-name, send-names}
+use Rattle.values.proofs.Names.{flow-upto}
 use Rattle.rules.proofs.Gather.{gather-none, gather-part, each-range}
 use Rattle.rules.proofs.States.{location-low}
 use Rattle.state_rules.specs.Heads.{Plain, give-turn, call-turn, spawn-turn}
@@ -83,31 +83,12 @@ module _ {ws : List ℕ} {s : Sizes} (h : Ready ws s) where
     known : kind (tag p r) ≡ other → ⊥
     known e = location-known here (head-other p r e)
 
-  -- a name's entries in the flow list
-  pub name-starts : (flow-at : List ℕ) (a from to : ℕ) → Starts (t .flow) (s .names) flow-at → a < s .names → from ≡ getD flow-at a 0 → to ≡ getD flow-at (a + 1) 0 → (from ≡ range-from (t .flow) a) × (to ≡ range-to (t .flow) a)
-  unfolding range-from range-to
-  name-starts flow-at a from to g l e f = (e ∙ g .start a (omega arith), f ∙ g .start (a + 1) (omega arith))
-
-  pub flow-order : (a from to : ℕ) → from ≡ range-from (t .flow) a → to ≡ range-to (t .flow) a → (from ≤ to) × (to ≤ s .flows)
-  unfolding range-from range-to tables entries columns
-  flow-order a from to e f = (omega (arith, begins-order (t .flow) [] a (flow-rises h)), omega (arith, place-upto (t .flow) [] ((a + 1) ∷ 0 ∷ 0 ∷ [])))
-
-  -- a value is at most R
-  value-low : (v : ℕ) → is-value p v ≡ true → v ≤ s .rows
-  unfolding is-value program columns
-  value-low v e =
-      test (eqb (tag p v) 2)
-      (λ z. let y = row-within (columns-whole h) v (omega (arith, eqb-true (tag p v) 2 z)) in omega arith)
-      (λ z. test (is-function p v)
-      (λ y. let x = body-row (rows-fit h) (columns-whole h) v y in omega arith)
-      (λ y. class-at-most p (λ r u. tag-inside ws s r (omega arith)) v (rw (z, y) at e)))
-
   -- the values of a name ascend
   pub value-from : (a from j : ℕ) → from ≡ range-from (t .flow) a → from ≤ j → j < range-to (t .flow) a → (j - from ≤ right (t .flow) j) × (right (t .flow) j ≤ s .rows)
-  unfolding range-from range-to tables entries columns
+  unfolding range-from range-to program tables entries columns
   value-from a from j e l m =
       let upto = place-upto (t .flow) [] ((a + 1) ∷ 0 ∷ 0 ∷ []) in
-      (climbs (j - from) j refl l m, value-low (right (t .flow) j) (flow-form h .in-range j (omega arith) .1))
+      (climbs (j - from) j refl l m, flow-upto h j (omega arith))
     where
       climbs : (n j : ℕ) → n ≡ j - from → from ≤ j → j < range-to (t .flow) a → n ≤ right (t .flow) j
       climbs zero j x y z = omega arith

@@ -1,5 +1,5 @@
-mod Heads
-mod Letters
-mod Branches
+pub mod Heads
+pub mod Letters
+pub mod Branches
 mod Sends
 mod Done

@@ -7,6 +7,7 @@ use lists::state_index;
 use lists::state_location;
 use lists::state_return;
 use lists::word;
+use model::MAX_COUNTERS;
 use model::Sizes;
 use model::TAG_CALL;
 use model::TAG_CASE;
@@ -16,7 +17,8 @@ use model::TAG_SEND;
 use model::TAG_SPAWN;
 use onward::called;
 use onward::onward;
-use pattern_letters::takes_letter;
+use pattern_letters::branch_letters;
+use pattern_letters::sent_letters;
 use positions::body;
 use positions::branch_body;
 use positions::is_class;
@@ -25,31 +27,35 @@ use positions::takes;
 use program::rows::num;
 use program::rows::tag;
 use sets::holds;
+use system_letters::letter_width;
 ghost use mathlib.Core.Path.{_≡_};
 ghost use mathlib.Core.Bool.{true};
 ghost use mathlib.Core.List.{[]};
 ghost use Prim.Native.Nat.{_+_, _≤_, _<_};
 ghost use lib.ListN.{length, getD};
-ghost use Rattle.bits.specs.Bits.{bit, member};
+ghost use Rattle.bits.specs.Bits.{bit};
 ghost use Rattle.model.specs.Words.{left, right};
-ghost use Rattle.model.specs.Rows.{program, tag, is-head, give, call, send, spawn, self, case, receive};
+ghost use Rattle.model.specs.Rows.{program, tag, is-head, Kind, give, call, send, spawn, self};
+ghost use Rattle.model.specs.Rows.{case, receive};
 ghost use Rattle.model.specs.Scopes.{rest};
 ghost use Rattle.model.specs.Tables.{tables, state, onward, state-at, state-index};
 ghost use Rattle.model.specs.Limits.{maxBranches, maxCounters};
 ghost use Rattle.model.specs.Closed.{state-closed};
 ghost use Rattle.model.specs.Counters.{counter-count};
 ghost use Rattle.positions.specs.Branches.{Branch-bits};
-ghost use Rattle.model.specs.Rules.{puts, reads, state-rules};
+ghost use Rattle.model.specs.Rules.{state-rules};
 ghost use Rattle.positions.specs.Positions.{Ends};
-ghost use Rattle.rules.specs.Listed.{State-rules};
+ghost use Rattle.rules.specs.Listed.{kind-effect, State-rules};
 ghost use Rattle.rules.specs.Added.{Added};
-ghost use Rattle.values.specs.Values.{width, Flow-sets};
-ghost use Rattle.rules.specs.Derived.{Rule-room, Rule-tables};
+ghost use Rattle.rules.specs.Derived.{Rule-room, Reads, Rule-tables};
 ghost use Rattle.lists.specs.Lists.{Starts};
-ghost use Rattle.system_letters.specs.Letters.{Name-letters, Class-letters};
+ghost use Rattle.system_letters.specs.Letters.{Class-letters, Letter-sets};
 ghost use Rattle.lists.specs.Ready.{Ready};
-ghost use Rattle.state_rules.specs.Heads.{Plain, Pair-room, class-turn};
-ghost use Rattle.pattern_letters.specs.Takes.{takes-letter};
+ghost use Rattle.state_rules.specs.Heads.{Plain, Letter-room, class-turn};
+ghost use Rattle.pattern_letters.specs.Picked.{Match-tables};
+
+// A set of letters has at most so many words: a bit for each letter, one word more where they fill all.
+const LETTER_WORDS: usize = MAX_COUNTERS / 64 + 1;
 
 // The state at row r with the class and the return of state i.
 fn onto(ws: &[u16], s: Sizes, at: &[u16], i: usize, r: usize) -> u16
@@ -173,7 +179,7 @@ fn spawn_rules(
     requires { ⌜ Starts (tables (now ws) s .flow) (s .names) (now «flow_at») ⌝ }
     requires { ⌜ (i < s .states) × (r ≡ right (tables (now ws) s .states) i) ⌝ }
     requires { ⌜ tag (program (now ws) s) r ≡ 6 ⌝ }
-    requires { ⌜ Rule-room s (now tos) (now others) ⌝ }
+    requires { ⌜ Rule-room (now ws) s (now tos) (now others) ⌝ }
     ensures { λ n. ⌜ Added spawn (now (tos .entry)) (now (others .entry)) 0 (now (tos .exit)) (now (others .exit)) n
         (λ e. state-rules (program (now (ws .entry)) s) (tables (now (ws .entry)) s) e
         (state-at (tables (now (ws .entry)) s) i)) ⌝ }
@@ -219,36 +225,29 @@ fn rest_rules(
     1
 }
 
-// The letters of the name m, put into the mail of class d; n rules stand in the lists.
-fn put_letters(
-    ws: &[u16],
+// A rule to the state `next` for each letter of class d that set 0 has, with its counter; n rules stand in the lists.
+fn letter_rules(
     s: Sizes,
-    names: &[u64],
     letter_at: &[u16],
-    letters: &[u16],
-    m: usize,
+    found: &[u64],
+    words: usize,
     d: usize,
     next: u16,
     n: usize,
     tos: &mut [u16],
     others: &mut [u16],
 ) -> usize
-    requires { ⌜ Ready (now ws) s ⌝ }
-    requires { ⌜ Name-letters (program (now ws) s) (tables (now ws) s) (now names) ⌝ }
-    requires { ⌜ Class-letters (program (now ws) s) (tables (now ws) s) (now «letter_at») (now letters) ⌝ }
-    requires { ⌜ (m < s .names) × (d ≤ s .rows) ⌝ }
-    requires { ⌜ Pair-room (now «letter_at») (now tos) (now others) n d ⌝ }
-    ensures { λ e. ⌜ Added send (now (tos .entry)) (now (others .entry)) n (now (tos .exit)) (now (others .exit)) e
-        (class-turn (s .states) (now («letter_at» .entry)) (now (letters .entry))
-        (member (now (names .entry)) 2 m) puts next d) ⌝ }
+    requires { ⌜ Letter-room (s .states) (now «letter_at») (now found) (now tos) (now others) words n d ⌝ }
+    ensures { λ e. ⌜ ((k : Kind) → Added k (now (tos .entry)) (now (others .entry)) n (now (tos .exit))
+        (now (others .exit)) e
+        (class-turn (s .states) (now («letter_at» .entry)) words (now (found .entry)) (kind-effect k) next d)) ⌝ }
     ensures { λ e. ⌜ e + getD (now («letter_at» .entry)) d 0 ≤ n + getD (now («letter_at» .entry)) (d + 1) 0 ⌝ }
 {
     let from = word(letter_at, d);
     let to = word(letter_at, d + 1);
     let mut e = n;
     for y in from..to {
-        let l = word(letters, y);
-        if !holds(names, 2, m, l) {
+        if !holds(found, words, 0, y) {
             continue;
         }
         let x = s.states + y;
@@ -265,9 +264,8 @@ fn send_rules(
     s: Sizes,
     afters: &[u16],
     flow_at: &[u16],
-    names: &[u64],
     letter_at: &[u16],
-    letters: &[u16],
+    letters: &[u64],
     at: &[u16],
     i: usize,
     r: usize,
@@ -277,13 +275,13 @@ fn send_rules(
     requires { ⌜ Ready (now ws) s ⌝ }
     requires { ⌜ Ends (program (now ws) s) (now afters) ⌝ }
     requires { ⌜ Starts (tables (now ws) s .flow) (s .names) (now «flow_at») ⌝ }
-    requires { ⌜ Name-letters (program (now ws) s) (tables (now ws) s) (now names) ⌝ }
-    requires { ⌜ Class-letters (program (now ws) s) (tables (now ws) s) (now «letter_at») (now letters) ⌝ }
+    requires { ⌜ Class-letters (program (now ws) s) (tables (now ws) s) (now «letter_at») ⌝ }
+    requires { ⌜ Letter-sets (program (now ws) s) (tables (now ws) s) (now letters) ⌝ }
     requires { ⌜ (i < s .states) × (r ≡ right (tables (now ws) s .states) i) ⌝ }
     requires { ⌜ tag (program (now ws) s) r ≡ 5 ⌝ }
     requires { ⌜ state-closed (program (now ws) s) (tables (now ws) s) (state-at (tables (now ws) s) i) ≡ true ⌝ }
     requires { ⌜ counter-count (program (now ws) s) (tables (now ws) s) ≤ maxCounters ⌝ }
-    requires { ⌜ Rule-room s (now tos) (now others) ⌝ }
+    requires { ⌜ Rule-room (now ws) s (now tos) (now others) ⌝ }
     ensures { λ n. ⌜ Added send (now (tos .entry)) (now (others .entry)) 0 (now (tos .exit)) (now (others .exit)) n
         (λ e. state-rules (program (now (ws .entry)) s) (tables (now (ws .entry)) s) e
         (state-at (tables (now (ws .entry)) s) i)) ⌝ }
@@ -293,25 +291,16 @@ fn send_rules(
     let next = behind(ws, s, afters, at, i, r);
     let from = word(flow_at, target);
     let to = word(flow_at, target + 1);
+    let words = letter_width(ws, s, letter_at);
+    let mut found = [0u64; LETTER_WORDS];
     let mut n = 0;
     for j in from..to {
         let d = flow_value(ws, s, j);
         if !is_class(ws, s, d) {
             continue;
         }
-        n = put_letters(
-            ws,
-            s,
-            names,
-            letter_at,
-            letters,
-            message,
-            d,
-            next,
-            n,
-            tos,
-            others,
-        );
+        sent_letters(ws, s, flow_at, letter_at, letters, message, d, &mut found);
+        n = letter_rules(s, letter_at, &found, words, d, next, n, tos, others);
     }
     n
 }
@@ -362,59 +351,16 @@ fn case_rules(
     n
 }
 
-// The letters of class d that the pattern at row q takes; n rules stand in the lists.
-fn take_letters(
-    ws: &[u16],
-    s: Sizes,
-    w: usize,
-    flows: &[u64],
-    names: &[u64],
-    letter_at: &[u16],
-    letters: &[u16],
-    q: usize,
-    d: usize,
-    next: u16,
-    n: usize,
-    tos: &mut [u16],
-    others: &mut [u16],
-) -> usize
-    requires { ⌜ Ready (now ws) s ⌝ }
-    requires { ⌜ Class-letters (program (now ws) s) (tables (now ws) s) (now «letter_at») (now letters) ⌝ }
-    requires { ⌜ d ≤ s .rows ⌝ }
-    requires { ⌜ Pair-room (now «letter_at») (now tos) (now others) n d ⌝ }
-    requires { ⌜ (w ≡ width (s .rows)) × Flow-sets (program (now ws) s) (tables (now ws) s) (now flows) ⌝ }
-    requires { ⌜ Name-letters (program (now ws) s) (tables (now ws) s) (now names) ⌝ }
-    ensures { λ e. ⌜ Added receive (now (tos .entry)) (now (others .entry)) n (now (tos .exit)) (now (others .exit)) e
-        (class-turn (s .states) (now («letter_at» .entry)) (now (letters .entry))
-        (takes-letter (program (now (ws .entry)) s) (tables (now (ws .entry)) s) d q) reads next d) ⌝ }
-    ensures { λ e. ⌜ e + getD (now («letter_at» .entry)) d 0 ≤ n + getD (now («letter_at» .entry)) (d + 1) 0 ⌝ }
-{
-    let from = word(letter_at, d);
-    let to = word(letter_at, d + 1);
-    let mut e = n;
-    for y in from..to {
-        let l = word(letters, y);
-        if !takes_letter(ws, s, w, flows, names, d, q, l) {
-            continue;
-        }
-        let x = s.states + y;
-        tos[e] = next;
-        others[e] = x as u16;
-        e += 1;
-    }
-    e
-}
-
 // A receive: each branch that may match, by the letters that it takes.
 fn receive_rules(
     ws: &[u16],
     s: Sizes,
     afters: &[u16],
     w: usize,
-    flows: &[u64],
+    fitting: &[u64],
     names: &[u64],
     letter_at: &[u16],
-    letters: &[u16],
+    letters: &[u64],
     branches: &[u16],
     at: &[u16],
     i: usize,
@@ -424,19 +370,24 @@ fn receive_rules(
 ) -> usize
     requires { ⌜ Ready (now ws) s ⌝ }
     requires { ⌜ Ends (program (now ws) s) (now afters) ⌝ }
-    requires { ⌜ Class-letters (program (now ws) s) (tables (now ws) s) (now «letter_at») (now letters) ⌝ }
+    requires { ⌜ Class-letters (program (now ws) s) (tables (now ws) s) (now «letter_at») ⌝ }
+    requires { ⌜ Letter-sets (program (now ws) s) (tables (now ws) s) (now letters) ⌝ }
+    requires { ⌜ Reads (program (now ws) s) (tables (now ws) s) (now letters) ⌝ }
     requires { ⌜ Branch-bits (program (now ws) s) (tables (now ws) s) (now branches) ⌝ }
     requires { ⌜ tag (program (now ws) s) r ≡ 9 ⌝ }
     requires { ⌜ (i < s .states) × (r ≡ right (tables (now ws) s .states) i) ⌝ }
-    requires { ⌜ Rule-room s (now tos) (now others) ⌝ }
-    requires { ⌜ (w ≡ width (s .rows)) × Flow-sets (program (now ws) s) (tables (now ws) s) (now flows) ⌝ }
-    requires { ⌜ Name-letters (program (now ws) s) (tables (now ws) s) (now names) ⌝ }
+    requires { ⌜ Rule-room (now ws) s (now tos) (now others) ⌝ }
+    requires { ⌜ counter-count (program (now ws) s) (tables (now ws) s) ≤ maxCounters ⌝ }
+    requires { ⌜ Match-tables (now ws) s w (now fitting) (now names) ⌝ }
     ensures { λ n. ⌜ Added receive (now (tos .entry)) (now (others .entry)) 0 (now (tos .exit)) (now (others .exit)) n
         (λ e. state-rules (program (now (ws .entry)) s) (tables (now (ws .entry)) s) e
         (state-at (tables (now (ws .entry)) s) i)) ⌝ }
 {
     let c = state_class(ws, s, i);
     let m = num(ws, s, r);
+    let words = letter_width(ws, s, letter_at);
+    let mut part = [0u64; LETTER_WORDS];
+    let mut found = [0u64; LETTER_WORDS];
     let mut q = r + 1;
     let mut n = 0;
     for b in 0..m {
@@ -447,21 +398,22 @@ fn receive_rules(
         if !may_match(branches, i, b) {
             continue;
         }
-        n = take_letters(
+        branch_letters(
             ws,
             s,
+            afters,
             w,
-            flows,
+            fitting,
             names,
             letter_at,
             letters,
-            row,
             c,
-            here,
-            n,
-            tos,
-            others,
+            row,
+            here as usize,
+            &mut part,
+            &mut found,
         );
+        n = letter_rules(s, letter_at, &found, words, c, here, n, tos, others);
     }
     n
 }
@@ -474,20 +426,20 @@ pub fn state_rules(
     afters: &[u16],
     flow_at: &[u16],
     w: usize,
-    flows: &[u64],
+    fitting: &[u64],
     names: &[u64],
     letter_at: &[u16],
-    letters: &[u16],
+    letters: &[u64],
     branches: &[u16],
     at: &[u16],
     i: usize,
     tos: &mut [u16],
     others: &mut [u16],
 ) -> usize
-    requires { ⌜ Rule-tables (now ws) s (now afters) (now «flow_at») w (now flows) (now names) (now «letter_at»)
+    requires { ⌜ Rule-tables (now ws) s (now afters) (now «flow_at») w (now fitting) (now names) (now «letter_at»)
         (now letters) (now branches) ⌝ }
     requires { ⌜ i < s .states ⌝ }
-    requires { ⌜ Rule-room s (now tos) (now others) ⌝ }
+    requires { ⌜ Rule-room (now ws) s (now tos) (now others) ⌝ }
     ensures { λ n. ⌜ State-rules (program (now (ws .entry)) s) (tables (now (ws .entry)) s) i (now (tos .exit))
         (now (others .exit)) n ⌝ }
 {
@@ -500,7 +452,6 @@ pub fn state_rules(
             s,
             afters,
             flow_at,
-            names,
             letter_at,
             letters,
             at,
@@ -516,7 +467,7 @@ pub fn state_rules(
             s,
             afters,
             w,
-            flows,
+            fitting,
             names,
             letter_at,
             letters,

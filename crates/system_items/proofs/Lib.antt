@@ -1,3 +1,5 @@
-pub mod Counters
+pub mod Begun
+pub mod Letters
+pub mod Stretching
 pub mod Ranges
 pub mod Table

@@ -1,26 +1,33 @@
 // The tables of the items' counters, as the check of bads under the ceilings is handed them (refusal 12).
+use bads::letter_arity;
 use ceilings_met::bad_number;
 use ceilings_met::bad_tag;
+use ceilings_met::past_heads;
 use lists::heads_from;
 use lists::heads_to;
 use lists::word;
+use model::OTHER_HEADS;
 use model::Sizes;
 use model::TAG_HEAD;
+use sets::holds;
+use system_letters::letter_width;
 ghost use mathlib.Core.Path.{_≡_};
-ghost use Prim.Native.Nat.{_≤_, _<_};
+ghost use mathlib.Core.Bool.{true};
+ghost use Prim.Native.Nat.{_+_, _≤_, _<_};
 ghost use lib.ListN.{length, getD};
 ghost use lib.Dec.{eqb};
-ghost use Rattle.model.specs.Index.{first};
 ghost use Rattle.model.specs.Limits.{maxCounters};
+ghost use Rattle.model.specs.Words.{left, right};
 ghost use Rattle.model.specs.Rows.{program};
 ghost use Rattle.model.specs.Tables.{tables};
-ghost use Rattle.model.specs.Bads.{bad-rows, subject-at, of-letter};
-ghost use Rattle.model.specs.Counters.{counter-count};
+ghost use Rattle.model.specs.Bads.{bad-rows};
+ghost use Rattle.model.specs.Counters.{letter-count, counter-count};
 ghost use Rattle.lists.specs.Lists.{head-from, head-to};
 ghost use Rattle.lists.specs.Ready.{Ready};
-ghost use Rattle.system_letters.specs.Letters.{Class-letters};
-ghost use Rattle.ceilings_met.specs.Items.{Items-counted};
-ghost use Rattle.system_items.specs.Stretches.{counters-of};
+ghost use Rattle.system_letters.specs.Letters.{letter-at, letters-before, Class-letters, letter-width};
+ghost use Rattle.system_letters.specs.Letters.{digits, Letter-sets};
+ghost use Rattle.ceilings_met.specs.Items.{subject-from, Range, Items-counted};
+ghost use Rattle.system_items.specs.Stretches.{is-named, names-letters, Stretched};
 
 // Counters that stand together: those from `from` below `to`.
 pub struct Stretch {
@@ -40,62 +47,140 @@ fn head_counters(ws: &[u16], s: Sizes, c: usize, r: usize) -> Stretch
     Stretch { from, to }
 }
 
-// The first of the pairs from..to that has this letter, or to.
-fn pair_with(letters: &[u16], from: usize, to: usize, l: usize) -> usize
-    requires { ⌜ (from ≤ to) × (to ≤ length (now letters)) ⌝ }
-    ensures { λ y. ⌜ y ≡ first from to (λ k. eqb (getD (now (letters .entry)) k 0) l) ⌝ }
+// Digit i of letter y is the number of row r of the bads; no letter has a digit that is no head.
+fn is_digit(ws: &[u16], s: Sizes, letters: &[u64], w: usize, i: usize, r: usize, y: usize) -> bool
+    requires { ⌜ Ready (now ws) s ⌝ }
+    requires { ⌜ Letter-sets (program (now ws) s) (tables (now ws) s) (now letters) ⌝ }
+    requires { ⌜ w ≡ letter-width (program (now ws) s) (tables (now ws) s) ⌝ }
+    requires { ⌜ (i < digits) × (y < letter-count (program (now ws) s) (tables (now ws) s)) ⌝ }
+    ensures { λ b. ⌜ b ≡ eqb (getD (letter-at (program (now (ws .entry)) s) (tables (now (ws .entry)) s) y) i 0)
+        (right (bad-rows (now (ws .entry)) s) r) ⌝ }
 {
-    for y in from..to {
-        if word(letters, y) == l {
-            return y;
-        }
+    let heads = s.constructors + OTHER_HEADS;
+    let h = bad_number(ws, s, r);
+    if h >= heads {
+        return false;
     }
-    to
+    let set = i * heads + h;
+    holds(letters, w, set, y)
 }
 
-// The counter of a (class, letter): none has a class above R, or a letter that the class's mail has not.
-fn letter_counters(
+// The numbers of the rows from..to of the bads are the number of letter y and its heads from the left.
+fn is_named(
+    ws: &[u16],
+    s: Sizes,
+    letters: &[u64],
+    w: usize,
+    from: usize,
+    to: usize,
+    y: usize,
+) -> bool
+    requires { ⌜ Ready (now ws) s ⌝ }
+    requires { ⌜ Letter-sets (program (now ws) s) (tables (now ws) s) (now letters) ⌝ }
+    requires { ⌜ w ≡ letter-width (program (now ws) s) (tables (now ws) s) ⌝ }
+    requires { ⌜ (to ≤ from + digits) × (y < letter-count (program (now ws) s) (tables (now ws) s)) ⌝ }
+    ensures { λ b. ⌜ b ≡ is-named (program (now (ws .entry)) s) (tables (now (ws .entry)) s)
+        (bad-rows (now (ws .entry)) s) from to y ⌝ }
+{
+    for r in from..to {
+        if !is_digit(ws, s, letters, w, r - from, r, y) {
+            return false;
+        }
+    }
+    true
+}
+
+// Behind the number of row `from` stand no heads, or one for each argument of its letters.
+fn names_letters(ws: &[u16], s: Sizes, from: usize, to: usize) -> bool
+    requires { ⌜ Ready (now ws) s ⌝ }
+    requires { ⌜ from ≤ s .badrows ⌝ }
+    ensures { λ b. ⌜ b ≡ names-letters (program (now (ws .entry)) s) (bad-rows (now (ws .entry)) s) from to ⌝ }
+{
+    let number = bad_number(ws, s, from);
+    let heads = letter_arity(ws, s, number);
+    to == from + 1 || to == from + 1 + heads
+}
+
+// The letters of class c that the rows from..to of the bads name. Those of one number stand together.
+fn letters_named(
     ws: &[u16],
     s: Sizes,
     letter_at: &[u16],
-    letters: &[u16],
+    letters: &[u64],
     c: usize,
-    l: usize,
+    from: usize,
+    to: usize,
 ) -> Stretch
     requires { ⌜ Ready (now ws) s ⌝ }
-    requires { ⌜ Class-letters (program (now ws) s) (tables (now ws) s) (now «letter_at») (now letters) ⌝ }
-    ensures { λ x. ⌜ x ≡ counters-of (program (now (ws .entry)) s) (tables (now (ws .entry)) s) (of-letter c l) ⌝ }
+    requires { ⌜ Class-letters (program (now ws) s) (tables (now ws) s) (now «letter_at») ⌝ }
+    requires { ⌜ Letter-sets (program (now ws) s) (tables (now ws) s) (now letters) ⌝ }
+    requires { ⌜ c ≤ s .rows ⌝ }
+    requires { ⌜ names-letters (program (now ws) s) (bad-rows (now ws) s) from to ≡ true ⌝ }
+    ensures { λ x. ⌜ Stretched
+        (is-named (program (now (ws .entry)) s) (tables (now (ws .entry)) s) (bad-rows (now (ws .entry)) s) from to)
+        (letters-before (program (now (ws .entry)) s) (tables (now (ws .entry)) s) c)
+        (letters-before (program (now (ws .entry)) s) (tables (now (ws .entry)) s) (c + 1)) (x .from) (x .to) ⌝ }
+    ensures { λ x. ⌜ x .to < 65536 ⌝ }
 {
-    if c > s.rows {
-        return Stretch { from: 0, to: 0 };
+    let w = letter_width(ws, s, letter_at);
+    let low = word(letter_at, c);
+    let high = word(letter_at, c + 1);
+    let mut first = 0;
+    let mut end = 0;
+    for y in low..high {
+        if is_named(ws, s, letters, w, from, to, y) {
+            if first == end {
+                first = y;
+            }
+            end = y + 1;
+        }
     }
-    let from = word(letter_at, c);
-    let to = word(letter_at, c + 1);
-    let y = pair_with(letters, from, to, l);
-    if y < to {
-        let x = s.states + y;
-        let next = x + 1;
-        Stretch { from: x, to: next }
-    } else {
-        Stretch { from: 0, to: 0 }
+    Stretch {
+        from: first,
+        to: end,
     }
 }
 
-// The counters of the item at row r of the bads, whether or not one stands there.
-fn item_counters(ws: &[u16], s: Sizes, letter_at: &[u16], letters: &[u16], r: usize) -> Stretch
+// The counters of the item at row r of the bads, where it counts letters. No letter has a class above R.
+fn letter_counters(ws: &[u16], s: Sizes, letter_at: &[u16], letters: &[u64], r: usize) -> Stretch
     requires { ⌜ Ready (now ws) s ⌝ }
-    requires { ⌜ Class-letters (program (now ws) s) (tables (now ws) s) (now «letter_at») (now letters) ⌝ }
-    requires { ⌜ r ≤ s .badrows ⌝ }
-    ensures { λ x. ⌜ x ≡ counters-of (program (now (ws .entry)) s) (tables (now (ws .entry)) s)
-        (subject-at (bad-rows (now (ws .entry)) s) r) ⌝ }
+    requires { ⌜ Class-letters (program (now ws) s) (tables (now ws) s) (now «letter_at») ⌝ }
+    requires { ⌜ Letter-sets (program (now ws) s) (tables (now ws) s) (now letters) ⌝ }
+    requires { ⌜ r < s .badrows ⌝ }
+    requires { ⌜ (left (bad-rows (now ws) s) (r + 1) ≡ 41 → ⊥) ⌝ }
+    ensures { λ x. ⌜ Range (program (now (ws .entry)) s) (tables (now (ws .entry)) s)
+        (subject-from (bad-rows (now (ws .entry)) s) r) (x .from) (x .to) ⌝ }
 {
     let class = bad_number(ws, s, r);
-    let subject = bad_number(ws, s, r + 1);
-    if bad_tag(ws, s, r + 1) == TAG_HEAD {
-        head_counters(ws, s, class, subject)
-    } else {
-        letter_counters(ws, s, letter_at, letters, class, subject)
+    if class > s.rows {
+        return Stretch { from: 0, to: 0 };
     }
+    let number = r + 1;
+    let minimum = past_heads(ws, s, r + 2);
+    if !names_letters(ws, s, number, minimum) {
+        return Stretch { from: 0, to: 0 };
+    }
+    let named = letters_named(ws, s, letter_at, letters, class, number, minimum);
+    let from = s.states + named.from;
+    let to = s.states + named.to;
+    Stretch { from, to }
+}
+
+// The counters of the item at row r of the bads, whether or not one stands there.
+fn item_counters(ws: &[u16], s: Sizes, letter_at: &[u16], letters: &[u64], r: usize) -> Stretch
+    requires { ⌜ Ready (now ws) s ⌝ }
+    requires { ⌜ Class-letters (program (now ws) s) (tables (now ws) s) (now «letter_at») ⌝ }
+    requires { ⌜ Letter-sets (program (now ws) s) (tables (now ws) s) (now letters) ⌝ }
+    requires { ⌜ r < s .badrows ⌝ }
+    ensures { λ x. ⌜ Range (program (now (ws .entry)) s) (tables (now (ws .entry)) s)
+        (subject-from (bad-rows (now (ws .entry)) s) r) (x .from) (x .to) ⌝ }
+{
+    if bad_tag(ws, s, r + 1) == TAG_HEAD {
+        let class = bad_number(ws, s, r);
+        let row = bad_number(ws, s, r + 1);
+        return head_counters(ws, s, class, row);
+    }
+    letter_counters(ws, s, letter_at, letters, r)
 }
 
 // The counters of each item, at the item's first row.
@@ -103,12 +188,13 @@ pub fn fill_items(
     ws: &[u16],
     s: Sizes,
     letter_at: &[u16],
-    letters: &[u16],
+    letters: &[u64],
     froms: &mut [u16],
     tos: &mut [u16],
 )
     requires { ⌜ Ready (now ws) s ⌝ }
-    requires { ⌜ Class-letters (program (now ws) s) (tables (now ws) s) (now «letter_at») (now letters) ⌝ }
+    requires { ⌜ Class-letters (program (now ws) s) (tables (now ws) s) (now «letter_at») ⌝ }
+    requires { ⌜ Letter-sets (program (now ws) s) (tables (now ws) s) (now letters) ⌝ }
     requires { ⌜ counter-count (program (now ws) s) (tables (now ws) s) ≤ maxCounters ⌝ }
     requires { ⌜ (s .badrows ≤ length (now froms)) × (s .badrows ≤ length (now tos)) ⌝ }
     ensures { λ _. ⌜ Items-counted (program (now (ws .entry)) s) (tables (now (ws .entry)) s)

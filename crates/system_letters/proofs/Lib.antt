@@ -1,4 +1,3 @@
-pub mod Counts
-pub mod Filling
-pub mod Pairs
 pub mod Tables
+pub mod Classes
+pub mod Mailed

@@ -5,11 +5,11 @@ use mathlib.Core.Path.{_≡_, refl, sym, _∙_, ap}
 use mathlib.Core.List.{List, [], _∷_, _++_}
 use lib.ListN.{length, getD, set, length-set, length-append}
 use borrow.Author.Tests.{ne-eqb}
-use Rattle.model.specs.Index.{gather}
+use Rattle.model.specs.Index.{gather, from-all}
 use Rattle.model.specs.Words.{right}
 use Rattle.model.specs.Rows.{Program, tag, Kind, kind}
 use Rattle.model.specs.Tables.{Tables, state-at}
-use Rattle.model.specs.Rules.{Rule, rule, from-all, state-rules}
+use Rattle.model.specs.Rules.{Rule, rule, state-rules}
 use Rattle.model.specs.Listing.{Line, line}
 use Rattle.model.proofs.Index.{gather-end}
 use Rattle.rules.specs.Listed.{kind-effect, listed-rule, listed-rules, State-rules}

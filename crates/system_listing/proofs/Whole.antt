@@ -8,7 +8,7 @@ use lib.ListN.{length, getD, set, drop, length-set, length-map, List·getD-appen
 use lib.Seq.{getD-set-same, getD-set-other, getD-append-add, getD-drop, ext-getD}
 use Rattle.model.specs.Rows.{Program}
 use Rattle.model.specs.Tables.{Tables}
-use Rattle.model.specs.Counters.{letter-count, counter-count}
+use Rattle.model.specs.Counters.{letter-count}
 use Rattle.model.specs.Rules.{Rule, rules}
 use Rattle.model.specs.Listing.{Line, listing, system-words, written}
 use Rattle.model.proofs.Listed.{length-listing, length-written, length-system}
@@ -220,12 +220,3 @@ module _ (p : Program) (t : Tables) (out begun : List ℕ) (n : Totals) (room : 
       let y : n .rows ≡ length (lines (rules p t)) = ap (λ m. m .rows) same in
       let w = words-told p t n same in
       record { words = omega arith; rows = omega arith }
-
--- the letters are the counters that are no states
-pub letters-told : (p : Program) (t : Tables) (count states : ℕ) → count ≡ counter-count p t → states ≡ t .states .size → count - states ≡ letter-count p t
-unfolding counter-count
-letters-told p t count states e f = omega arith
-
-pub states-inside : (p : Program) (t : Tables) (count : ℕ) → count ≡ counter-count p t → t .states .size ≤ count
-unfolding counter-count
-states-inside p t count e = omega arith

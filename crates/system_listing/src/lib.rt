@@ -5,7 +5,7 @@ use model::TAG_FROM;
 use model::TAG_TO;
 use onward::guess_class;
 use state_rules::state_rules;
-use system_letters::counter_count;
+use system_letters::letter_count;
 use system_totals::Totals;
 use system_totals::state_head;
 use system_totals::third_tag;
@@ -96,18 +96,18 @@ fn write_rules(
     afters: &[u16],
     flow_at: &[u16],
     w: usize,
-    flows: &[u64],
+    fitting: &[u64],
     names: &[u64],
     letter_at: &[u16],
-    letters: &[u16],
+    letters: &[u64],
     branches: &[u16],
     at: &mut [u16],
     tos: &mut [u16],
     others: &mut [u16],
 ) -> usize
-    requires { ⌜ Rule-tables (now ws) s (now afters) (now «flow_at») w (now flows) (now names) (now «letter_at»)
+    requires { ⌜ Rule-tables (now ws) s (now afters) (now «flow_at») w (now fitting) (now names) (now «letter_at»)
         (now letters) (now branches) ⌝ }
-    requires { ⌜ Rule-room s (now tos) (now others) ⌝ }
+    requires { ⌜ Rule-room (now ws) s (now tos) (now others) ⌝ }
     requires { ⌜ Room (now out) n 0 (lines (rules (program (now ws) s) (tables (now ws) s))) ⌝ }
     ensures { λ e. ⌜ Put (now (out .entry)) (now (out .exit)) n 0 e
         (lines (rules (program (now (ws .entry)) s) (tables (now (ws .entry)) s))) ⌝ }
@@ -122,7 +122,7 @@ fn write_rules(
             afters,
             flow_at,
             w,
-            flows,
+            fitting,
             names,
             letter_at,
             letters,
@@ -161,18 +161,18 @@ pub fn write_listing(
     afters: &[u16],
     flow_at: &[u16],
     w: usize,
-    flows: &[u64],
+    fitting: &[u64],
     names: &[u64],
     letter_at: &[u16],
-    letters: &[u16],
+    letters: &[u64],
     branches: &[u16],
     at: &mut [u16],
     tos: &mut [u16],
     others: &mut [u16],
 )
-    requires { ⌜ Rule-tables (now ws) s (now afters) (now «flow_at») w (now flows) (now names) (now «letter_at»)
+    requires { ⌜ Rule-tables (now ws) s (now afters) (now «flow_at») w (now fitting) (now names) (now «letter_at»)
         (now letters) (now branches) ⌝ }
-    requires { ⌜ Rule-room s (now tos) (now others) ⌝ }
+    requires { ⌜ Rule-room (now ws) s (now tos) (now others) ⌝ }
     requires { ⌜ n ≡ counted (rules (program (now ws) s) (tables (now ws) s)) ⌝ }
     requires { ⌜ (n .rules < 4294967296) × (n .rows < 4294967296) ⌝ }
     requires { ⌜ length (system-words (program (now ws) s) (tables (now ws) s)) ≤ length (now out) ⌝ }
@@ -180,7 +180,7 @@ pub fn write_listing(
         written (system-words (program (now (ws .entry)) s) (tables (now (ws .entry)) s)) (now (out .entry)) ⌝ }
 {
     let rows = n.rows;
-    let count = counter_count(ws, s, letter_at, letters) - s.states;
+    let count = letter_count(ws, s, letter_at);
     write_sizes(out, s.states, count, n.rules, rows);
     write_rules(
         out,
@@ -190,7 +190,7 @@ pub fn write_listing(
         afters,
         flow_at,
         w,
-        flows,
+        fitting,
         names,
         letter_at,
         letters,

@@ -8,11 +8,11 @@ use mathlib.Core.List.{List, [], _∷_, _++_, append-assoc, append-nil}
 use lib.ListN.{length, getD, length-append}
 use borrow.Author.Tests.{ne-eqb}
 use Rattle.model.specs.Limits.{maxStates}
-use Rattle.model.specs.Index.{gather}
+use Rattle.model.specs.Index.{gather, from-all}
 use Rattle.model.specs.Words.{right}
 use Rattle.model.specs.Rows.{Program, tag, Kind, kind, give, build, function, call, send, spawn, self, case, receive, other}
 use Rattle.model.specs.Tables.{Tables, state-at}
-use Rattle.model.specs.Rules.{Rule, rule, from-all, state-rules, rules}
+use Rattle.model.specs.Rules.{Rule, rule, state-rules, rules}
 use Rattle.model.specs.Listing.{line, effect-lines, rule-lines, system-words}
 use Rattle.model.proofs.Index.{gather-end}
 use Rattle.model.proofs.Listed.{length-system}

@@ -15,8 +15,8 @@ pub record Walk (at₀ tos₀ others₀ at tos others : List ℕ) : Type 0 where
   pub others-long : length others ≡ length others₀
 
 -- as much room as before
-pub room-kept : (s : Sizes) (tos₀ others₀ tos others : List ℕ) → Rule-room s tos₀ others₀ → length tos ≡ length tos₀ → length others ≡ length others₀ → Rule-room s tos others
-room-kept s tos₀ others₀ tos others r e f = record {
+pub room-kept : (ws : List ℕ) (s : Sizes) (tos₀ others₀ tos others : List ℕ) → Rule-room ws s tos₀ others₀ → length tos ≡ length tos₀ → length others ≡ length others₀ → Rule-room ws s tos others
+room-kept ws s tos₀ others₀ tos others r e f = record {
   values = omega (arith, r .values);
   letters = omega (arith, r .letters);
   counters = omega (arith, r .counters);
@@ -32,5 +32,5 @@ module _ (at₀ tos₀ others₀ : List ℕ) where
     walk-next at′ tos′ others′ a b c = record { at-long = a ∙ h .at-long; tos-long = b ∙ h .tos-long; others-long = c ∙ h .others-long }
 
     -- there is room for the rules of the next state
-    pub walk-room : (s : Sizes) → Rule-room s tos₀ others₀ → Rule-room s tos others
-    walk-room s r = room-kept s tos₀ others₀ tos others r (h .tos-long) (h .others-long)
+    pub walk-room : (ws : List ℕ) (s : Sizes) → Rule-room ws s tos₀ others₀ → Rule-room ws s tos others
+    walk-room ws s r = room-kept ws s tos₀ others₀ tos others r (h .tos-long) (h .others-long)

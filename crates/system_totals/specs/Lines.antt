@@ -8,7 +8,8 @@ use lib.Dec.{eqb}
 use Rattle.model.specs.Limits.{maxStates}
 use Rattle.model.specs.Rows.{Program, Kind, give, build, function, call, send, spawn, self, case, receive, other}
 use Rattle.model.specs.Tables.{Tables}
-use Rattle.model.specs.Rules.{Rule, from-all, rules}
+use Rattle.model.specs.Index.{from-all}
+use Rattle.model.specs.Rules.{Rule, rules}
 use Rattle.model.specs.Listing.{Line, line, rule-lines}
 use Rattle.system_totals.specs.declared.Totals.{Totals}
 

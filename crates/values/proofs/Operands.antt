@@ -1,21 +1,22 @@
 -- The names that stand behind a head: of a build and a call the arguments, of a function the parameters.
-use Prim.Native.Nat.{ℕ, zero, suc, _+_, _-_, _<_}
+use Prim.Native.Nat.{ℕ, zero, suc, _+_, _-_, _≤_, _<_}
 use native.Mathlib.Omega.{arith}
 use native.Mathlib.Decide.{ℕ-discrete}
 use mathlib.Core.Path.{_≡_, refl, sym, _∙_}
 use mathlib.Core.Bool.{true, _&&_}
-use mathlib.Core.List.{List, [], _∷_, _++_, append-nil}
+use mathlib.Core.List.{List, [], _∷_, _++_, append-nil, append-assoc}
 use mathlib.Core.Option.{some}
 use lib.ListN.{replicate}
 use lib.Dec.{eqb}
-use borrow.Author.Tests.{ltb-true}
+use borrow.Author.Tests.{ltb-true, leb-true}
+use Rattle.model.specs.Limits.{maxArity}
 use Rattle.model.specs.Reader.{fits}
-use Rattle.model.specs.Rows.{Program, size, tag, num, kind, Item, header, parameter, expression, made, operand, arguments, lead, arity, is-name, step}
+use Rattle.model.specs.Rows.{Program, size, tag, num, kind, Item, constructor, global, header, parameter, expression, made, operand, arguments, lead, arity, is-name, step, declarations, whole}
 use Rattle.model.specs.Rows.{Kind, build, call}
 use Rattle.model.specs.Heads.{is-function}
 use Rattle.model.proofs.Logic.{and-right}
 use Rattle.model.proofs.Parse.Spans.{Spans, spans-unique, spans-none, spans-split, spans-first}
-use Rattle.model.proofs.Parse.Reached.{Rows-fit}
+use Rattle.model.proofs.Parse.Reached.{Rows-fit, reached-begin, reached-spans}
 use Rattle.model.proofs.Parse.Grammar.{fits-some, fits-tag, follows}
 use Rattle.model.proofs.Parse.Locations.{Location, location-follows}
 use Rattle.model.proofs.Parse.Functions.{row-form, form-body}
@@ -23,7 +24,7 @@ use Rattle.model.proofs.Parse.Lengths.{Columns-whole, function-within}
 
 module _ (p : Program) where
   -- n items of one row each, then others: the numbers of the rows, and the row after them
-  leaves : (x : Item) (A : ℕ → Type 0) → ((t m : ℕ) (more : List Item) → step p x t m ≡ some more → (more ≡ []) × A m) → (n q : ℕ) {ys : List Item} {e : ℕ} → Spans p (replicate n x ++ ys) q e → Spans p ys (q + n) e × ((i : ℕ) → i < n → A (num p (q + i)))
+  pub leaves : (x : Item) (A : ℕ → Type 0) → ((t m : ℕ) (more : List Item) → step p x t m ≡ some more → (more ≡ []) × A m) → (n q : ℕ) {ys : List Item} {e : ℕ} → Spans p (replicate n x ++ ys) q e → Spans p ys (q + n) e × ((i : ℕ) → i < n → A (num p (q + i)))
   leaves x A leaf zero q {ys} {e} h = let z : q + 0 ≡ q = omega arith in (rw z h, λ i l. absurd (omega arith))
   leaves x A leaf (suc n) q {ys} {e} h =
       let f = spans-first h in
@@ -115,3 +116,17 @@ module _ (p : Program) where
       let (front, others) = form-body (row-form fit f (function-within w f h) h) in
       let two : f + 1 + 1 ≡ f + 2 = omega arith in
       rw two at (header-spans (front .spans) .1)
+
+  -- a constructor has at most eight arguments
+  constructor-leaf : (t m : ℕ) (more : List Item) → step p constructor t m ≡ some more → (more ≡ []) × (m ≤ maxArity)
+  unfolding step
+  constructor-leaf t m more h =
+      let (passes, same) = fits-some _ _ more h in
+      (sym same, leb-true m maxArity (and-right (eqb t 10) _ passes))
+
+  pub few-arguments : Rows-fit p → (k : ℕ) → k < p .constructors → arity p k ≤ maxArity
+  unfolding arity whole declarations
+  few-arguments fit k l =
+      let spans : Spans p (replicate (p .constructors) constructor ++ (replicate (p .functions) global ++ expression ∷ [])) 0 (size p) = rw append-assoc at (reached-spans fit 0 reached-begin) in
+      let z : 0 + k ≡ k = omega arith in
+      rw z at (leaves constructor (λ m. m ≤ maxArity) constructor-leaf (p .constructors) 0 spans .1 k l)

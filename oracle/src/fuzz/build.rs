@@ -1,12 +1,14 @@
 //! A random station with its evidence: a whole message, most of them safe.
 
-use super::generate::{self, Rows};
+use super::generate;
+use super::letters::{self, Crowd};
 use super::rng::Rng;
 use crate::bads::{Bad, Item, Place};
 use crate::bounds::{self, Sum, item_counters};
 use crate::evidence;
 use crate::explore::Limits;
 use crate::least;
+use crate::letters::Letter;
 use crate::limits::{self, UNBOUNDED};
 use crate::message::Message;
 use crate::program::{Head, Name, Program, State};
@@ -52,21 +54,43 @@ fn known(message: &[u8]) -> Result<Station, String> {
 /// A random station; tries until the limits are kept.
 pub fn station(rng: &mut Rng) -> Station {
     loop {
-        let crowded = rng.chance(1, 20);
-        let mailing = rng.chance(1, if crowded { 3 } else { 10 });
-        let size = size(rng);
-        let rows = if crowded { generate::crowded(rng, mailing) } else { generate::program(rng, size, mailing) };
-        if let Some(station) = finish(rng, &rows, crowded, mailing) {
+        let made = match rng.below(80) {
+            0..=3 => {
+                let mailing = rng.chance(1, 3);
+                let rows = generate::crowded(rng, mailing);
+                finish(rng, &rows, true, |rng, program| random_tables(rng, program, mailing))
+            }
+            4..=6 => {
+                let Crowd { rows, flow, mail } = letters::crowd(rng);
+                finish(rng, &rows, true, |_, program| Some(crowd_tables(program, &flow, &mail)))
+            }
+            7..=28 => {
+                let rows = letters::program(rng);
+                finish(rng, &rows, true, letter_tables)
+            }
+            _ => {
+                let (mailing, size) = (rng.chance(1, 7), size(rng));
+                let rows = generate::program(rng, size, mailing);
+                finish(rng, &rows, false, |rng, program| random_tables(rng, program, mailing))
+            }
+        };
+        if let Some(station) = made {
             return station;
         }
     }
 }
 
-fn finish(rng: &mut Rng, rows: &Rows, crowded: bool, mailing: bool) -> Option<Station> {
+/// Tables, bads and bounds for a program. Where too many counters are wanted a station that has them is kept.
+fn finish(
+    rng: &mut Rng,
+    rows: &generate::Rows,
+    crowded: bool,
+    tables: impl FnOnce(&mut Rng, &Program) -> Option<Tables>,
+) -> Option<Station> {
     let sizes = (rows.names, rows.constructors, rows.functions);
     let mut m = evidence::bare(sizes, &rows.rows, 1, &[(40, rows.rows.len()), (42, 0), (43, 1), (44, 0)]);
     let (program, _) = evidence::read(&m).ok()?;
-    let tables = random_tables(rng, &program, mailing)?;
+    let tables = tables(rng, &program)?;
     evidence::put_tables(&mut m, &program, &tables).ok()?;
     let Ok(system) = evidence::derive(&m, &program, &tables) else {
         return crowded.then(|| Station { message: uncounted(m), words: 0, counters: 0 });
@@ -92,6 +116,30 @@ fn finish(rng: &mut Rng, rows: &Rows, crowded: bool, mailing: bool) -> Option<St
     }
     evidence::put_bounds(&mut m, &limits);
     Some(Station { message: m, words: system.words(), counters: system.counters() })
+}
+
+/// The least tables above these values of names and of the start's mail.
+fn crowd_tables(program: &Program, flow: &[(usize, usize)], mail: &[usize]) -> Tables {
+    let mut tables = Tables::empty(program);
+    flow.iter().for_each(|&(name, value)| {
+        tables.flow[name].insert(value);
+    });
+    let start = tables.mail.len() - 1;
+    mail.iter().for_each(|&value| {
+        tables.mail[start].insert(value);
+    });
+    least::close(program, tables)
+}
+
+/// Random tables, mostly with more heads for the arguments of messages.
+fn letter_tables(rng: &mut Rng, program: &Program) -> Option<Tables> {
+    let tables = random_tables(rng, program, false)?;
+    let mut more = tables.clone();
+    if rng.chance(2, 3) {
+        letters::add_heads(rng, program, &mut more);
+    }
+    let more = least::close(program, more);
+    Some(if more.mails_function(program) { tables } else { more })
 }
 
 /// The least tables or larger ones. Functions are in the mail exactly where they are wanted there, by a send or as
@@ -259,7 +307,7 @@ fn add_state(rng: &mut Rng, program: &Program, tables: &mut Tables) {
 }
 
 /// Items of each bad: class, then place as a row, then minimum.
-type Items = Vec<Vec<(usize, (usize, usize), usize)>>;
+type Items = Vec<Vec<(usize, Place, usize)>>;
 
 fn random_bads(rng: &mut Rng, program: &Program, tables: &Tables, system: &System) -> Items {
     let count = if rng.chance(1, 20) { rng.range(1, 16) } else { rng.range(1, 3) };
@@ -277,11 +325,26 @@ fn random_bads(rng: &mut Rng, program: &Program, tables: &Tables, system: &Syste
     (0..count).map(|_| (0..items(rng)).map(|_| one(rng)).collect()).collect()
 }
 
+/// The rows of an item that say where.
+fn place_rows(program: &Program, place: Place) -> Vec<(usize, usize)> {
+    match place {
+        Place::Head(head) => vec![(41, head)],
+        Place::Kind(kind) => vec![(42, kind)],
+        Place::Letter(letter) => {
+            [(42, letter.kind)].into_iter().chain(letter.heads(program).map(|head| (45, head))).collect()
+        }
+    }
+}
+
 /// Puts bads into the message and reads them back.
 fn put_bads(m: &mut Message, program: &Program, tables: &Tables, bads: &Items) -> Option<Vec<Bad>> {
     let mut rows = Vec::new();
     for bad in bads {
-        bad.iter().for_each(|&(class, place, minimum)| rows.extend([(40, class), place, (43, minimum)]));
+        for &(class, place, minimum) in bad {
+            rows.push((40, class));
+            rows.extend(place_rows(program, place));
+            rows.push((43, minimum));
+        }
         rows.push((44, 0));
     }
     let sizes = (m.names, m.constructors, m.functions);
@@ -293,8 +356,7 @@ fn put_bads(m: &mut Message, program: &Program, tables: &Tables, bads: &Items) -
 }
 
 /// An item as a sum of counters, if it has any.
-fn sum(tables: &Tables, system: &System, class: usize, place: (usize, usize), minimum: usize) -> Option<Sum> {
-    let place = if place.0 == 41 { Place::Head(place.1) } else { Place::Letter(place.1) };
+fn sum(tables: &Tables, system: &System, class: usize, place: Place, minimum: usize) -> Option<Sum> {
     let item = Item { class, place, minimum: minimum as u16 };
     item_counters(tables, system, &item).map(|counters| Sum { counters, minimum: item.minimum })
 }
@@ -329,7 +391,7 @@ fn harmless_item(
     program: &Program,
     tables: &Tables,
     system: &System,
-) -> Option<(usize, (usize, usize), usize)> {
+) -> Option<(usize, Place, usize)> {
     let (class, place) = random_item(rng, program, tables, system);
     match sum(tables, system, class, place, 1) {
         None => Some((class, place, rng.range(1, 3))),
@@ -343,22 +405,29 @@ fn harmless_item(
 }
 
 /// Class and place of an item: one that has a counter, or any.
-fn random_item(rng: &mut Rng, program: &Program, tables: &Tables, system: &System) -> (usize, (usize, usize)) {
+fn random_item(rng: &mut Rng, program: &Program, tables: &Tables, system: &System) -> (usize, Place) {
     let classes: Vec<usize> = program.classes().collect();
     let class = rng.pick(&classes).copied().unwrap_or(program.rows);
     match rng.below(6) {
-        0 => (class, (42, rng.below(program.letters()))),
+        0 => {
+            let kind = rng.below(program.heads());
+            let arity = program.arity(kind);
+            let heads: Vec<usize> = (0..arity).map(|_| rng.below(program.heads())).collect();
+            let told_apart = arity > 0 && rng.chance(1, 2);
+            (class, if told_apart { Place::Letter(Letter::new(kind, heads)) } else { Place::Kind(kind) })
+        }
         1 => {
             let heads: Vec<usize> = (0..program.rows).filter(|&r| program.is_head(r)).collect();
-            (class, (41, rng.pick(&heads).copied().unwrap_or(program.start)))
+            (class, Place::Head(rng.pick(&heads).copied().unwrap_or(program.start)))
         }
         2..=3 if !system.letters.is_empty() => {
             let (class, letter) = system.letters[rng.below(system.letters.len())];
-            (class, (42, letter))
+            let single = program.arity(letter.kind) > 0 && rng.chance(1, 2);
+            (class, if single { Place::Letter(letter) } else { Place::Kind(letter.kind) })
         }
         _ => {
             let State { class, head, .. } = tables.states[rng.below(tables.states.len())];
-            (class, (41, head))
+            (class, Place::Head(head))
         }
     }
 }

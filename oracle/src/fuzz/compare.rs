@@ -2,8 +2,8 @@
 
 use super::build;
 use super::damage::{self, Case};
-use super::returns;
 use super::rng::Rng;
+use super::{letters, returns};
 use crate::counters::check_demand_3;
 use crate::held::check_names;
 use crate::message;
@@ -93,6 +93,9 @@ pub struct Tally {
     /// Messages whose tables are closed and have a place with several returns, and those whose bads ask there.
     pub shared: usize,
     pub summed: usize,
+    /// Messages whose tables are closed and whose mail has an argument of several heads, and those whose bads name heads.
+    pub several_heads: usize,
+    pub named_heads: usize,
 }
 
 impl Tally {
@@ -112,6 +115,8 @@ impl Tally {
             let read = message::read(message);
             self.shared += usize::from(read.as_ref().is_ok_and(|m| !returns::shared(m).is_empty()));
             self.summed += usize::from(read.as_ref().is_ok_and(returns::asked));
+            self.several_heads += usize::from(read.as_ref().is_ok_and(letters::several));
+            self.named_heads += usize::from(read.as_ref().is_ok_and(letters::named));
         }
         if number == 0 {
             self.largest.iter_mut().zip(sizes).for_each(|(largest, size)| *largest = size.max(*largest));
@@ -136,6 +141,10 @@ impl Tally {
         text.push_str(&format!(
             "closed, with a place of several returns: {}, and a bad that asks there: {}\n",
             self.shared, self.summed
+        ));
+        text.push_str(&format!(
+            "closed, with an argument of several heads in the mail: {}, and a bad that names heads: {}\n",
+            self.several_heads, self.named_heads
         ));
         text
     }

@@ -1,8 +1,8 @@
 //! Ways to damage a message.
 
 use super::build::Station;
-use super::returns;
 use super::rng::Rng;
+use super::{letters, returns};
 use crate::limits::{self, Limit};
 use crate::message::{self, Columns, Message};
 
@@ -138,7 +138,7 @@ fn size(rng: &mut Rng, original: &Message, bytes: &mut Vec<u8>) {
 }
 
 fn structured(rng: &mut Rng, m: &mut Message, station: &Station) {
-    match rng.below(40) {
+    match rng.below(44) {
         32 => soup(rng, m),
         33 => deepen(rng, m),
         0..=1 => row(rng, m),
@@ -156,6 +156,7 @@ fn structured(rng: &mut Rng, m: &mut Message, station: &Station) {
         29 | 34 => all_limits(rng, m),
         30 => keep_bounds(rng, m, station.counters),
         35..=39 => returns::damaged(rng, m, station.counters),
+        40..=43 => letters::damaged(rng, m, station.counters),
         _ => {
             m.entries = Columns::default();
             m.bounds = 0;
@@ -447,6 +448,11 @@ fn ask_at_a_state(rng: &mut Rng, m: &mut Message, minimum: u16) {
 
 /// Every item of the bads: at least so many of the class at the head.
 pub fn ask_at(m: &mut Message, (class, head): (u16, u16), minimum: u16) {
+    (0..m.bad_rows.len()).rev().for_each(|i| {
+        if m.bad_rows.first[i] == 45 {
+            remove(&mut m.bad_rows, i);
+        }
+    });
     for (tag, number) in m.bad_rows.first.iter_mut().zip(&mut m.bad_rows.second) {
         (*tag, *number) = match *tag {
             40 => (40, class),

@@ -5,6 +5,7 @@ pub mod compare;
 pub mod corpus;
 pub mod damage;
 pub mod generate;
+pub mod letters;
 pub mod returns;
 pub mod rng;
 pub mod row_list;

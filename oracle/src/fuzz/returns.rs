@@ -10,7 +10,7 @@ use std::ops::Range;
 /// Limits that come to 65,535 by two and two, or just not.
 const LIMITS: [u16; 6] = [40_000, 40_000, 25_535, 25_534, 32_768, 32_767];
 /// Minimums about those sums.
-const MINIMUMS: [u16; 5] = [65_535, 65_535, 65_535, 65_534, 50_000];
+pub const MINIMUMS: [u16; 5] = [65_535, 65_535, 65_535, 65_534, 50_000];
 
 /// Ranges of states that differ by their third number alone.
 pub fn shared(m: &Message) -> Vec<Range<usize>> {
@@ -90,13 +90,17 @@ fn is_give_back(m: &Message, row: usize) -> bool {
     m.program.first.get(row) == Some(&1)
 }
 
-/// Every item asks at a place with several returns, whose limits come to about as much; half the time in a ceiling of
-/// their own.
+/// Every item asks at a place with several returns, whose limits come to about as much.
 fn sums(rng: &mut Rng, m: &mut Message, counters: usize) {
     let places = shared(m);
     let Some(place) = rng.pick(&places).cloned() else { return };
     let (class, head) = m.tables.pair(m.flow + m.mail + place.start);
     ask_at(m, (class as u16, head as u16), MINIMUMS[rng.below(MINIMUMS.len())]);
+    put_limits(rng, m, place, counters);
+}
+
+/// Such limits for some counters, half the time in a ceiling of their own.
+pub fn put_limits(rng: &mut Rng, m: &mut Message, place: Range<usize>, counters: usize) {
     let room = m.entries.len() + place.len() < limits::BOUND_ENTRIES.1 as usize;
     if rng.chance(1, 2) && m.bounds < limits::BOUNDS.1 as usize && room {
         let own = place.map(|counter| (counter as u16, limit(rng))).chain([(counters as u16, 0)]);

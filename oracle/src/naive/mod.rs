@@ -76,7 +76,7 @@ fn start_and_bads(
     }
     for bad in bads {
         let met = |limits: &Vec<u16>| {
-            bad.items.iter().all(|item| system.limit_of(item, limits).is_none_or(|l| l >= item.minimum as u64))
+            bad.items.iter().all(|item| system.limit_of(program, item, limits).is_none_or(|l| l >= item.minimum as u64))
         };
         if bounds.limits.iter().any(met) {
             return Err((12, m.bads_at + 2 + bad.first));

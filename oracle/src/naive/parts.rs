@@ -49,9 +49,11 @@ fn is_value(m: &Message, number: usize) -> bool {
     number == m.rows || (number < m.rows && [2, 3, 6, 11].contains(&m.program.first[number]))
 }
 
-/// Refusal 6: `step` is 0 where an item or the end may come.
+/// Refusal 6: `step` is 0 where an item or the end may come. `heads` is how many rows with tag 45 may come: none, all
+/// of them, or those that are left.
 pub fn bads(m: &Message) -> Result<(), Refused> {
     let (mut whole, mut items, mut step) = (0, 0, 0);
+    let mut heads: Vec<usize> = Vec::new();
     for i in 0..m.bad_rows.len() {
         let (tag, number) = m.bad_rows.pair(i);
         let right = whole < m.bads
@@ -60,17 +62,26 @@ pub fn bads(m: &Message) -> Result<(), Refused> {
                 (0, 44) => items > 0 && number == 0,
                 (1, 41) => is_head(m, number),
                 (1, 42) => number <= m.constructors + 1,
-                (2, 43) => number >= 1,
+                (2, 45) => heads.iter().any(|&left| left > 0) && number <= m.constructors + 1,
+                (2, 43) => number >= 1 && heads.contains(&0),
                 _ => false,
             };
         if !right {
             return Err((6, m.bads_at + 2 + i));
         }
-        if tag == 44 {
-            (whole, items) = (whole + 1, 0);
-        } else {
-            step = (step + 1) % 3;
-            items += (step == 0) as usize;
+        match tag {
+            44 => (whole, items) = (whole + 1, 0),
+            45 => heads = heads.iter().filter(|&&left| left > 0).map(|left| left - 1).collect(),
+            _ => {
+                step = (step + 1) % 3;
+                items += (step == 0) as usize;
+            }
+        }
+        match tag {
+            41 => heads = vec![0],
+            42 if number < m.constructors => heads = vec![0, m.program.second[number] as usize],
+            42 => heads = vec![0],
+            _ => {}
         }
     }
     if whole == m.bads { Ok(()) } else { Err((6, m.bads_at + 2 + m.bad_rows.len())) }

@@ -63,6 +63,27 @@ pub fn busy(system: &System) -> Vec<Limits> {
     vec![limits; MOST - 1].into_iter().chain(one(system)).collect()
 }
 
+/// 256 bounds: the start alone, and 255 of the busiest states without any letter, apart in the limit of the busiest. Where
+/// their rules lead no bound holds, so that none settles them; and without letters none of them can be used.
+pub fn unsettled(system: &System) -> Vec<Limits> {
+    let n = system.counters();
+    let held = (ENTRIES - 2) / (MOST - 1) - 1;
+    let ranges = system.by_state();
+    let mut states: Vec<usize> = (0..system.states).collect();
+    states.sort_by_key(|&state| std::cmp::Reverse(ranges[state].len()));
+    // Of the states that no rule leads to, the start is the last: its class is, and its place stands behind all functions.
+    let start = (0..system.states).rev().find(|&state| system.rules.iter().all(|rule| rule.to != state));
+    let mut first = vec![0; n];
+    start.into_iter().for_each(|state| first[state] = 1);
+    let bound = |j: usize| {
+        let mut limits = vec![0; n];
+        states.iter().take(held).for_each(|&state| limits[state] = UNBOUNDED);
+        limits[states[0]] = 1 + j as u16;
+        limits
+    };
+    std::iter::once(first).chain((1..MOST).map(bound)).collect()
+}
+
 /// As `alike`, but the last bound leaks: its last counter is finite.
 pub fn leaking(system: &System) -> Vec<Limits> {
     let mut bounds = alike(system);

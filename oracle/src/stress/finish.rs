@@ -64,8 +64,8 @@ fn absent(program: &Program, tables: &Tables, system: &System) -> Option<[(usize
     let heads = (0..program.rows).filter(|&r| program.is_head(r));
     let states =
         heads.flat_map(|h| program.classes().map(move |c| (c, h))).find(|&(c, h)| tables.states_at(c, h).is_empty());
-    let letters = (0..program.letters()).flat_map(|l| program.classes().map(move |c| (c, l)));
-    let letter = letters.into_iter().find(|&(c, l)| system.letter(c, l).is_none());
+    let letters = (0..program.heads()).flat_map(|l| program.classes().map(move |c| (c, l)));
+    let letter = letters.into_iter().find(|&(c, l)| system.letters_of(c, l).is_empty());
     let state = states.map(|(class, head)| [(40, class), (41, head)]);
     state.or(letter.map(|(class, letter)| [(40, class), (42, letter)]))
 }

@@ -53,6 +53,11 @@ fn builds(program: &Program) -> Vec<usize> {
     (0..program.rows).filter(|&r| program.build(r).is_some()).collect()
 }
 
+/// Builds without arguments.
+fn plain(program: &Program) -> Vec<usize> {
+    (0..program.rows).filter(|&r| program.build(r).is_some_and(|(_, args)| args.is_empty())).collect()
+}
+
 fn values(program: &Program) -> Vec<usize> {
     (0..=program.rows).filter(|&v| program.is_value(v)).collect()
 }
@@ -105,7 +110,8 @@ fn patterns(bounds: impl Bounds) -> Result<Vec<u8>, String> {
     list.row(1, work);
     let extra = move |program: &Program, tables: &mut Tables| {
         let builds = builds(program);
-        params.iter().for_each(|&param| hold(tables, param, &builds));
+        params[..3].iter().for_each(|&param| hold(tables, param, &plain(program)));
+        params[3..].iter().for_each(|&param| hold(tables, param, &builds));
         for mail in &mut tables.mail {
             builds.iter().take(56).for_each(|&b| {
                 mail.insert(b);
@@ -305,7 +311,8 @@ fn everything(bounds: impl Bounds) -> Result<Vec<u8>, String> {
     let extra = move |program: &Program, tables: &mut Tables| {
         let (builds, values, functions_of) = (builds(program), values(program), inner_functions(program));
         hold(tables, functions[0], &functions_of[..7]);
-        small[..20].iter().for_each(|&name| hold(tables, name, &values));
+        small[..7].iter().for_each(|&name| hold(tables, name, &plain(program)));
+        small[7..24].iter().for_each(|&name| hold(tables, name, &values));
         for mail in &mut tables.mail {
             builds.iter().copied().chain(program.classes()).take(56).for_each(|v| {
                 mail.insert(v);

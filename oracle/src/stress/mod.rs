@@ -6,7 +6,9 @@ pub mod flow;
 pub mod growth;
 pub mod held;
 pub mod honest;
+pub mod letters;
 pub mod long;
+pub mod places;
 pub mod rows;
 pub mod sends;
 pub mod sums;
@@ -29,10 +31,17 @@ fn sample(name: &str, about: &'static str, verdict: u32, message: Result<Vec<u8>
 
 /// Messages that make each check work hard.
 pub fn hostile() -> Result<Vec<Sample>, String> {
-    Ok([rows::hostile()?, sums::hostile()?, flow::hostile()?, held::hostile()?, sends::hostile()?, long::hostile()?]
-        .into_iter()
-        .flatten()
-        .collect())
+    let kinds = [
+        rows::hostile()?,
+        sums::hostile()?,
+        flow::hostile()?,
+        held::hostile()?,
+        sends::hostile()?,
+        letters::hostile()?,
+        places::hostile()?,
+        long::hostile()?,
+    ];
+    Ok(kinds.into_iter().flatten().collect())
 }
 
 /// Rows, flow, mail, states, ceilings and ceiling entries of a message; zeros if it is not whole.

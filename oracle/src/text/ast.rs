@@ -58,7 +58,8 @@ pub struct Function {
 #[derive(Clone, Debug, PartialEq, Eq)]
 pub enum What {
     At(String),
-    Holds(String),
+    /// A constructor, `function` or `address`, and the heads of its arguments where they are told apart.
+    Holds(String, Option<Vec<String>>),
 }
 
 #[derive(Clone, Debug, PartialEq, Eq)]

@@ -419,10 +419,10 @@ impl<'a> Lower<'a> {
         for bad in &station.bads {
             for item in &bad.items {
                 rows.push((40, self.class(&item.class, item.line)?));
-                rows.push(match &item.what {
-                    What::At(label) => (41, self.labelled(label, item.line)?),
-                    What::Holds(letter) => (42, self.letter(letter, item.line)?),
-                });
+                match &item.what {
+                    What::At(label) => rows.push((41, self.labelled(label, item.line)?)),
+                    What::Holds(letter, heads) => rows.extend(self.letter(letter, heads.as_deref(), item.line)?),
+                }
                 if item.minimum == 0 || item.minimum > limits::UNBOUNDED as usize {
                     return Err(format!("line {}: a minimum lies from 1 to 65535", item.line));
                 }
@@ -448,14 +448,31 @@ impl<'a> Lower<'a> {
         }
     }
 
-    fn letter(&self, letter: &str, line: usize) -> Lowering<usize> {
+    /// The row of a letter, and those of the heads where they are named.
+    fn letter(&self, letter: &str, heads: Option<&[String]>, line: usize) -> Lowering<Vec<(usize, usize)>> {
+        let mut rows = vec![(42, self.kind(letter, line)?)];
+        let arity = self.constructors.get(letter).map_or(0, |&(_, arity)| arity);
+        for head in heads.unwrap_or_default() {
+            rows.push((45, self.kind(head, line)?));
+        }
+        match heads {
+            Some(heads) if heads.len() != arity => {
+                let stand = if heads.len() == 1 { "head stands" } else { "heads stand" };
+                Err(format!("line {line}: {letter} has {arity} arguments, and {} {stand} there", heads.len()))
+            }
+            _ => Ok(rows),
+        }
+    }
+
+    /// The number of a constructor, C for a function, C + 1 for an address.
+    fn kind(&self, word: &str, line: usize) -> Lowering<usize> {
         let count = self.constructors.len();
-        match letter {
+        match word {
             "function" => Ok(count),
             "address" => Ok(count + 1),
             _ => {
-                let found = self.constructors.get(letter).map(|&(i, _)| i);
-                found.ok_or_else(|| format!("line {line}: no constructor {letter}"))
+                let found = self.constructors.get(word).map(|&(i, _)| i);
+                found.ok_or_else(|| format!("line {line}: no constructor {word}"))
             }
         }
     }

@@ -334,12 +334,19 @@ impl Parser {
         Ok(Bad { name, items })
     }
 
+    fn head_word(&mut self) -> Parsed<String> {
+        self.any_word("a constructor, `function` or `address`")
+    }
+
     fn bad_item(&mut self) -> Parsed<Item> {
         let line = self.line();
         let class = self.any_word("a class (`start` or a spawn's label)")?;
         let what = match self.any_word("`at` or `holds`")?.as_str() {
             "at" => What::At(self.any_word("a label")?),
-            "holds" => What::Holds(self.any_word("a constructor, `function` or `address`")?),
+            "holds" => {
+                let letter = self.head_word()?;
+                What::Holds(letter, if self.is_sign("(") { Some(self.in_brackets(Self::head_word)?) } else { None })
+            }
             _ => {
                 self.at -= 1;
                 return self.wrong("`at` or `holds`");

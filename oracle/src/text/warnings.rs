@@ -114,7 +114,7 @@ impl Warner<'_> {
         let without = bads.iter().enumerate().filter_map(|(i, bad)| {
             let item = bad.items.iter().find(|item| item_counters(tables, system, item).is_none())?;
             let why = match item.place {
-                Place::Letter(letter) if letter == program.arities.len() => "where a function is sent that is refused",
+                Place::Kind(kind) if kind == program.arities.len() => "where a function is sent that is refused",
                 _ => "by the tables it never happens",
             };
             let (bad, item) = (self.symbols.bad(i), self.symbols.item(item));

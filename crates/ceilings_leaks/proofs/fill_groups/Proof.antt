@@ -20,11 +20,11 @@ use Rattle.ceilings_leaks.proofs.fill_groups.Statement.{statement}
 use Rattle.ceilings_leaks.proofs.fill_groups.Tie as tie
 
 abbrev Inv-loop : tie.InvT-loop
-Inv-loop ws s afters flow-at w flows names letter-at letters branches n limits starts holders unbounded spare at₀ tos₀ others₀ first-at₀ group₀ boundless kept₀ rules₀ rows₀ i₀ i-end at tos others first-at group kept rules rows i =
+Inv-loop ws s afters flow-at w fitting names letter-at letters branches n limits starts holders unbounded spare at₀ tos₀ others₀ first-at₀ group₀ boundless kept₀ rules₀ rows₀ i₀ i-end at tos others first-at group kept rules rows i =
     Groups-upto (program ws s) (tables ws s) limits (s .ceilings) n i group × Summed (program ws s) (tables ws s) i rules rows × Walk at₀ tos₀ others₀ at tos others × (i ≤ s .states) × (length group ≡ length group₀) × Kept-rules (program ws s) (tables ws s) i kept first-at tos others × (kept .used ≤ spare) × (kept .all ≡ true → s .states < length first-at) × (length first-at ≡ length first-at₀)
 
 abbrev μ-loop : tie.MeasureT-loop
-μ-loop ws s afters flow-at w flows names letter-at letters branches n limits starts holders unbounded spare at₀ tos₀ others₀ first-at₀ group₀ boundless kept₀ rules₀ rows₀ i₀ i-end at tos others first-at group kept rules rows i = s .states - i
+μ-loop ws s afters flow-at w fitting names letter-at letters branches n limits starts holders unbounded spare at₀ tos₀ others₀ first-at₀ group₀ boundless kept₀ rules₀ rows₀ i₀ i-end at tos others first-at group kept rules rows i = s .states - i
 
 is-boundless-requires : tie.Need-is-boundless-requires Inv-loop μ-loop
 is-boundless-requires c κs = c .before .before .before .before .before .before .before .before .before .before .before .before .before .before .before .before .before .pre .1 .0 .held-by .unbounded-room
@@ -42,7 +42,7 @@ rules-from-requires : tie.Need-rules-from-requires Inv-loop μ-loop
 rules-from-requires c κs =
     let h = c .before .before .before .before .before .before .before .before .loop .inv in
     let room = c .before .before .before .before .before .before .before .before .before .before .before .before .before .before .before .before .before .before .before .before .before .before .before .before .before .before .before .before .before .before .before .pre .1 .1 .0 in
-    (c .before .before .before .before .before .before .before .before .before .before .before .before .before .before .before .before .before .before .before .before .before .before .before .before .before .before .before .before .before .before .before .pre .0, ((c .before .before .before .before .before .before .before .loop-test .taken, omega (arith, h .6, spare-low _ _ _ _ (room .0) (room .1))), room-later _ _ _ _ (room .0) _ _ _ (h .6) (h .2 .tos-long) (h .2 .others-long)))
+    (c .before .before .before .before .before .before .before .before .before .before .before .before .before .before .before .before .before .before .before .before .before .before .before .before .before .before .before .before .before .before .before .pre .0, ((c .before .before .before .before .before .before .before .loop-test .taken, omega (arith, h .6, spare-low _ _ _ _ _ (room .0) (room .1))), room-later _ _ _ _ _ (room .0) _ _ _ (h .6) (h .2 .tos-long) (h .2 .others-long)))
 
 state-head-requires : tie.Need-state-head-requires Inv-loop μ-loop
 state-head-requires c κs = c .before .before .before .before .before .before .before .before .before .before .before .before .before .before .before .before .before .before .before .before .before .before .before .before .before .before .before .before .before .before .before .before .before .before .before .before .pre .0 .ready
@@ -67,7 +67,7 @@ effect-kind-requires c κs = search needs
 begins : (c : tie.After-rules-from Inv-loop μ-loop) → (c .before .before .before .before .before .before .before .before .before .loop .kept .used ≤ length (c .before .before .before .before .before .before .before .before .before .loop .tos)) × (c .before .before .before .before .before .before .before .before .before .loop .kept .used ≤ length (c .before .before .before .before .before .before .before .before .before .loop .others))
 begins c =
     let h = c .before .before .before .before .before .before .before .before .before .loop .inv in
-    starts-low _ _ (c .before .before .before .before .before .before .before .before .before .loop .tos) (c .before .before .before .before .before .before .before .before .before .loop .others) (room-later _ _ _ _ (c .before .before .before .before .before .before .before .before .before .before .before .before .before .before .before .before .before .before .before .before .before .before .before .before .before .before .before .before .before .before .before .before .pre .1 .1 .0 .0) _ _ _ (h .6) (h .2 .tos-long) (h .2 .others-long))
+    starts-low _ _ _ (c .before .before .before .before .before .before .before .before .before .loop .tos) (c .before .before .before .before .before .before .before .before .before .loop .others) (room-later _ _ _ _ _ (c .before .before .before .before .before .before .before .before .before .before .before .before .before .before .before .before .before .before .before .before .before .before .before .before .before .before .before .before .before .before .before .before .pre .1 .1 .0 .0) _ _ _ (h .6) (h .2 .tos-long) (h .2 .others-long))
 
 mul-put-group : tie.Need-mul-put-group Inv-loop μ-loop
 mul-put-group c = record { fits = omega (arith, begins (c .before .before .before .before .before .before .before) .0, c .before .before .before .before .before .before .before .before .before .before .before .before .before .before .before .before .loop .inv .2 .tos-long, c .before .before .before .before .before .before .before .before .before .before .before .before .before .before .before .before .before .before .before .before .before .before .before .before .before .before .before .before .before .before .before .before .before .before .before .before .before .before .before .pre .1 .1 .0 .1) }
@@ -102,7 +102,7 @@ keep-requires : tie.Need-keep-requires Inv-loop μ-loop
 keep-requires c κs =
     let h = c .before .before .before .before .before .before .before .before .before .before .before .before .before .before .before .before .before .before .before .before .before .before .before .before .before .loop .inv in
     let room = c .before .before .before .before .before .before .before .before .before .before .before .before .before .before .before .before .before .before .before .before .before .before .before .before .before .before .before .before .before .before .before .before .before .before .before .before .before .before .before .before .before .before .before .before .before .before .before .before .pre .1 .1 .0 in
-    ((h .6, spare-low _ _ _ _ (room .0) (room .1)), ((λ all. omega (arith, h .7 all, c .before .before .before .before .before .before .before .before .before .before .before .before .before .before .before .before .before .before .before .before .before .before .before .before .loop-test .taken)), (omega (arith, c .before .before .before .before .before .before .before .before .before .before .before .before .before .before .before .before .before .before .before .before .before .before .before .before .loop-test .taken, c .before .before .before .before .before .before .before .before .before .before .before .before .before .before .before .before .before .before .before .before .before .before .before .before .before .before .before .before .before .before .before .before .before .before .before .before .before .before .before .before .before .before .before .before .before .before .before .before .pre .0 .ready .limits .states), few (c .before .before .before .before .before .before .before .before .before .before .before .before .before .before .before .before))))
+    ((h .6, spare-low _ _ _ _ _ (room .0) (room .1)), ((λ all. omega (arith, h .7 all, c .before .before .before .before .before .before .before .before .before .before .before .before .before .before .before .before .before .before .before .before .before .before .before .before .loop-test .taken)), (omega (arith, c .before .before .before .before .before .before .before .before .before .before .before .before .before .before .before .before .before .before .before .before .before .before .before .before .loop-test .taken, c .before .before .before .before .before .before .before .before .before .before .before .before .before .before .before .before .before .before .before .before .before .before .before .before .before .before .before .before .before .before .before .before .before .before .before .before .before .before .before .before .before .before .before .before .before .before .before .before .pre .0 .ready .limits .states), few (c .before .before .before .before .before .before .before .before .before .before .before .before .before .before .before .before))))
 
 add-i : tie.Need-add-i Inv-loop μ-loop
 add-i c = record { fits = omega (arith, c .before .before .before .before .before .before .before .before .before .before .before .before .before .before .before .before .before .before .before .before .before .before .before .before .before .before .before .loop-test .taken, c .before .before .before .before .before .before .before .before .before .before .before .before .before .before .before .before .before .before .before .before .before .before .before .before .before .before .before .before .before .before .before .before .before .before .before .before .before .before .before .before .before .before .before .before .before .before .before .before .before .before .before .pre .0 .ready .limits .states) }

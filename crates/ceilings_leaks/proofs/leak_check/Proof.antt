@@ -22,44 +22,45 @@ use Rattle.ceilings.proofs.Begun.{begun, room-all, row-at}
 use Rattle.ceilings_covers.specs.Covers.{named, passes}
 use Rattle.ceilings_covers.proofs.Covering.{candidate-covers, covers-not}
 use Rattle.ceilings_groups.proofs.Settling.{settles}
-use Rattle.ceilings_leaks.proofs.Leaking.{counted-at, leaks, by-state, by-step, step-at, Walk, Left-of, walk-start, walk-end, walk-limit, walk-settled, rules-start, rules-turn, rules-leak, rules-done, unused, covered, led-out, left-start, left-low, left-surely, left-next, left-covers, left-none, ceiling-turn, states-few, step-shape, leak-safe, leak-refused-at, state-none, beside-at, named-next, first-low, whole-of, rooms-of}
+use Rattle.system_totals.proofs.Walk.{room-kept}
+use Rattle.ceilings_leaks.proofs.Leaking.{counted-at, leaks, by-state, by-step, step-at, Walk, Left-of, walk-start, walk-end, walk-limit, walk-settled, rules-start, rules-turn, rules-leak, rules-done, unused, covered, led-out, left-start, left-low, left-surely, left-next, left-covers, left-none, ceiling-turn, states-few, step-shape, leak-safe, leak-refused-at, state-none, beside-at, named-next, first-low, whole-of}
 use Rattle.ceilings_leaks.proofs.leak_check.Statement.{statement}
 use Rattle.ceilings_leaks.proofs.leak_check.Tie as tie
 
 abbrev Inv-loop : tie.InvT-loop
-Inv-loop ws s afters flow-at w flows names letter-at letters branches n limits starts holders unbounded group kept first-at at tos others short more k first over e i left m kind j to other step mask a₀ k2 b₀ k-end a b =
+Inv-loop ws s afters flow-at w fitting names letter-at letters branches n limits starts holders unbounded group kept first-at at tos others short more k first over e i left m kind j to other step mask a₀ k2 b₀ k-end a b =
     (b ≤ 3) × ((x : ℕ) → x < b → named step x < n → passes limits (s .ceilings) k k2 step (named step x) ≡ true)
 
 abbrev μ-loop : tie.MeasureT-loop
-μ-loop ws s afters flow-at w flows names letter-at letters branches n limits starts holders unbounded group kept first-at at tos others short more k first over e i left m kind j to other step mask a₀ k2 b₀ k-end a b = 3 - b
+μ-loop ws s afters flow-at w fitting names letter-at letters branches n limits starts holders unbounded group kept first-at at tos others short more k first over e i left m kind j to other step mask a₀ k2 b₀ k-end a b = 3 - b
 
 abbrev Inv-candidates : tie.InvT-candidates
-Inv-candidates ws s afters flow-at w flows names letter-at letters branches n limits starts holders unbounded group kept first-at at tos others short more k first over e i left m kind j₀ to other step mask a₀ k-end j a =
+Inv-candidates ws s afters flow-at w fitting names letter-at letters branches n limits starts holders unbounded group kept first-at at tos others short more k first over e i left m kind j₀ to other step mask a₀ k-end j a =
     (j ≡ j₀) × Left-of ws s n limits k step mask a
 
 abbrev μ-candidates : tie.MeasureT-candidates
-μ-candidates ws s afters flow-at w flows names letter-at letters branches n limits starts holders unbounded group kept first-at at tos others short more k first over e i left m kind j₀ to other step mask a₀ k-end j a = 256 - a
+μ-candidates ws s afters flow-at w fitting names letter-at letters branches n limits starts holders unbounded group kept first-at at tos others short more k first over e i left m kind j₀ to other step mask a₀ k-end j a = 256 - a
 
 abbrev Inv-rules : tie.InvT-rules
-Inv-rules ws s afters flow-at w flows names letter-at letters branches n limits starts holders unbounded group kept first-at at tos others short more k first over e i left m kind j₀ k-end j =
+Inv-rules ws s afters flow-at w fitting names letter-at letters branches n limits starts holders unbounded group kept first-at at tos others short more k first over e i left m kind j₀ k-end j =
     (leaks ws s n limits k ≡ (any j m (λ x. by-step ws s n limits k (step-at ws s n limits i kind tos others x)) || any (i + 1) (s .states) (by-state ws s n limits k))) × (j ≤ m) × (j₀ ≤ j)
 
 abbrev μ-rules : tie.MeasureT-rules
-μ-rules ws s afters flow-at w flows names letter-at letters branches n limits starts holders unbounded group kept first-at at tos others short more k first over e i left m kind j₀ k-end j = m - j
+μ-rules ws s afters flow-at w fitting names letter-at letters branches n limits starts holders unbounded group kept first-at at tos others short more k first over e i left m kind j₀ k-end j = m - j
 
 abbrev Inv-states : tie.InvT-states
-Inv-states ws s afters flow-at w flows names letter-at letters branches n limits starts holders unbounded group kept first-at at tos₀ others₀ short more k₀ first over e₀ k-end tos others k e =
+Inv-states ws s afters flow-at w fitting names letter-at letters branches n limits starts holders unbounded group kept first-at at tos₀ others₀ short more k₀ first over e₀ k-end tos others k e =
     (k ≡ k₀) × Walk ws s n limits k (ceiling-end n (ceiling-entries ws s) first) e × (length tos ≡ length tos₀) × (length others ≡ length others₀) × Kept-rules (program ws s) (tables ws s) (s .states) kept first-at tos others
 
 abbrev μ-states : tie.MeasureT-states
-μ-states ws s afters flow-at w flows names letter-at letters branches n limits starts holders unbounded group kept first-at at tos₀ others₀ short more k₀ first over e₀ k-end tos others k e = s .entries - e
+μ-states ws s afters flow-at w fitting names letter-at letters branches n limits starts holders unbounded group kept first-at at tos₀ others₀ short more k₀ first over e₀ k-end tos others k e = s .entries - e
 
 abbrev Inv-ceilings : tie.InvT-ceilings
-Inv-ceilings ws s afters flow-at w flows names letter-at letters branches n limits starts holders unbounded group kept first-at at tos₀ others₀ short₀ more₀ k₀ k-end tos others short more k =
+Inv-ceilings ws s afters flow-at w fitting names letter-at letters branches n limits starts holders unbounded group kept first-at at tos₀ others₀ short₀ more₀ k₀ k-end tos others short more k =
     (Rattle.model.specs.Index.first 0 (s .ceilings) (leaks ws s n limits) ≡ Rattle.model.specs.Index.first k (s .ceilings) (leaks ws s n limits)) × (k ≤ s .ceilings) × (length tos ≡ length tos₀) × (length others ≡ length others₀) × (length short ≡ length short₀) × (length more ≡ length more₀) × Kept-rules (program ws s) (tables ws s) (s .states) kept first-at tos others
 
 abbrev μ-ceilings : tie.MeasureT-ceilings
-μ-ceilings ws s afters flow-at w flows names letter-at letters branches n limits starts holders unbounded group kept first-at at tos₀ others₀ short₀ more₀ k₀ k-end tos others short more k = s .ceilings - k
+μ-ceilings ws s afters flow-at w fitting names letter-at letters branches n limits starts holders unbounded group kept first-at at tos₀ others₀ short₀ more₀ k₀ k-end tos others short more k = s .ceilings - k
 
 ceilings-holds : tie.Need-ceilings-holds Inv-loop μ-loop Inv-candidates μ-candidates Inv-rules μ-rules Inv-states μ-states Inv-ceilings μ-ceilings
 ceilings-holds c = (refl, search needs, refl, refl, refl, refl, c .before .before .before .before .before .before .before .before .before .before .before .before .before .before .before .before .before .before .before .pre .1 .1 .1 .0)
@@ -130,7 +131,7 @@ rules-again-requires c κs =
     let p = c .before .before .before .before .before .before .before .before .before .before .before .before .before .before .before .before .before .before .before .before .before .before .before .before .before .before .before .before .before .before .before .before .before .before .before .before .before .before .before .before .pre in
     let h = c .before .before .before .before .before .before .before .before .before .before .states .inv in
     let l = c .before .before .before .before .before .before .before .before .before .before .before .before .before .before .before .before .before .before .before .before .ceilings .inv in
-    (p .0, (h .4, (c .before .before .before .before .before .before .before .if1 .left, rooms-of _ _ _ _ _ (p .1 .1 .1 .1 .1 .rules) (h .2 ∙ l .2) (h .3 ∙ l .3))))
+    (p .0, (h .4, (c .before .before .before .before .before .before .before .if1 .left, room-kept _ _ _ _ _ _ (p .1 .1 .1 .1 .1 .rules) (h .2 ∙ l .2) (h .3 ∙ l .3))))
 
 kind-at-requires : tie.Need-kind-at-requires Inv-loop μ-loop Inv-candidates μ-candidates Inv-rules μ-rules Inv-states μ-states Inv-ceilings μ-ceilings
 kind-at-requires c κs = (c .before .before .before .before .before .before .before .before .before .before .before .before .before .before .before .before .before .before .before .before .before .before .before .before .before .before .before .before .before .before .before .before .before .before .before .before .before .before .before .before .before .before .before .before .before .pre .0 .ready, c .before .before .before .before .before .before .before .before .before .before .before .before .if1 .left)

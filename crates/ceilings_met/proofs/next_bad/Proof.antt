@@ -1,13 +1,15 @@
 -- The loop's invariant: at row i stands another item, or the bad's last row.
-use Prim.Native.Nat.{ℕ, _+_, _-_, _≤_, _<_}
+use Prim.Native.Nat.{ℕ, _+_, _-_, _≤_}
+use native.Mathlib.Omega.{arith}
 use mathlib.Core.Path.{_≡_, sym, _∙_}
 use mathlib.Core.List.{[], _∷_}
-use borrow.Author.Needs.{needs}
 use Rattle.model.specs.Reader.{past, read}
 use Rattle.model.specs.Rows.{program}
 use Rattle.model.specs.Bads.{further, bad-step, bad-rows}
 use Rattle.ceilings_met.specs.Items.{bad-end}
 use Rattle.ceilings_met.proofs.BadRows.{bad-first, bad-next, bad-last, bad-inside}
+use Rattle.ceilings_met.proofs.Meeting.{inside}
+use borrow.Author.Needs.{needs}
 use Rattle.ceilings_met.proofs.next_bad.Statement.{statement}
 use Rattle.ceilings_met.proofs.next_bad.Tie as tie
 
@@ -17,11 +19,11 @@ Inv-loop ws s r i₀ i = ((m : ℕ) × (read (bad-step (program ws s)) (bad-rows
 abbrev μ-loop : tie.MeasureT-loop
 μ-loop ws s r i₀ i = s .badrows + 3 - i
 
-add-i : tie.Need-add-i Inv-loop μ-loop
-add-i c = search needs
+next-item-requires : tie.Need-next-item-requires Inv-loop μ-loop
+next-item-requires c κs = search needs
 
 loop-holds : tie.Need-loop-holds Inv-loop μ-loop
-loop-holds c = (bad-first _ _ _ _ _ (c .before .pre .1 .1), search needs)
+loop-holds c = (bad-first _ _ (inside _ _) _ _ _ _ (c .next-item .ensures .0) (c .before .before .pre .1 .1), search needs)
 
 bad-tag-requires : tie.Need-bad-tag-requires Inv-loop μ-loop
 bad-tag-requires c κs = search needs
@@ -30,20 +32,16 @@ add-result : tie.Need-add-result Inv-loop μ-loop
 add-result c = search needs
 
 returns : tie.Need-returns Inv-loop μ-loop
-returns c = sym (bad-last _ _ _ _ _ (c .before .before .loop .inv .0 .1) (λ z. c .if1 .taken (c .before .bad-tag .ensures ∙ z)))
+returns c = sym (bad-last _ _ (inside _ _) _ _ _ (c .before .before .loop .inv .0 .1) (λ z. c .if1 .taken (c .before .bad-tag .ensures ∙ z)))
 
-add-i-2 : tie.Need-add-i-2 Inv-loop μ-loop
-add-i-2 c = search needs
-
--- an item is one of the rows
-inside : (c : tie.Else1 Inv-loop μ-loop) → c .before .before .loop .i < c .before .before .before .before .args .s .badrows
-inside c = bad-inside _ _ _ (sym (c .before .bad-tag .ensures) ∙ c .if1 .left)
+next-item-requires-2 : tie.Need-next-item-requires-2 Inv-loop μ-loop
+next-item-requires-2 c κs = let h = bad-inside _ _ _ _ (c .before .bad-tag .ensures) (omega (arith, c .if1 .left)) in search needs
 
 loop-less : tie.Need-loop-less Inv-loop μ-loop
-loop-less c = let h = inside c in search needs
+loop-less c = let h = bad-inside _ _ _ _ (c .before .before .bad-tag .ensures) (omega (arith, c .before .if1 .left)) in search needs
 
 loop-again : tie.Need-loop-again Inv-loop μ-loop
-loop-again c = let h = inside c in (bad-next _ _ _ _ _ (c .before .before .loop .inv .0 .1) (sym (c .before .bad-tag .ensures) ∙ c .if1 .left), search needs)
+loop-again c = (bad-next _ _ (inside _ _) _ _ _ _ (c .next-item2 .ensures .0) (c .before .before .before .loop .inv .0 .1) (sym (c .before .before .bad-tag .ensures) ∙ c .before .if1 .left), search needs)
 
 pub next-bad-spec : {M : Type 1} → statement M
 next-bad-spec =
@@ -51,11 +49,11 @@ next-bad-spec =
     (tie.spec
     Inv-loop
     μ-loop
-    add-i
+    next-item-requires
     loop-holds
     bad-tag-requires
     add-result
     returns
-    add-i-2
+    next-item-requires-2
     loop-less
     loop-again)

@@ -1,3 +1,4 @@
+use native.Mathlib.Omega.{arith}
 use borrow.Author.Needs.{needs}
 use Rattle.closure.proofs.fill_tables.Statement.{statement}
 use Rattle.closure.proofs.fill_tables.Tie as tie

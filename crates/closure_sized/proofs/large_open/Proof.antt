@@ -9,6 +9,9 @@ use Rattle.closure_sized.proofs.large_open.Tie as tie
 name-sets-requires : tie.Need-name-sets-requires
 name-sets-requires c κs = search needs
 
+name-sets-requires-2 : tie.Need-name-sets-requires-2
+name-sets-requires-2 c κs = search needs
+
 words16-66-requires : tie.Need-words16-66-requires
 words16-66-requires c κs = search needs
 
@@ -48,11 +51,14 @@ slice-aggregate-open-check-6 c = search needs
 slice-aggregate-open-check-7 : tie.Need-slice-aggregate-open-check-7
 slice-aggregate-open-check-7 c = search needs
 
+slice-aggregate-open-check-8 : tie.Need-slice-aggregate-open-check-8
+slice-aggregate-open-check-8 c = search needs
+
 open-check-requires : tie.Need-open-check-requires
 unfolding width
 open-check-requires c κs =
-    let p = c .before .before .before .before .before .before .before .before .before .before .before .before .before .before .before .before .before .before .before .before .before .before .pre in
-    lends _ _ _ _ _ _ maxRows maxNames _ _ _ _ _ _ _ _ _ _ (p .0) (p .1 .0) (p .1 .1 .0) (p .1 .1 .1) (p .0 .limits .rows .1) (p .0 .limits .names .1) (c .before .before .before .before .before .before .before .before .before .before .before .before .before .before .before .before .name-sets .ensures) (c .before .before .before .before .before .before .before .before .before .before .before .before .before .before .before .words16-66 .ensures) (c .before .before .before .before .before .before .before .before .before .before .before .before .before .before .row-words16 .ensures) (c .before .before .before .before .before .before .before .before .before .before .before .before .before .row-sets .ensures) (c .before .before .before .before .before .before .before .before .before .before .before .before .row-sets2 .ensures) (c .before .before .before .before .before .before .before .before .before .before .before .row-words32 .ensures) (omega arith) (omega arith) (omega arith) (omega arith)
+    let p = c .before .before .before .before .before .before .before .before .before .before .before .before .before .before .before .before .before .before .before .before .before .before .before .before .pre in
+    lends _ _ _ _ _ _ maxRows maxNames _ _ _ _ _ _ _ _ _ _ _ (p .0) (p .1 .0) (p .1 .1 .0) (p .1 .1 .1) (p .0 .limits .rows .1) (p .0 .limits .names .1) (c .before .before .before .before .before .before .before .before .before .before .before .before .before .before .before .before .before .before .name-sets .ensures) (c .before .before .before .before .before .before .before .before .before .before .before .before .before .before .before .before .before .name-sets2 .ensures) (c .before .before .before .before .before .before .before .before .before .before .before .before .before .before .before .before .words16-66 .ensures) (c .before .before .before .before .before .before .before .before .before .before .before .before .before .before .before .row-words16 .ensures) (c .before .before .before .before .before .before .before .before .before .before .before .before .before .before .row-sets .ensures) (c .before .before .before .before .before .before .before .before .before .before .before .before .before .row-sets2 .ensures) (c .before .before .before .before .before .before .before .before .before .before .before .before .row-words32 .ensures) (omega arith) (omega arith) (omega arith) (omega arith)
 
 same-length : tie.Need-same-length
 same-length c = search needs
@@ -71,6 +77,7 @@ large-open-spec =
     tie.close
     (tie.spec
     name-sets-requires
+    name-sets-requires-2
     words16-66-requires
     row-words16-requires
     row-sets-requires
@@ -84,6 +91,7 @@ large-open-spec =
     slice-aggregate-open-check-5
     slice-aggregate-open-check-6
     slice-aggregate-open-check-7
+    slice-aggregate-open-check-8
     open-check-requires
     same-length
     same-length-2

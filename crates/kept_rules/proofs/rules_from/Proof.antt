@@ -7,7 +7,7 @@ use Rattle.kept_rules.proofs.rules_from.Statement.{statement}
 use Rattle.kept_rules.proofs.rules_from.Tie as tie
 
 begins : (c : tie.Start) → (c .args .first ≤ length (c .args .tos .now)) × (c .args .first ≤ length (c .args .others .now))
-begins c = starts-low _ _ _ _ (c .pre .1 .1)
+begins c = starts-low _ _ _ _ _ (c .pre .1 .1)
 
 mul-state-rules : tie.Need-mul-state-rules
 mul-state-rules c = record { fits = omega (arith, c .before .before .before .before .before .before .before .before .before .before .before .pre .1 .0 .1) }
@@ -34,7 +34,7 @@ part-state-rules-end-2 : tie.Need-part-state-rules-end-2
 part-state-rules-end-2 c = search needs
 
 state-rules-requires : tie.Need-state-rules-requires
-state-rules-requires c κs = (c .before .before .before .before .before .before .before .before .before .before .before .before .before .pre .0, (c .before .before .before .before .before .before .before .before .before .before .before .before .before .pre .1 .0 .0, lent-room _ _ _ _ (c .before .before .before .before .before .before .before .before .before .before .before .before .before .pre .1 .1)))
+state-rules-requires c κs = (c .before .before .before .before .before .before .before .before .before .before .before .before .before .pre .0, (c .before .before .before .before .before .before .before .before .before .before .before .before .before .pre .1 .0 .0, lent-room _ _ _ _ _ (c .before .before .before .before .before .before .before .before .before .before .before .before .before .pre .1 .1)))
 
 same-length : tie.Need-same-length
 same-length c = search needs

@@ -15,15 +15,13 @@ use Rattle.model.specs.Words.{words, right}
 use Rattle.model.specs.Message.{sizes, bads-at, ceilings-at}
 use Rattle.model.specs.Reader.{first-wrong}
 use Rattle.model.specs.Rows.{tag, num}
-use Rattle.model.specs.Heads.{is-class}
 use Rattle.model.specs.Bads.{bad, bad-step, bad-row}
-use Rattle.model.specs.Tables.{is-value}
 use Rattle.model.specs.Counters.{counter-count}
 use Rattle.model.specs.Rules.{Rule, rules}
 use Rattle.model.specs.Markings.{Marking, usable, fire}
 use Rattle.model.specs.Ceilings.{ceiling-entries, ceiling-entry, ceilings-of, met-check, leak-check}
 use Rattle.model.specs.Verify.{Message, message}
-use Rattle.model.specs.Demands.{Bytes, Pairs-listed, Under-one, Inductive}
+use Rattle.model.specs.Demands.{Bytes, Under-one, Inductive}
 use Rattle.model.specs.Refusals.{First-such, Allowed, Leaks}
 use Rattle.model.proofs.Bounded.Words.{short-words, short-minimum, short-limit}
 use Rattle.model.proofs.Exact.Checks.{then-iff}
@@ -31,8 +29,6 @@ use Rattle.model.proofs.Exact.Sound.{tests-of-ceilings}
 use Rattle.model.proofs.Rows.{tag-inside}
 use Rattle.model.proofs.Parse.Reached.{Rows-fit}
 use Rattle.model.proofs.Parse.Lengths.{built-below}
-use Rattle.model.proofs.Numbering.Letters.{Keys}
-use Rattle.model.proofs.Numbering.Counters.{listed-keys}
 use Rattle.model.proofs.Bounded.Met.{met-check-exact, met-check-refuses}
 use Rattle.model.proofs.Bounded.Fire.{Shaped}
 use Rattle.model.proofs.Bounded.Shaped.{rules-shaped}
@@ -42,13 +38,6 @@ use Rattle.model.proofs.Bounded.Leak.{start-check-exact, leak-check-exa
 pub message-built : (bytes : List ℕ) → Rows-fit (message bytes .program) → (v : ℕ) → tag (message bytes .program) v ≡ 2 → num (message bytes .program) (v + 1) < message bytes .program .constructors
 unfolding message
 message-built bytes fit v t = built-below (message bytes .program) fit v (tag-inside (words bytes) (sizes (words bytes)) v (omega arith)) t
-
--- the keys of mail of a message whose rows fit and whose mail is in range
-pub message-keys : (bytes : List ℕ) → Rows-fit (message bytes .program) → Pairs-listed (is-class (message bytes .program)) (is-value (message bytes .program)) (message bytes .tables .mail) → Keys (message bytes .program) (message bytes .tables)
-unfolding message
-message-keys bytes fit mail =
-    listed-keys (message bytes .program) (message bytes .tables)
-    (λ r t. tag-inside (words bytes) (sizes (words bytes)) r (omega arith)) (message-built bytes fit) mail
 
 module _ (bytes : List ℕ) (short : Bytes bytes) where
   abbrev m : Message
@@ -77,24 +66,23 @@ module _ (bytes : List ℕ) (short : Bytes bytes) where
   pub met-refuses : Bads-in-form → (v : Verdict) → (met-check (m .sizes) (m .program) (m .tables) (m .ceilings) (m .bads) ≡ some v) ↔ ((j : ℕ) × First-such (m .sizes .bads) (Allowed m) j × (Met (bads-at (m .sizes) + 2 + bad-row (m .program) (m .bads) j) ≡ v))
   met-refuses form = met-check-refuses (m .program) (m .tables) (m .ceilings) (m .bads) counters minimums (m .sizes) form
 
-  module _ (keys : Keys (m .program) (m .tables)) where
-    shaped : (ρ : Rule) → List·Memᴰ ρ (rules (m .program) (m .tables)) → Shaped (m .ceilings .counters) ρ
-    shaped = rw counters (rules-shaped (m .program) (m .tables) keys)
+  shaped : (ρ : Rule) → List·Memᴰ ρ (rules (m .program) (m .tables)) → Shaped (m .ceilings .counters) ρ
+  shaped = rw counters (rules-shaped (m .program) (m .tables))
 
-    pub leak-exact : (leak-check (m .words) (m .sizes) (m .ceilings) (rules (m .program) (m .tables)) ≡ none) ↔ ((counts : Marking) (ρ : Rule) → Under-one (m .ceilings) counts → List·Memᴰ ρ (rules (m .program) (m .tables)) → usable ρ counts ≡ true → Under-one (m .ceilings) (fire ρ counts))
-    leak-exact = leak-check-exact (m .ceilings) (rules (m .program) (m .tables)) limits shaped (m .words) (m .sizes)
+  pub leak-exact : (leak-check (m .words) (m .sizes) (m .ceilings) (rules (m .program) (m .tables)) ≡ none) ↔ ((counts : Marking) (ρ : Rule) → Under-one (m .ceilings) counts → List·Memᴰ ρ (rules (m .program) (m .tables)) → usable ρ counts ≡ true → Under-one (m .ceilings) (fire ρ counts))
+  leak-exact = leak-check-exact (m .ceilings) (rules (m .program) (m .tables)) limits shaped (m .words) (m .sizes)
 
-    pub leak-none : (leak-check (m .words) (m .sizes) (m .ceilings) (rules (m .program) (m .tables)) ≡ none) ↔ ((k : ℕ) → k < m .ceilings .size → Leaks (m .ceilings) (rules (m .program) (m .tables)) k → ⊥)
-    leak-none = leak-check-none (m .ceilings) (rules (m .program) (m .tables)) limits shaped (m .words) (m .sizes)
+  pub leak-none : (leak-check (m .words) (m .sizes) (m .ceilings) (rules (m .program) (m .tables)) ≡ none) ↔ ((k : ℕ) → k < m .ceilings .size → Leaks (m .ceilings) (rules (m .program) (m .tables)) k → ⊥)
+  leak-none = leak-check-none (m .ceilings) (rules (m .program) (m .tables)) limits shaped (m .words) (m .sizes)
 
-    pub leak-refuses : (v : Verdict) → (leak-check (m .words) (m .sizes) (m .ceilings) (rules (m .program) (m .tables)) ≡ some v) ↔ ((k : ℕ) × First-such (m .ceilings .size) (Leaks (m .ceilings) (rules (m .program) (m .tables))) k × (Leak (ceilings-at (m .sizes) + 2 + ceiling-entry (m .ceilings .counters) (ceiling-entries (m .words) (m .sizes)) k) ≡ v))
-    leak-refuses = leak-check-refuses (m .ceilings) (rules (m .program) (m .tables)) limits shaped (m .words) (m .sizes)
+  pub leak-refuses : (v : Verdict) → (leak-check (m .words) (m .sizes) (m .ceilings) (rules (m .program) (m .tables)) ≡ some v) ↔ ((k : ℕ) × First-such (m .ceilings .size) (Leaks (m .ceilings) (rules (m .program) (m .tables))) k × (Leak (ceilings-at (m .sizes) + 2 + ceiling-entry (m .ceilings .counters) (ceiling-entries (m .words) (m .sizes)) k) ≡ v))
+  leak-refuses = leak-check-refuses (m .ceilings) (rules (m .program) (m .tables)) limits shaped (m .words) (m .sizes)
 
-    -- refusals 11 to 13
-    pub tests-exact : Bads-in-form → (tests-of-ceilings m ≡ none) ↔ Inductive m
-    tests-exact form =
-        Iff·trans (then-iff _ _ (start-check-exact (m .sizes) (m .program) (m .tables) (m .ceilings)) (then-iff _ _ (met-exact form) leak-exact)) (
-          λ h. let (start, (meets, keeps)) = h in
-              record { contain-start = start; kept = keeps; meet-no-bad = λ counts j u b x. meets j b (counts, u, x) },
-          λ i. (i .contain-start, (λ j b x. let (counts, u, y) = x in i .meet-no-bad counts j u b y, i .kept)),
-        )
+  -- refusals 11 to 13
+  pub tests-exact : Bads-in-form → (tests-of-ceilings m ≡ none) ↔ Inductive m
+  tests-exact form =
+      Iff·trans (then-iff _ _ (start-check-exact (m .sizes) (m .program) (m .tables) (m .ceilings)) (then-iff _ _ (met-exact form) leak-exact)) (
+        λ h. let (start, (meets, keeps)) = h in
+            record { contain-start = start; kept = keeps; meet-no-bad = λ counts j u b x. meets j b (counts, u, x) },
+        λ i. (i .contain-start, (λ j b x. let (counts, u, y) = x in i .meet-no-bad counts j u b y, i .kept)),
+      )

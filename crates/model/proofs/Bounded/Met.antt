@@ -17,7 +17,7 @@ use Rattle.model.specs.Message.{bads-at}
 use Rattle.model.specs.Reader.{first-wrong}
 use Rattle.model.specs.Rows.{Program}
 use Rattle.model.specs.Tables.{Tables}
-use Rattle.model.specs.Bads.{Subject, subject-at, item-at, items-from, items, met, bad, bad-step, bad-row}
+use Rattle.model.specs.Bads.{Subject, past-heads, subject-at, item-at, items-from, items, met, bad, bad-step, bad-row}
 use Rattle.model.specs.Counters.{counter-count, counts}
 use Rattle.model.specs.Markings.{Marking, sum-in}
 use Rattle.model.specs.Ceilings.{Ceilings, highest, bad-allowed, met-check}
@@ -38,11 +38,12 @@ met-higher low high rows zero r higher short h = refl
 met-higher low high rows (suc n) r higher short h =
     test (eqb (left rows r) 40)
     (λ e. let both = rw (e, items-from) at h in
-    let reached = leb-true (right rows (r + 2)) (low (subject-at rows r)) (and-left _ (met low (items-from rows n (r + 3))) both) in
-    let minimum = short (r + 2) in
-    let reaches : right rows (r + 2) ≤ high (subject-at rows r) = ⊎-elim (λ z. omega arith) (λ z. omega arith) (higher (subject-at rows r)) in
+    let m : ℕ = past-heads rows (r + 2) in
+    let reached = leb-true (right rows m) (low (subject-at rows r m)) (and-left _ (met low (items-from rows n (m + 1))) both) in
+    let minimum = short m in
+    let reaches : right rows m ≤ high (subject-at rows r m) = ⊎-elim (λ z. omega arith) (λ z. omega arith) (higher (subject-at rows r m)) in
     rw (e, items-from)
-    (and-intro _ _ (le-leb _ _ reaches) (met-higher low high rows n (r + 3) higher short (and-right (leb (right rows (r + 2)) (low (subject-at rows r))) _ both))))
+    (and-intro _ _ (le-leb _ _ reaches) (met-higher low high rows n (m + 1) higher short (and-right (leb (right rows m) (low (subject-at rows r m))) _ both))))
     (λ e. rw (e, items-from))
 
 -- the sums over the counters of an item

@@ -9,21 +9,23 @@ use mathlib.Core.Option.{some}
 use lib.ListN.{getElem?}
 use lib.Dec.{eqb}
 use borrow.Author.Tests.{eq-eqb}
+use Rattle.model.specs.Keys.{same-key}
 use Rattle.model.specs.Rows.{Program}
 use Rattle.model.specs.Values.{Value, Process, Processes}
-use Rattle.model.specs.Letters.{value-letter, one-if, letters-in, mailbox-count, messages-of}
+use Rattle.model.specs.Letters.{Letter, value-letter, one-if, letters-in, mailbox-count, messages-of}
 use Rattle.model.specs.Counters.{Counted, state-of, letter-of}
 use Rattle.model.proofs.Logic.{test}
+use Rattle.model.proofs.Keys.{same-key-iff}
 use Rattle.model.proofs.Counting.Station.{process-count, station-count, same, counted-at, station-least}
 
 -- a message among others, and one put last
-pub letters-among : (p : Program) (us vs : List Value) (v : Value) (l : ℕ) → letters-in p (us ++ v ∷ vs) l ≡ letters-in p (us ++ vs) l + one-if (eqb (value-letter p v) l)
+pub letters-among : (p : Program) (us vs : List Value) (v : Value) (l : Letter) → letters-in p (us ++ v ∷ vs) l ≡ letters-in p (us ++ vs) l + one-if (same-key (value-letter p v) l)
 unfolding letters-in
 letters-among p [] vs v l = omega arith
 letters-among p (a ∷ us) vs v l = omega (arith, letters-among p us vs v l)
 
-pub letters-append : (p : Program) (vs : List Value) (v : Value) (l : ℕ) → letters-in p (vs ++ (v ∷ [])) l ≡ letters-in p vs l + one-if (eqb (value-letter p v) l)
-letters-append p vs v l = letters-among p vs [] v l ∙ ap (λ (us : List Value). letters-in p us l + one-if (eqb (value-letter p v) l)) (append-nil vs)
+pub letters-append : (p : Program) (vs : List Value) (v : Value) (l : Letter) → letters-in p (vs ++ (v ∷ [])) l ≡ letters-in p vs l + one-if (same-key (value-letter p v) l)
+letters-append p vs v l = letters-among p vs [] v l ∙ ap (λ (us : List Value). letters-in p us l + one-if (same-key (value-letter p v) l)) (append-nil vs)
 
 -- each message is counted
 pub letters-least : (p : Program) (vs : List Value) (v : Value) → List·Memᴰ v vs → 1 ≤ letters-in p vs (value-letter p v)
@@ -31,17 +33,17 @@ unfolding letters-in one-if
 letters-least p [] v m = absurd (List·Memᴰ·not-nil m)
 letters-least p (a ∷ vs) v m =
     ⊎-elim
-    (λ (e : v ≡ a). rw (eq-eqb (value-letter p a) (value-letter p v) (ap (value-letter p) (sym e)), one-if) (omega arith))
+    (λ (e : v ≡ a). rw (same-key-iff (value-letter p a) (value-letter p v) .1 (ap (value-letter p) (sym e)), one-if) (omega arith))
     (λ (n : List·Memᴰ v vs). omega (arith, letters-least p vs v n))
     (List·Memᴰ·cases-cons m)
 
 -- a process with one message more than another of its class
-mailbox-more : (p : Program) (q q′ : Process) (x c l : ℕ) → q′ .class ≡ q .class → letters-in p (q′ .mailbox) l ≡ letters-in p (q .mailbox) l + one-if (eqb x l) → mailbox-count p q′ c l ≡ mailbox-count p q c l + one-if (eqb (q .class) c && eqb x l)
+mailbox-more : (p : Program) (q q′ : Process) (x : Letter) (c : ℕ) (l : Letter) → q′ .class ≡ q .class → letters-in p (q′ .mailbox) l ≡ letters-in p (q .mailbox) l + one-if (same-key x l) → mailbox-count p q′ c l ≡ mailbox-count p q c l + one-if (eqb (q .class) c && same-key x l)
 unfolding mailbox-count one-if
 mailbox-more p q q′ x c l e h = test (eqb (q .class) c) (λ t. rw (e, t, mailbox-count) h) (λ t. rw (e, t, mailbox-count) (omega arith))
 
 -- what such a process brings, also at another place
-pub process-more : (p : Program) (q q′ : Process) (x : ℕ) (k : Counted) → q′ .class ≡ q .class → ((l : ℕ) → letters-in p (q′ .mailbox) l ≡ letters-in p (q .mailbox) l + one-if (eqb x l)) → process-count p q′ k + one-if (same (counted-at p q) k) ≡ process-count p q k + one-if (same (counted-at p q′) k) + one-if (same (letter-of (q .class) x) k)
+pub process-more : (p : Program) (q q′ : Process) (x : Letter) (k : Counted) → q′ .class ≡ q .class → ((l : Letter) → letters-in p (q′ .mailbox) l ≡ letters-in p (q .mailbox) l + one-if (same-key x l)) → process-count p q′ k + one-if (same (counted-at p q) k) ≡ process-count p q k + one-if (same (counted-at p q′) k) + one-if (same (letter-of (q .class) x) k)
 unfolding process-count same counted-at one-if
 process-more p q q′ x (state-of s) e h = omega arith
 process-more p q q′ x (letter-of c l) e h = omega (arith, mailbox-more p q q′ x c l e (h l))

@@ -4,12 +4,12 @@ use mathlib.Core.Path.{_≡_, refl, sym, _∙_, ap}
 use mathlib.Core.List.{List, _∷_, List·Memᴰ, List·Memᴰ·head, List·Memᴰ·tail, Memᴰ·append-left, Memᴰ·append-right, List·Memᴰ·append-cases}
 use mathlib.Core.Logic.{⊎-elim}
 use mathlib.Core.Option.{some}
-use lib.Dec.{eqb}
+use Rattle.model.specs.Keys.{same-key}
 use Rattle.model.specs.Rows.{Program}
 use Rattle.model.specs.Heads.{branch-body}
 use Rattle.model.specs.Values.{Value, Bindings}
 use Rattle.model.specs.Matching.{match, Taken, first-branch, Received, receive-from}
-use Rattle.model.specs.Letters.{value-letter, one-if, letters-in}
+use Rattle.model.specs.Letters.{Letter, value-letter, one-if, letters-in}
 use Rattle.model.proofs.Transitions.Patterns.{match-exactly}
 use Rattle.model.proofs.Transitions.Branches.{Taken-by, branch-gives, branch-has, Taken-from, message-has}
 use Rattle.model.proofs.Counting.Mailboxes.{letters-among}
@@ -39,7 +39,7 @@ pub record Got (p : Program) (held : Bindings) (bs : List ℕ) (vs : List Value)
   pub message : Value
   pub was-there : List·Memᴰ message vs
   pub taken : first-branch p held bs message ≡ some (m .taken)
-  pub counts : (l : ℕ) → letters-in p vs l ≡ letters-in p (m .mailbox) l + one-if (eqb (value-letter p message) l)
+  pub counts : (l : Letter) → letters-in p vs l ≡ letters-in p (m .mailbox) l + one-if (same-key (value-letter p message) l)
   pub stays : (w : Value) → List·Memᴰ w (m .mailbox) → List·Memᴰ w vs
 
 pub got : (p : Program) (held : Bindings) (bs : List ℕ) (vs : List Value) (m : Received) → receive-from p held bs vs ≡ some m → Got p held bs vs m

@@ -10,10 +10,12 @@ use lib.Dec.{eqb}
 use borrow.Author.Tests.{eqb-true, eq-eqb}
 use Rattle.model.specs.Rows.{Program}
 use Rattle.model.specs.Values.{Process, Processes}
+use Rattle.model.specs.Keys.{same-key}
 use Rattle.model.specs.Tables.{same-state}
 use Rattle.model.specs.Letters.{one-if, state-in, processes-at, mailbox-count, messages-of}
 use Rattle.model.specs.Counters.{Counted, state-of, letter-of}
 use Rattle.model.proofs.Logic.{true-false, and-left, and-right, and-intro}
+use Rattle.model.proofs.Keys.{same-key-iff}
 use Rattle.model.proofs.Exact.Members.{same-state-iff}
 
 -- what one process brings to a count
@@ -31,12 +33,12 @@ unfoldable pub same : Counted → Counted → Bool
 same (state-of s) (state-of s′) = same-state s s′
 same (state-of s) (letter-of c l) = false
 same (letter-of c l) (state-of s) = false
-same (letter-of c l) (letter-of c′ l′) = eqb c c′ && eqb l l′
+same (letter-of c l) (letter-of c′ l′) = eqb c c′ && same-key l l′
 
 pub same-refl : (k : Counted) → same k k ≡ true
 unfolding same
 same-refl (state-of s) = same-state-iff s s .1 refl
-same-refl (letter-of c l) = and-intro (eqb c c) (eqb l l) (eq-eqb c c refl) (eq-eqb l l refl)
+same-refl (letter-of c l) = and-intro (eqb c c) (same-key l l) (eq-eqb c c refl) (same-key-iff l l .1 refl)
 
 pub same-path : (k k′ : Counted) → same k k′ ≡ true → k ≡ k′
 unfolding same
@@ -44,8 +46,8 @@ same-path (state-of s) (state-of s′) h = ap state-of (same-state-iff s s′ .0
 same-path (state-of s) (letter-of c l) h = true-false h refl
 same-path (letter-of c l) (state-of s) h = true-false h refl
 same-path (letter-of c l) (letter-of c′ l′) h =
-    let a = eqb-true c c′ (and-left (eqb c c′) (eqb l l′) h) in
-    let b = eqb-true l l′ (and-right (eqb c c′) (eqb l l′) h) in
+    let a = eqb-true c c′ (and-left (eqb c c′) (same-key l l′) h) in
+    let b = same-key-iff l l′ .0 (and-right (eqb c c′) (same-key l l′) h) in
     cc
 
 -- where a process counts

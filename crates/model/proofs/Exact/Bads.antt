@@ -2,21 +2,20 @@
 use Prim.Native.Nat.{ℕ, zero, suc, _+_, _-_, _≤_, _<_}
 use native.Mathlib.Omega.{arith}
 use mathlib.Core.Path.{_≡_, refl, sym, _∙_, ap, subst}
-use mathlib.Core.Bool.{_&&_}
-use mathlib.Core.Logic.{_⊎_, inl, inr, ⊎-elim}
+use mathlib.Core.Bool.{true, false}
+use mathlib.Core.Logic.{_⊎_, inl, inr}
 use mathlib.Core.List.{List, [], _∷_, _++_}
 use mathlib.Core.Option.{some, none}
 use lib.ListN.{length, replicate, length-replicate, replicate-append-replicate}
-use lib.Dec.{ltb, eqb}
+use lib.Dec.{eqb}
 use borrow.Author.Tests.{eqb-true, eq-eqb, ne-eqb}
 use Rattle.model.specs.Words.{Columns, left, right}
 use Rattle.model.specs.Reader.{past, read, first-wrong}
-use Rattle.model.specs.Rows.{Program, tag, is-head}
-use Rattle.model.specs.Letters.{letters}
-use Rattle.model.specs.Bads.{Part, bad, subject, minimum, further, item, bad-step, bad-row}
+use Rattle.model.specs.Rows.{Program}
+use Rattle.model.specs.Bads.{Part, bad, subject, minimum, detail, further, item, letter-arity, subject-step, detail-step, bad-step, bad-row}
 use Rattle.model.specs.Met.{closed-before}
 use Rattle.model.specs.Refusals.{Ahead, at-first, after-row}
-use Rattle.model.proofs.Logic.{test, and-left, or-cases}
+use Rattle.model.proofs.Logic.{test}
 use Rattle.model.proofs.Index.{count-end, count-split, count-last, count-last-miss}
 use Rattle.model.proofs.Reader.{read-range, read-split, after-past, first-wrong-none, fits-some}
 use Rattle.model.proofs.Parse.Grammar.{fits-tag}
@@ -25,28 +24,62 @@ use Rattle.model.proofs.Exact.Reading.{ahead-past, ahead-next}
 -- a row that a part takes: its tag, and what follows it
 pub data Taken (t : ℕ) (more : List Part) : Part → Type 0 where
   first-item : t ≡ 40 → item ≡ more → Taken t more bad
-  counting : (t ≡ 41) ⊎ (t ≡ 42) → [] ≡ more → Taken t more subject
-  least : t ≡ 43 → [] ≡ more → Taken t more minimum
+  of-head : t ≡ 41 → minimum 0 ∷ [] ≡ more → Taken t more subject
+  of-number : (a : ℕ) → t ≡ 42 → minimum a ∷ [] ≡ more → Taken t more subject
+  least : {a : ℕ} → t ≡ 43 → [] ≡ more → Taken t more (minimum a)
+  first-detail : {a : ℕ} → t ≡ 45 → detail a ∷ [] ≡ more → Taken t more (minimum (suc a))
+  detailed-least : t ≡ 43 → [] ≡ more → Taken t more (detail 0)
+  next-detail : {a : ℕ} → t ≡ 45 → detail a ∷ [] ≡ more → Taken t more (detail (suc a))
   another : t ≡ 40 → item ≡ more → Taken t more further
   closing : t ≡ 44 → [] ≡ more → Taken t more further
 
+-- a part that is heads and then the minimum
+taken-detail : (p : Program) (a t n : ℕ) (more : List Part) → detail-step p a t n ≡ some more → Taken t more (detail a)
+unfolding detail-step
+taken-detail p zero t n more h = let (e, q) = fits-tag t 43 _ _ more h in detailed-least e q
+taken-detail p (suc a) t n more h = let (e, q) = fits-tag t 45 _ _ more h in next-detail e q
+
+-- or the minimum alone
+taken-least : (a t : ℕ) (more : List Part) → eqb t 45 ≡ false → Taken t more (detail 0) → Taken t more (minimum a)
+taken-least a t more n (detailed-least e q) = least e q
+
+taken-first : (a t : ℕ) (more : List Part) → eqb t 45 ≡ true → Taken t more (detail a) → Taken t more (minimum a)
+taken-first zero t more n (detailed-least e q) = absurd (omega (arith, eqb-true t 45 n))
+taken-first (suc a) t more n (next-detail e q) = first-detail e q
+
 pub taken : (p : Program) (x : Part) (t n : ℕ) (more : List Part) → bad-step p x t n ≡ some more → Taken t more x
-unfolding bad-step
+unfolding bad-step subject-step
 taken p bad t n more h = let (e, q) = fits-tag t 40 _ _ more h in first-item e q
 taken p subject t n more h =
-    let (e, q) = fits-some _ [] more h in
-    counting (⊎-elim (λ z. inl (eqb-true t 41 (and-left (eqb t 41) _ z))) (λ z. inr (eqb-true t 42 (and-left (eqb t 42) _ z)))
-    (or-cases (eqb t 41 && is-head (tag p n)) (eqb t 42 && ltb n (letters p)) e)) q
-taken p minimum t n more h = let (e, q) = fits-tag t 43 _ _ more h in least e q
+    test (eqb t 41)
+    (λ e. of-head (eqb-true t 41 e) (fits-some _ (minimum 0 ∷ []) more (rw (e, bad-step, subject-step) at h) .1))
+    (λ e. let (z, q) = fits-tag t 42 _ _ more (rw (e, bad-step, subject-step) at h) in of-number (letter-arity p n) z q)
+taken p (minimum a) t n more h =
+    test (eqb t 45)
+    (λ e. taken-first a t more e (taken-detail p a t n more (rw (e, bad-step) at h)))
+    (λ e. taken-least a t more e (taken-detail p 0 t n more (rw (e, bad-step) at h)))
+taken p (detail a) t n more h = taken-detail p a t n more h
 taken p further t n more h =
     test (eqb t 44) (λ e. closing (eqb-true t 44 e) (fits-some _ [] more (rw (e, bad-step) at h) .1))
     (λ e. let (z, q) = fits-tag t 40 _ _ more (rw (e, bad-step) at h) in another z q)
 
-pub taken-subject : (t : ℕ) (more : List Part) → Taken t more subject → ((t ≡ 41) ⊎ (t ≡ 42)) × ([] ≡ more)
-taken-subject t more (counting e q) = (e, q)
+-- the same by the part
+pub taken-subject : {t : ℕ} {more : List Part} → Taken t more subject → ((t ≡ 41) × (minimum 0 ∷ [] ≡ more)) ⊎ ((a : ℕ) × ((t ≡ 42) × (minimum a ∷ [] ≡ more)))
+taken-subject (of-head e q) = inl (e, q)
+taken-subject (of-number a e q) = inr (a, (e, q))
 
-pub taken-minimum : (t : ℕ) (more : List Part) → Taken t more minimum → (t ≡ 43) × ([] ≡ more)
-taken-minimum t more (least e q) = (e, q)
+pub taken-alone : {t : ℕ} {more : List Part} → Taken t more (minimum 0) → (t ≡ 43) × ([] ≡ more)
+taken-alone (least e q) = (e, q)
+
+pub taken-minimum : {a t : ℕ} {more : List Part} → Taken t more (minimum (suc a)) → ((t ≡ 43) × ([] ≡ more)) ⊎ ((t ≡ 45) × (detail a ∷ [] ≡ more))
+taken-minimum (least e q) = inl (e, q)
+taken-minimum (first-detail e q) = inr (e, q)
+
+pub taken-last : {t : ℕ} {more : List Part} → Taken t more (detail 0) → (t ≡ 43) × ([] ≡ more)
+taken-last (detailed-least e q) = (e, q)
+
+pub taken-next : {a t : ℕ} {more : List Part} → Taken t more (detail (suc a)) → (t ≡ 45) × (detail a ∷ [] ≡ more)
+taken-next (next-detail e q) = (e, q)
 
 -- how many bads are closed before a row: one more behind a closing row, as many behind any other
 module _ (rows : Columns) where
@@ -68,8 +101,9 @@ module _ (p : Program) (rows : Columns) (bads : ℕ) (fit : first-wrong (bad-ste
 
   -- the parts of a bad that is begun
   data Begun : List Part → Type 0 where
-    at-subject : Begun (subject ∷ minimum ∷ further ∷ [])
-    at-minimum : Begun (minimum ∷ further ∷ [])
+    at-subject : Begun (subject ∷ further ∷ [])
+    at-minimum : {a : ℕ} → Begun (minimum a ∷ further ∷ [])
+    at-detail : {a : ℕ} → Begun (detail a ∷ further ∷ [])
     at-further : Begun (further ∷ [])
 
   -- Before each row either so many bads are to come, and every row before is of a closed one, or one of them is begun.
@@ -82,20 +116,27 @@ module _ (p : Program) (rows : Columns) (bads : ℕ) (fit : first-wrong (bad-ste
   begun r k x front items g e c n = inside x front k g e (omega (arith, closed-same rows r n))
 
   goes-on : (r k : ℕ) (x : Part) (front more : List Part) → Begun (x ∷ front) → Taken (left rows r) more x → closed-before rows r + suc k ≡ bads → Standing (r + 1) (more ++ (front ++ replicate k bad))
-  goes-on r k x front more at-subject (counting e q) c =
-      begun r k minimum (further ∷ []) _ at-minimum (ap (λ m. m ++ minimum ∷ further ∷ replicate k bad) (sym q)) c
-      (λ z. ⊎-elim (λ w. omega arith) (λ w. omega arith) e)
+  goes-on r k x front more at-subject (of-head e q) c =
+      begun r k (minimum 0) (further ∷ []) _ at-minimum (ap (λ m. m ++ further ∷ replicate k bad) (sym q)) c (λ z. omega arith)
+  goes-on r k x front more at-subject (of-number a e q) c =
+      begun r k (minimum a) (further ∷ []) _ at-minimum (ap (λ m. m ++ further ∷ replicate k bad) (sym q)) c (λ z. omega arith)
   goes-on r k x front more at-minimum (least e q) c =
       begun r k further [] _ at-further (ap (λ m. m ++ further ∷ replicate k bad) (sym q)) c (λ z. omega arith)
+  goes-on r k x front more at-minimum (first-detail {a = a} e q) c =
+      begun r k (detail a) (further ∷ []) _ at-detail (ap (λ m. m ++ further ∷ replicate k bad) (sym q)) c (λ z. omega arith)
+  goes-on r k x front more at-detail (detailed-least e q) c =
+      begun r k further [] _ at-further (ap (λ m. m ++ further ∷ replicate k bad) (sym q)) c (λ z. omega arith)
+  goes-on r k x front more at-detail (next-detail {a = a} e q) c =
+      begun r k (detail a) (further ∷ []) _ at-detail (ap (λ m. m ++ further ∷ replicate k bad) (sym q)) c (λ z. omega arith)
   goes-on r k x front more at-further (another e q) c =
-      begun r k subject (minimum ∷ further ∷ []) _ at-subject (ap (λ m. m ++ replicate k bad) (sym q)) c (λ z. omega arith)
+      begun r k subject (further ∷ []) _ at-subject (ap (λ m. m ++ replicate k bad) (sym q)) c (λ z. omega arith)
   goes-on r k x front more at-further (closing e q) c =
       let rises = closed-on rows r e in
       between k (ap (λ m. m ++ replicate k bad) (sym q)) (omega arith) (λ i b. omega (arith, closed-rises rows i r (omega arith)))
 
   begins : (r k : ℕ) (more : List Part) → Taken (left rows r) more bad → closed-before rows r + suc k ≡ bads → Standing (r + 1) (more ++ replicate k bad)
   begins r k more (first-item e q) c =
-      begun r k subject (minimum ∷ further ∷ []) _ at-subject (ap (λ m. m ++ replicate k bad) (sym q)) c (λ z. omega arith)
+      begun r k subject (further ∷ []) _ at-subject (ap (λ m. m ++ replicate k bad) (sym q)) c (λ z. omega arith)
 
   standing-next : (r : ℕ) (x : Part) (items more : List Part) → Standing r (x ∷ items) → Taken (left rows r) more x → Standing (r + 1) (more ++ items)
   standing-next r x items more (between zero e c b) h = absurd (omega (arith, ap length e))
@@ -125,6 +166,7 @@ module _ (p : Program) (rows : Columns) (bads : ℕ) (fit : first-wrong (bad-ste
   no-bad-begun : (x : Part) (front items below : List Part) → Begun (x ∷ front) → bad ∷ items ≡ (x ∷ front) ++ below → ⊥
   no-bad-begun x front items below at-subject e = let z : _≡_ {A = ℕ} 0 1 = cc in omega arith
   no-bad-begun x front items below at-minimum e = let z : _≡_ {A = ℕ} 0 1 = cc in omega arith
+  no-bad-begun x front items below at-detail e = let z : _≡_ {A = ℕ} 0 1 = cc in omega arith
   no-bad-begun x front items below at-further e = let z : _≡_ {A = ℕ} 0 1 = cc in omega arith
 
   stands-between : (r j k : ℕ) → j + suc k ≡ bads → Standing r (replicate (suc k) bad) → (closed-before rows r ≡ j) × ((q : ℕ) → q < r → closed-before rows q < j)

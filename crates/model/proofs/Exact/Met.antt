@@ -3,42 +3,94 @@ use Prim.Native.Nat.{ℕ, zero, suc, _+_, _-_, _≤_, _<_}
 use native.Mathlib.Decide.{ℕ-discrete, decLt}
 use native.Mathlib.Omega.{arith}
 use mathlib.Core.Path.{_≡_, refl, sym, _∙_, ap, subst}
-use mathlib.Core.Bool.{true}
+use mathlib.Core.Bool.{true, not}
 use mathlib.Core.Logic.{_↔_, Iff·trans, Iff·and, Iff·rfl, _⊎_, inl, inr, ⊎-elim}
 use mathlib.Core.List.{List, [], _∷_, _++_}
 use mathlib.Core.Option.{none}
 use lib.ListN.{replicate}
+use lib.Dec.{eqb}
 use borrow.Author.Tests.{eq-eqb, ne-eqb}
 use Rattle.model.specs.Words.{Columns, left, right}
 use Rattle.model.specs.Reader.{first-wrong}
 use Rattle.model.specs.Rows.{Program}
-use Rattle.model.specs.Bads.{Part, bad, subject, minimum, further, item, bad-step, bad-row, Subject, subject-at, item-at, items-from, items, met}
-use Rattle.model.specs.Met.{Item, of-states, of-letters, closed-before, All-met, Met-exactly}
+use Rattle.model.specs.Bads.{Part, bad, subject, minimum, detail, further, item, bad-step, bad-row, Subject, at-head, of-letters, of-letter, past-heads, numbers, subject-at, item-at, items-from, items, met}
+use Rattle.model.specs.Met.{Item, of-states, of-sum, of-one, closed-before, All-met, Met-exactly}
 use Rattle.model.specs.Refusals.{Ahead}
+use Rattle.model.proofs.Logic.{not-passes, not-fails}
+use Rattle.model.proofs.Index.{first-unique}
 use Rattle.model.proofs.Exact.Tests.{leb-iff, and-iff}
-use Rattle.model.proofs.Exact.Bads.{Taken, first-item, another, closing, taken-subject, taken-minimum, closed-on, closed-same, closed-rises, stands, Takes, takes}
+use Rattle.model.proofs.Exact.Bads.{Taken, first-item, another, closing, taken-subject, taken-alone, taken-minimum, taken-last, taken-next, closed-on, closed-same, closed-rises, stands, Takes, takes}
+
+-- The rows of the item whose first row is r: its minimum stands in row e, and between there are heads.
+record Item-rows (rows : Columns) (r e : ℕ) : Type 0 where
+  first : left rows r ≡ 40
+  second : ((left rows (r + 1) ≡ 41) × (e ≡ r + 2)) ⊎ (left rows (r + 1) ≡ 42)
+  behind : r + 2 ≤ e
+  heads : (i : ℕ) → r + 2 ≤ i → i < e → left rows i ≡ 45
+  last : left rows e ≡ 43
+
+-- the first row that is no head is the minimum's
+past-is : (rows : Columns) (r e : ℕ) → e < rows .size → Item-rows rows r e → past-heads rows (r + 2) ≡ e
+unfolding past-heads
+past-is rows r e b i =
+    first-unique (r + 2) (rows .size) e (λ j. not (eqb (left rows j) 45)) (omega (arith, i .behind)) (record {
+      from = i .behind;
+      upto = omega arith;
+      passes = λ z. not-passes (eqb (left rows e) 45) (ne-eqb (left rows e) 45 (λ w. omega (arith, i .last)));
+      before = λ j lo hi. not-fails (eqb (left rows j) 45) (eq-eqb (left rows j) 45 (i .heads j lo hi));
+    })
 
 -- an item's first tag, what it counts and its minimum
 item-tag : (rows : Columns) (r : ℕ) (k : Subject) (n : ℕ) → Item rows r k n → left rows r ≡ 40
 item-tag rows r k n (of-states a b c) = a
-item-tag rows r k n (of-letters a b c) = a
+item-tag rows r k n (of-sum a b c) = a
+item-tag rows r k n (of-one e l a b h c) = a
 
-item-subject : (rows : Columns) (r : ℕ) (k : Subject) (n : ℕ) → Item rows r k n → (subject-at rows r ≡ k) × (right rows (r + 2) ≡ n)
+subject-states : (rows : Columns) (r e : ℕ) → left rows (r + 1) ≡ 41 → subject-at rows r e ≡ at-head (right rows r) (right rows (r + 1))
 unfolding subject-at
-item-subject rows r k n (of-states a b c) = (rw (eq-eqb _ 41 b, subject-at), refl)
-item-subject rows r k n (of-letters a b c) = (rw (ne-eqb (left rows (r + 1)) 41 (λ z. omega arith), subject-at), refl)
+subject-states rows r e a = rw (eq-eqb (left rows (r + 1)) 41 a, subject-at)
 
--- the three rows of an item
-record Item-rows (rows : Columns) (r : ℕ) : Type 0 where
-  first : left rows r ≡ 40
-  second : (left rows (r + 1) ≡ 41) ⊎ (left rows (r + 1) ≡ 42)
-  third : left rows (r + 2) ≡ 43
-
-item-there : (rows : Columns) (r : ℕ) → Item-rows rows r → Item rows r (subject-at rows r) (right rows (r + 2))
+subject-sum : (rows : Columns) (r e : ℕ) → left rows (r + 1) ≡ 42 → e ≡ r + 2 → subject-at rows r e ≡ of-letters (right rows r) (right rows (r + 1))
 unfolding subject-at
-item-there rows r i =
-    ⊎-elim (λ e. rw (eq-eqb _ 41 e, subject-at) (of-states (i .first) e (i .third)))
-    (λ e. rw (ne-eqb (left rows (r + 1)) 41 (λ z. omega arith), subject-at) (of-letters (i .first) e (i .third))) (i .second)
+subject-sum rows r e a z = rw (ne-eqb (left rows (r + 1)) 41 (λ w. omega arith), eq-eqb e (r + 2) z, subject-at)
+
+subject-one : (rows : Columns) (r e : ℕ) → left rows (r + 1) ≡ 42 → r + 2 < e → subject-at rows r e ≡ of-letter (right rows r) (right rows (r + 1) ∷ numbers rows (r + 2) e)
+unfolding subject-at
+subject-one rows r e a l = rw (ne-eqb (left rows (r + 1)) 41 (λ w. omega arith), ne-eqb e (r + 2) (λ w. omega arith), subject-at)
+
+-- where the minimum is told by two ways, it is one
+one-end : (rows : Columns) (r e d : ℕ) → Item-rows rows r e → r + 2 ≤ d → ((i : ℕ) → r + 2 ≤ i → i < d → left rows i ≡ 45) → left rows d ≡ 43 → e ≡ d
+one-end rows r e d i lo heads last = elim (decLt e d) [
+  | yes z ↦ absurd (omega (arith, heads e (i .behind) z, i .last))
+  | no z ↦ elim (decLt d e) [
+    | yes y ↦ absurd (omega (arith, i .heads d lo y))
+    | no y ↦ omega arith
+  ]
+]
+
+item-subject : (rows : Columns) (r e : ℕ) (k : Subject) (n : ℕ) → Item-rows rows r e → Item rows r k n → (subject-at rows r e ≡ k) × (right rows e ≡ n)
+item-subject rows r e k n i (of-states a b c) =
+    let z = one-end rows r e (r + 2) i (omega arith) (λ j lo hi. absurd (omega arith)) c in
+    (subject-states rows r e b, ap (right rows) z)
+item-subject rows r e k n i (of-sum a b c) =
+    let z = one-end rows r e (r + 2) i (omega arith) (λ j lo hi. absurd (omega arith)) c in
+    (subject-sum rows r e b z, ap (right rows) z)
+item-subject rows r e k n i (of-one d l a b h c) =
+    let z = one-end rows r e d i (omega arith) h c in
+    (subject-one rows r e b (omega arith) ∙ ap (λ x. of-letter (right rows r) (right rows (r + 1) ∷ numbers rows (r + 2) x)) z, ap (right rows) z)
+
+item-there : (rows : Columns) (r e : ℕ) → Item-rows rows r e → Item rows r (subject-at rows r e) (right rows e)
+item-there rows r e i =
+    ⊎-elim
+    (λ h. rw (subject-states rows r e (h .0), h .1) (of-states (i .first) (h .0) (rw (h .1) at (i .last))))
+    (λ h. elim (ℕ-discrete e (r + 2)) [
+      | yes z ↦ rw (subject-sum rows r e h z, z) (of-sum (i .first) h (rw z at (i .last)))
+      | no z ↦
+          let b = i .behind in
+          let l : r + 2 < e = omega arith in
+          rw (subject-one rows r e h l) (of-one e l (i .first) h (i .heads) (i .last))
+    ])
+    (i .second)
 
 module _ (p : Program) (rows : Columns) (bads : ℕ) (fit : first-wrong (bad-step p) rows (replicate bads bad) ≡ none) where
   abbrev Before : ℕ → List Part → Type 0
@@ -52,24 +104,74 @@ module _ (p : Program) (rows : Columns) (bads : ℕ) (fit : first-wrong (bad-ste
     opens-bad : Opens bad
     opens-further : Opens further
 
+  -- heads from row q on, then the minimum
+  record Ends (q : ℕ) (items : List Part) : Type 0 where
+    at : ℕ
+    from : q ≤ at
+    heads : (i : ℕ) → q ≤ i → i < at → left rows i ≡ 45
+    last : left rows at ≡ 43
+    upto : at + 1 ≤ rows .size
+    rest : Before (at + 1) (further ∷ items)
+
+  ends-here : {q : ℕ} {x : Part} {items : List Part} (h : Takes p rows bads fit q x (further ∷ items)) → (left rows q ≡ 43) × ([] ≡ h .more) → (d : Ends q items) × (d .at ≡ q)
+  ends-here {q} h (e, same) = (
+    record { at = q; from = omega arith; heads = λ i lo hi. absurd (omega arith); last = e; upto = h .within; rest = h .rest [] same },
+    refl,
+  )
+
+  ends-behind : {q : ℕ} {items : List Part} → left rows q ≡ 45 → Ends (q + 1) items → Ends q items
+  ends-behind {q} e d =
+      record {
+        at = d .at;
+        from = omega (arith, d .from);
+        heads = λ i lo hi. elim (ℕ-discrete i q) [ yes z ↦ rw z e | no z ↦ d .heads i (omega arith) hi ];
+        last = d .last;
+        upto = d .upto;
+        rest = d .rest;
+      }
+
+  ends-detail : (a q : ℕ) (items : List Part) → q ≤ rows .size → Before q (detail a ∷ further ∷ items) → Ends q items
+  ends-detail zero q items b before =
+      let h = takes p rows bads fit q (detail zero) (further ∷ items) b before in ends-here h (taken-last (h .row)) .0
+  ends-detail (suc a) q items b before =
+      let h = takes p rows bads fit q (detail (suc a)) (further ∷ items) b before in
+      let (e, same) = taken-next (h .row) in
+      ends-behind e (ends-detail a (q + 1) items (h .within) (h .rest (detail a ∷ []) same))
+
+  -- the minimum alone, and heads before it
+  ends-alone : (q : ℕ) (items : List Part) → q ≤ rows .size → Before q (minimum 0 ∷ further ∷ items) → (d : Ends q items) × (d .at ≡ q)
+  ends-alone q items b before = let h = takes p rows bads fit q (minimum 0) (further ∷ items) b before in ends-here h (taken-alone (h .row))
+
+  ends-minimum : (a q : ℕ) (items : List Part) → q ≤ rows .size → Before q (minimum a ∷ further ∷ items) → Ends q items
+  ends-minimum zero q items b before = ends-alone q items b before .0
+  ends-minimum (suc a) q items b before =
+      let h = takes p rows bads fit q (minimum (suc a)) (further ∷ items) b before in
+      ⊎-elim (λ z. ends-here h z .0) (λ z. ends-behind (z .0) (ends-detail a (q + 1) items (h .within) (h .rest (detail a ∷ []) (z .1)))) (taken-minimum (h .row))
+
   record Next-item (r : ℕ) (items : List Part) : Type 0 where
-    here : Item-rows rows r
-    upto : r + 3 ≤ rows .size
-    rest : Before (r + 3) (further ∷ items)
+    at : ℕ
+    here : Item-rows rows r at
+    upto : at + 1 ≤ rows .size
+    rest : Before (at + 1) (further ∷ items)
+
+  next-item : (r : ℕ) (items : List Part) → left rows r ≡ 40 → (d : Ends (r + 2) items) → ((left rows (r + 1) ≡ 41) × (d .at ≡ r + 2)) ⊎ (left rows (r + 1) ≡ 42) → Next-item r items
+  next-item r items e d second =
+      record {
+        at = d .at;
+        here = record { first = e; second = second; behind = d .from; heads = d .heads; last = d .last };
+        upto = d .upto;
+        rest = d .rest;
+      }
 
   begins-item : (r : ℕ) (items : List Part) → left rows r ≡ 40 → r + 1 ≤ rows .size → Before (r + 1) (item ++ items) → Next-item r items
   begins-item r items e b a =
-      let second = takes p rows bads fit (r + 1) subject (minimum ∷ further ∷ items) b a in
-      let (subject-tag, more₁) = taken-subject _ _ (second .row) in
-      let third = takes p rows bads fit (r + 1 + 1) minimum (further ∷ items) (second .within) (second .rest [] more₁) in
-      let (minimum-tag, more₂) = taken-minimum _ _ (third .row) in
+      let h = takes p rows bads fit (r + 1) subject (further ∷ items) b a in
       let y : r + 1 + 1 ≡ r + 2 = omega arith in
-      let z : r + 1 + 1 + 1 ≡ r + 3 = omega arith in
-      record {
-        here = record { first = e; second = subject-tag; third = rw y at minimum-tag };
-        upto = omega (arith, third .within);
-        rest = rw z at (third .rest [] more₂);
-      }
+      let within : r + 2 ≤ rows .size = rw y at (h .within) in
+      ⊎-elim
+      (λ z. let (d, alone) = ends-alone (r + 2) items within (rw y at (h .rest (minimum 0 ∷ []) (z .1))) in next-item r items e d (inl (z .0, alone)))
+      (λ z. let (n, (u, same)) = z in next-item r items e (ends-minimum n (r + 2) items within (rw y at (h .rest (minimum n ∷ []) same))) (inr u))
+      (taken-subject (h .row))
 
   opened : (r : ℕ) (x : Part) (items : List Part) → Opens x → Takes p rows bads fit r x items → Next-item r items ⊎ (left rows r ≡ 44)
   opened r x items opens-bad h = by-row (h .row)
@@ -87,47 +189,63 @@ module _ (p : Program) (rows : Columns) (bads : ℕ) (fit : first-wrong (bad-ste
     abbrev Met-from : ℕ → Type 0
     Met-from r = (q : ℕ) → r ≤ q → q < rows .size → closed q ≡ closed r → (k : Subject) (n : ℕ) → Item rows q k n → n ≤ counts k
 
-    abbrev Met-at : ℕ → Type 0
-    Met-at r = right rows (r + 2) ≤ counts (subject-at rows r)
+    abbrev Met-at : ℕ → ℕ → Type 0
+    Met-at r e = right rows e ≤ counts (subject-at rows r e)
 
-    test-item : (n r : ℕ) → left rows r ≡ 40 → (met counts (items-from rows (suc n) r) ≡ true) ↔ (Met-at r × (met counts (items-from rows n (r + 3)) ≡ true))
+    test-item : (n r e : ℕ) → left rows r ≡ 40 → past-heads rows (r + 2) ≡ e → (met counts (items-from rows (suc n) r) ≡ true) ↔ (Met-at r e × (met counts (items-from rows n (e + 1)) ≡ true))
     unfolding items-from item-at met
-    test-item n r e = rw (eq-eqb _ 40 e, items-from) (and-iff _ _ (leb-iff (right rows (r + 2)) (counts (subject-at rows r))) Iff·rfl)
+    test-item n r e z past = rw (eq-eqb _ 40 z, items-from, past) (and-iff _ _ (leb-iff (right rows e) (counts (subject-at rows r e))) Iff·rfl)
 
     no-item : (q r : ℕ) (k : Subject) (n : ℕ) {A : Type 0} → q ≡ r → (left rows r ≡ 40 → ⊥) → Item rows q k n → A
     no-item q r k n same out i = absurd (out (sym (ap (left rows) same) ∙ item-tag rows q k n i))
 
-    closed-behind : (r : ℕ) → Item-rows rows r → closed (r + 3) ≡ closed r
-    closed-behind r i =
-        let y : r + 1 + 1 ≡ r + 2 = omega arith in
-        let z : r + 2 + 1 ≡ r + 3 = omega arith in
-        let a = closed-same rows r (λ w. omega (arith, i .first)) in
-        let b = rw y at (closed-same rows (r + 1) (λ w. ⊎-elim (λ e. omega arith) (λ e. omega arith) (i .second))) in
-        let c = rw z at (closed-same rows (r + 2) (λ w. omega (arith, i .third))) in
-        c ∙ (b ∙ a)
+    -- no row from r up to q closes a bad
+    closed-flat : (n r : ℕ) → ((i : ℕ) → r ≤ i → i < r + n → left rows i ≡ 44 → ⊥) → closed (r + n) ≡ closed r
+    closed-flat zero r h = let z : r + 0 ≡ r = omega arith in ap closed z
+    closed-flat (suc n) r h =
+        let z : r + suc n ≡ r + n + 1 = omega arith in
+        ap closed z ∙ (closed-same rows (r + n) (h (r + n) (omega arith) (omega arith)) ∙ closed-flat n r (λ i lo hi. h i lo (omega arith)))
 
-    item-and-rest : (r : ℕ) (items : List Part) → Next-item r items → (Met-at r × Met-from (r + 3)) ↔ Met-from r
+    -- the tags of an item's rows, behind the first
+    item-tags : (r e : ℕ) → Item-rows rows r e → (i : ℕ) → r < i → i ≤ e → (left rows i ≡ 40 → ⊥) × (left rows i ≡ 44 → ⊥)
+    item-tags r e i j lo hi = elim (ℕ-discrete j (r + 1)) [
+      | yes z ↦
+          let same = ap (left rows) z in (
+            λ w. ⊎-elim (λ (u : (left rows (r + 1) ≡ 41) × (e ≡ r + 2)). omega (arith, u .0)) (λ (u : left rows (r + 1) ≡ 42). omega arith) (i .second),
+            λ w. ⊎-elim (λ (u : (left rows (r + 1) ≡ 41) × (e ≡ r + 2)). omega (arith, u .0)) (λ (u : left rows (r + 1) ≡ 42). omega arith) (i .second),
+          )
+      | no z ↦ elim (ℕ-discrete j e) [
+        | yes y ↦ let same = ap (left rows) y in (λ w. omega (arith, i .last), λ w. omega (arith, i .last))
+        | no y ↦ let h = i .heads j (omega arith) (omega arith) in (λ w. omega arith, λ w. omega arith)
+      ]
+    ]
+
+    closed-behind : (r e : ℕ) → Item-rows rows r e → closed (e + 1) ≡ closed r
+    closed-behind r e i =
+        let b = i .behind in
+        let z : r + (e + 1 - r) ≡ e + 1 = omega arith in
+        sym (ap closed z) ∙ closed-flat (e + 1 - r) r
+        (λ j lo hi w. elim (ℕ-discrete j r) [ yes y ↦ (let same = ap (left rows) y in omega (arith, i .first)) | no y ↦ item-tags r e i j (omega arith) (omega arith) .1 w ])
+
+    item-and-rest : (r : ℕ) (items : List Part) (i : Next-item r items) → (Met-at r (i .at) × Met-from (i .at + 1)) ↔ Met-from r
     item-and-rest r items i = (
-      λ h q a b c k n it. elim (decLt q (r + 3)) [
-        | no z ↦ h .1 q (omega arith) b (c ∙ sym (closed-behind r (i .here))) k n it
-        | yes z ↦ elim (ℕ-discrete q r) [
+      λ h q a b c k n it. elim (decLt (i .at) q) [
+        | yes z ↦ h .1 q (omega arith) b (c ∙ sym (closed-behind r (i .at) (i .here))) k n it
+        | no z ↦ elim (ℕ-discrete q r) [
           | yes w ↦ this q k n w (h .0) it
-          | no w ↦ elim (ℕ-discrete q (r + 1)) [
-            | yes v ↦ no-item q (r + 1) k n v (λ e. ⊎-elim (λ u. omega arith) (λ u. omega arith) (i .here .second)) it
-            | no v ↦ no-item q (r + 2) k n (omega arith) (λ e. omega (arith, i .here .third)) it
-          ]
+          | no w ↦ no-item q q k n refl (item-tags r (i .at) (i .here) q (omega arith) (omega arith) .0) it
         ]
       ],
       λ h. (
-        h r (omega arith) (omega (arith, i .upto)) refl _ _ (item-there rows r (i .here)),
-        λ q a b c. h q (omega arith) b (c ∙ closed-behind r (i .here)),
+        h r (omega arith) (omega (arith, i .upto, i .here .behind)) refl _ _ (item-there rows r (i .at) (i .here)),
+        λ q a b c. h q (omega (arith, i .here .behind)) b (c ∙ closed-behind r (i .at) (i .here)),
       ),
     )
       where
-        this : (q : ℕ) (k : Subject) (n : ℕ) → q ≡ r → Met-at r → Item rows q k n → n ≤ counts k
+        this : (q : ℕ) (k : Subject) (n : ℕ) → q ≡ r → Met-at r (i .at) → Item rows q k n → n ≤ counts k
         this q k n same h it =
-            let (u, v) = item-subject rows r k n (subst (λ x. Item rows x k n) same it) in
-            let w : counts (subject-at rows r) ≡ counts k = ap counts u in
+            let (u, v) = item-subject rows r (i .at) k n (i .here) (subst (λ x. Item rows x k n) same it) in
+            let w : counts (subject-at rows r (i .at)) ≡ counts k = ap counts u in
             omega arith
 
     closed-met : (r : ℕ) → left rows r ≡ 44 → Met-from r
@@ -141,8 +259,8 @@ module _ (p : Program) (rows : Columns) (bads : ℕ) (fit : first-wrong (bad-ste
     met-there zero r x items o b l a = (λ h q c d. absurd (omega arith), λ h. refl)
     met-there (suc n) r x items o b l a =
         ⊎-elim
-        (λ i. Iff·trans (test-item n r (i .here .first))
-        (Iff·trans (Iff·and Iff·rfl (met-there n (r + 3) further items opens-further (i .upto) (omega arith) (i .rest))) (item-and-rest r items i)))
+        (λ i. Iff·trans (test-item n r (i .at) (i .here .first) (past-is rows r (i .at) (omega (arith, i .upto)) (i .here)))
+        (Iff·trans (Iff·and Iff·rfl (met-there n (i .at + 1) further items opens-further (i .upto) (omega (arith, i .here .behind)) (i .rest))) (item-and-rest r items i)))
         (λ e. (λ h. closed-met r e, λ h. rw (ne-eqb (left rows r) 40 (λ z. omega arith), items-from)))
         (opened r x items o (takes p rows bads fit r x items b a))
 

@@ -22,6 +22,7 @@ use Rattle.model.specs.Verify.{Message, message, evidence-check, ceiling
 use Rattle.model.specs.Demands.{Bytes, Within-limits, Well-formed, In-form, Mails-no-function, Inductive, Safe-exactly}
 use Rattle.model.proofs.Exact.Tests.{leb-iff}
 use Rattle.model.proofs.Exact.Checks.{then-iff, unless-iff}
+use Rattle.model.proofs.Numbering.Within.{within-iff}
 use Rattle.model.proofs.Exact.Answer.{verdict-safe}
 use Rattle.model.proofs.Exact.Parts.{parts-none}
 use Rattle.model.proofs.Exact.Names.{program-none}
@@ -59,7 +60,7 @@ check-none most bytes lent =
     (then-iff _ _ (bad-none ws s p)
     (then-iff _ _ (entry-none s p t)
     (then-iff _ _ (open-none ws s t)
-    (then-iff _ _ (mailed-none s p t) (unless-iff _ _ (leb-iff (counter-count p t) (most .counters)))))))
+    (then-iff _ _ (mailed-none s p t) (unless-iff _ _ (within-iff p t (most .counters)))))))
     (then-iff _ _ (then-iff _ _ (ceiling-none ws s (counter-count p t)) Iff·rfl)
     (unless-iff _ _ (leb-iff (length (system-words p t)) lent)))))) (
       λ h. let ((whole, limits), (well, ((bads, ((flow, (mail, states)), (closed, (mailed, counters)))), ((ceiling, tests), space)))) = h in (

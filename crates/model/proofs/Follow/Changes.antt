@@ -1,12 +1,12 @@
 -- What a step changes in the counts of a station, and the rule that changes the counters so.
-use Prim.Native.Nat.{ℕ, _+_, _≤_, _<_}
+use Prim.Native.Nat.{ℕ, _+_, _≤_}
 use mathlib.Core.Path.{_≡_}
 use mathlib.Core.Bool.{true}
 use Rattle.model.specs.Rows.{Program}
 use Rattle.model.specs.Values.{Processes}
-use Rattle.model.specs.Letters.{letters, one-if, processes-at}
+use Rattle.model.specs.Letters.{Letter, one-if, processes-at}
 use Rattle.model.specs.Tables.{Tables, State, state-index}
-use Rattle.model.specs.Counters.{letter-key, has-letter, letter-index, Counted, state-of, letter-of}
+use Rattle.model.specs.Counters.{has-letter, letter-index, Counted, state-of, letter-of}
 use Rattle.model.specs.Rules.{Effect, quiet, reads, puts, starts, Rule, rule}
 use Rattle.model.specs.Wanted.{Listed-state}
 use Rattle.model.proofs.Counting.Station.{station-count, same}
@@ -16,8 +16,8 @@ unfoldable pub use Rattle.model.proofs.Markings.{effect-less, effect-mo
 -- what a step does besides moving its process: a message of this class and letter read or put, a process started in this state
 pub data Change : Type 0 where
   no-change : Change
-  read-one : (class letter : ℕ) → Change
-  put-one : (class letter : ℕ) → Change
+  read-one : (class : ℕ) (letter : Letter) → Change
+  put-one : (class : ℕ) (letter : Letter) → Change
   start-one : State → Change
 
 -- what is taken from a count, and what is added to it
@@ -51,6 +51,6 @@ rule-of p t from to change = rule (state-index t from) (state-index t to) (effec
 -- what changes has a counter
 abbrev pub Known : Program → Tables → Change → Type 0
 Known p t no-change = Unit {0}
-Known p t (read-one c l) = (l < letters p) × (has-letter p t (letter-key p c l) ≡ true)
-Known p t (put-one c l) = (l < letters p) × (has-letter p t (letter-key p c l) ≡ true)
+Known p t (read-one c l) = has-letter p t c l ≡ true
+Known p t (put-one c l) = has-letter p t c l ≡ true
 Known p t (start-one s) = Listed-state t s

@@ -51,7 +51,7 @@ module _ (p : Program) (t : Tables) where
   effect-takes : (change : Change) (k : Counted) (x : ℕ) → Known p t change → counter-of p t k ≡ some x → effect-less (effect-of p t change) x ≡ taken-by change k
   unfolding effect-less taken-by
   effect-takes no-change k x n h = refl
-  effect-takes (read-one c l) k x n h = one-counter (letter-of c l) k (letter-index p t c l) x (letter-counter p t c l (n .0) (n .1)) h
+  effect-takes (read-one c l) k x n h = one-counter (letter-of c l) k (letter-index p t c l) x (letter-counter p t c l n) h
   effect-takes (put-one c l) k x n h = refl
   effect-takes (start-one s) k x n h = refl
 
@@ -59,7 +59,7 @@ module _ (p : Program) (t : Tables) where
   unfolding effect-more added-by
   effect-adds no-change k x n h = refl
   effect-adds (read-one c l) k x n h = refl
-  effect-adds (put-one c l) k x n h = one-counter (letter-of c l) k (letter-index p t c l) x (letter-counter p t c l (n .0) (n .1)) h
+  effect-adds (put-one c l) k x n h = one-counter (letter-of c l) k (letter-index p t c l) x (letter-counter p t c l n) h
   effect-adds (start-one s) k x n h = one-counter (state-of s) k (state-index t s) x (listed-counter s n) h
 
   -- and nothing without a counter changes
@@ -67,7 +67,7 @@ module _ (p : Program) (t : Tables) where
   unfolding added-by
   adds-none no-change k n h = refl
   adds-none (read-one c l) k n h = refl
-  adds-none (put-one c l) k n h = no-counter (letter-of c l) k (letter-index p t c l) (letter-counter p t c l (n .0) (n .1)) h
+  adds-none (put-one c l) k n h = no-counter (letter-of c l) k (letter-index p t c l) (letter-counter p t c l n) h
   adds-none (start-one s) k n h = no-counter (state-of s) k (state-index t s) (listed-counter s n) h
 
 -- a change takes messages alone, and takes or adds
@@ -107,7 +107,7 @@ readable-before p t counts no-change n h = refl
 readable-before p t counts (read-one c l) n h =
     let x = letter-index p t c l in
     let z = ap one-if (same-refl (letter-of c l)) in
-    le-leb 1 (counts x) (omega (arith, h (letter-of c l) x (letter-counter p t c l (n .0) (n .1))))
+    le-leb 1 (counts x) (omega (arith, h (letter-of c l) x (letter-counter p t c l n)))
 readable-before p t counts (put-one c l) n h = refl
 readable-before p t counts (start-one s) n h = refl
 

@@ -8,19 +8,19 @@ use lib.ListN.{length, getD, set}
 use Rattle.model.specs.Rows.{Program, size, tag, num, kind}
 use Rattle.model.specs.Rows.{send}
 use Rattle.model.specs.Scopes.{rest}
-use Rattle.model.specs.Letters.{letters, row-letter, value-letter, state-in}
+use Rattle.model.specs.Letters.{head-count, row-head, value-letter, state-in}
 use Rattle.model.specs.Values.{Value, Bindings, bind, value-of, Process, Processes, process-of}
 use Rattle.model.specs.Run.{_>>=_, moved, deliver, act}
 use Rattle.model.specs.Tables.{Tables, onward}
 use Rattle.model.specs.Rules.{puts, rules}
-use Rattle.model.specs.Counters.{letter-index}
+use Rattle.model.specs.Counters.{letters-allowed, letter-index}
 use Rattle.model.specs.Wanted.{Member, Closed, flow, mail, state, Sends, send-mail, send-name, send-rest, by-state}
 use Rattle.model.proofs.Transitions.Callees.{process-of-some}
 use Rattle.model.proofs.Heads.{head-send}
 use Rattle.model.proofs.Acts.{act-send}
 use Rattle.model.proofs.Lookups.{bind-some, value-held}
 use Rattle.model.proofs.Covering.{row-for, Covered}
-use Rattle.model.proofs.Steps.Letters.{Classes, letter-kept}
+use Rattle.model.proofs.Steps.Letters.{Classes, letter-allowed}
 use Rattle.model.proofs.Parse.Reached.{Rows-fit}
 use Rattle.model.proofs.Parse.Heads.{rest-of}
 use Rattle.model.proofs.Parse.Lengths.{Columns-whole}
@@ -38,10 +38,10 @@ pub record Sent (p : Program) (t : Tables) (classes : List ℕ) (qs : Processes)
   pub there : target < length classes
   pub covered : Covered p t classes message
   pub mailed : Member (t .mail) (getD classes target 0) (row-for classes message)
-  pub same : row-letter p (row-for classes message) ≡ value-letter p message
+  pub allowed : List·Memᴰ (value-letter p message) (letters-allowed p t (row-for classes message))
   pub follows : List·Memᴰ (moving p t (state-in p q) (onward (state-in p q) (rest p (q .location))) (puts (letter-index p t (getD classes target 0) (value-letter p message)))) (rules p t)
 
-module _ (p : Program) (t : Tables) (fit : Rows-fit p) (w : Columns-whole p) (past-end : tag p (size p) ≡ 0) (low : (v : ℕ) → row-letter p v < letters p) (closed : Closed p t) (classes : List ℕ) (classed : Classes p classes) (qs : Processes) (i : ℕ) (q : Process) (qs′ : Processes) (g : Good p t classes q) (k : kind (tag p (q .location)) ≡ send) where
+module _ (p : Program) (t : Tables) (fit : Rows-fit p) (w : Columns-whole p) (past-end : tag p (size p) ≡ 0) (low : (v : ℕ) → row-head p v < head-count p) (closed : Closed p t) (classes : List ℕ) (classed : Classes p classes) (qs : Processes) (i : ℕ) (q : Process) (qs′ : Processes) (g : Good p t classes q) (k : kind (tag p (q .location)) ≡ send) where
   sent : (target v : Value) (j : ℕ) → value-of p (q .held) (num p (q .location + 1)) ≡ some target → process-of target ≡ some j → value-of p (q .held) (num p (q .location + 2)) ≡ some v → deliver (set qs i (moved q (rest p (q .location)) (bind (num p (q .location)) v (q .held)))) j v ≡ some qs′ → Sent p t classes qs i q qs′
   unfolding row-for
   sent target v j to-whom is what e =
@@ -50,7 +50,7 @@ module _ (p : Program) (t : Tables) (fit : Rows-fit p) (w : Columns-whole p) (pa
       let (addressee, there) = subst (λ (u : Value). Member (t .flow) (num p (r + 1)) (row-for classes u) × Covered p t classes u) (process-of-some target j is) (value-held p t closed classes (q .held) (num p (r + 1)) target (g .held) to-whom) in
       let (value, covered) = value-held p t closed classes (q .held) (num p (r + 2)) v (g .held) what in
       let d : ℕ = getD classes j 0 in
-      let same = letter-kept p t classes v past-end classed covered in
+      let allowed = letter-allowed p t fit w past-end low classes classed v covered in
       let sends : Sends p t r n (rest p r) d (row-for classes v) = record { target = num p (r + 1); message = num p (r + 2); sends-at = head-send p r k; to-class = addressee; class = classed j there; value = value } in
       record {
         held = bind n v (q .held);
@@ -62,9 +62,8 @@ module _ (p : Program) (t : Tables) (fit : Rows-fit p) (w : Columns-whole p) (pa
         there = there;
         covered = covered;
         mailed = closed (mail d (row-for classes v)) (by-state (g .present) (send-mail n (rest p r) d (row-for classes v) sends));
-        same = same;
-        follows = subst (λ (l : ℕ). List·Memᴰ (moving p t (state-in p q) (onward (state-in p q) (rest p r)) (puts (letter-index p t d l))) (rules p t)) same
-            (rule-send p t (state-in p q) (g .present) d (row-for classes v) k addressee (classed j there) value (low (row-for classes v)));
+        allowed = allowed;
+        follows = rule-send p t (state-in p q) (g .present) d (row-for classes v) (value-letter p v) k addressee (classed j there) value allowed;
       }
 
   pub send-step : act p qs i q ≡ some qs′ → Sent p t classes qs i q qs′

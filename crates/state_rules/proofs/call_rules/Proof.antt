@@ -12,7 +12,8 @@ use Rattle.rules.specs.Added.{Added}
 use borrow.Author.Tests.{not-false}
 use Rattle.rules.proofs.Adding.{added-none, added-same, added-kept, added-quiet}
 use Rattle.state_rules.specs.Heads.{call-turn}
-use Rattle.state_rules.proofs.Heads.{tag-head, here-low, name-starts, flow-order, value-from, takes-function, call-gathered, call-low, call-kept, call-skipped}
+use Rattle.pattern_letters.proofs.Entries.{name-starts, flow-order}
+use Rattle.state_rules.proofs.Heads.{tag-head, here-low, value-from, takes-function, call-gathered, call-low, call-kept, call-skipped}
 use Rattle.state_rules.proofs.call_rules.Statement.{statement}
 use Rattle.state_rules.proofs.call_rules.Tie as tie
 

@@ -1,64 +1,58 @@
 use Prim.Native.Nat.{_+_, _-_, _≤_, _<_}
 use native.Mathlib.Omega.{arith}
-use mathlib.Core.Path.{_≡_, ap}
-use lib.ListN.{getD}
-use borrow.Author.Needs.{needs}
+use mathlib.Core.Path.{_≡_, _∙_, ap}
+use lib.ListN.{length, getD}
 use Rattle.model.specs.Index.{gather}
+use Rattle.model.specs.Words.{right}
 use Rattle.model.specs.Rows.{program, send}
 use Rattle.model.specs.Tables.{tables}
 use Rattle.lists.specs.Lists.{range-from, range-to}
 use Rattle.rules.specs.Added.{Added}
-use Rattle.rules.proofs.Adding.{added-none, added-same, added-kept}
-use Rattle.state_rules.proofs.Heads.{tag-head, here-low, send-low, name-starts, flow-order}
-use Rattle.model.specs.Rows.{num}
-use Rattle.state_rules.proofs.Letters.{send-gathered, later-value}
-use Rattle.rules.proofs.Adding.{added-more}
+use Rattle.rules.proofs.Adding.{added-none, added-same, added-kept, added-more}
+use Rattle.pattern_letters.proofs.Entries.{name-starts, flow-order}
 use Rattle.state_rules.specs.Heads.{send-turn}
-use Rattle.state_rules.proofs.Sends.{class-low, send-skipped, send-kept, pair-room}
-use Rattle.model.specs.Words.{right}
+use Rattle.state_rules.proofs.Heads.{tag-head, here-low, send-low}
+use Rattle.state_rules.proofs.Letters.{set-room}
+use Rattle.state_rules.proofs.Sends.{class-low, sent-mailed, send-skipped, send-kept, send-room, send-gathered, later-value}
+use borrow.Author.Needs.{needs}
 use Rattle.state_rules.proofs.send_rules.Statement.{statement}
 use Rattle.state_rules.proofs.send_rules.Tie as tie
 
 abbrev Inv-loop : tie.InvT-loop
-Inv-loop ws s afters flow-at names letter-at letters at i r tos₀ others₀ target message next from to n₀ j₀ tos others n j = Added send tos₀ others₀ 0 tos others n (λ e. gather from j (send-turn (program ws s) (tables ws s) names letter-at letters message next e)) × (from ≤ j) × (j ≤ to) × (j < to → n ≤ getD letter-at (right (tables ws s .flow) j) 0)
+Inv-loop ws s afters flow-at letter-at letters at i r tos₀ others₀ target message next from to words found₀ n₀ j₀ tos others found n j = Added send tos₀ others₀ 0 tos others n (λ e. gather from j (send-turn (program ws s) (tables ws s) message next e)) × (from ≤ j) × (j ≤ to) × (j < to → n ≤ getD letter-at (right (tables ws s .flow) j) 0) × (length found ≡ 17)
 
 abbrev μ-loop : tie.MeasureT-loop
-μ-loop ws s afters flow-at names letter-at letters at i r tos₀ others₀ target message next from to n₀ j₀ tos others n j = to - j
-
--- the entries of the target
-begin : (c : tie.After-word2 Inv-loop μ-loop) → (c .before .word .result ≡ range-from (tables (c .before .before .before .before .before .before .before .before .before .before .before .before .before .before .args .ws .now) (c .before .before .before .before .before .before .before .before .before .before .before .before .before .before .args .s) .flow) (c .before .before .before .before .num .result)) × (c .word2 .result ≡ range-to (tables (c .before .before .before .before .before .before .before .before .before .before .before .before .before .before .args .ws .now) (c .before .before .before .before .before .before .before .before .before .before .before .before .before .before .args .s) .flow) (c .before .before .before .before .num .result))
-begin c = name-starts (c .before .before .before .before .before .before .before .before .before .before .before .before .before .before .pre .0) _ _ _ _ (c .before .before .before .before .before .before .before .before .before .before .before .before .before .before .pre .1 .1 .0) (send-low (c .before .before .before .before .before .before .before .before .before .before .before .before .before .before .pre .0) _ _ _ (c .before .before .before .before .before .before .before .before .before .before .before .before .before .before .pre .1 .1 .1 .1 .1 .1 .0) (c .before .before .before .before .num .ensures) (c .before .before .before .num2 .ensures) .0) (c .before .word .ensures .0) (c .word2 .ensures .0)
-
--- an entry of the target
-inside : (c : tie.In-loop Inv-loop μ-loop) → c .before .loop .j < c .before .before .before .before .before .before .before .before .before .before .before .before .before .before .before .before .args .s .flows
-inside c = let (u, v) = begin (c .before .before) in let (x, y) = flow-order (c .before .before .before .before .before .before .before .before .before .before .before .before .before .before .before .before .pre .0) _ _ _ u v in omega arith
+μ-loop ws s afters flow-at letter-at letters at i r tos₀ others₀ target message next from to words found₀ n₀ j₀ tos others found n j = to - j
 
 add-num : tie.Need-add-num Inv-loop μ-loop
-add-num c = record { fits = omega (arith, here-low (c .before .before .before .before .before .before .before .before .before .pre .0) (c .before .before .before .before .before .before .before .before .before .args .r) (tag-head _ 5 (c .before .before .before .before .before .before .before .before .before .pre .1 .1 .1 .1 .1 .1 .0) (omega arith) (omega arith)), c .before .before .before .before .before .before .before .before .before .pre .0 .limits .rows) }
+add-num c = record { fits = omega (arith, (here-low (c .before .before .before .before .before .before .before .before .pre .0) (c .before .before .before .before .before .before .before .before .args .r) (tag-head _ 5 (c .before .before .before .before .before .before .before .before .pre .1 .1 .1 .1 .1 .1 .0) (omega arith) (omega arith))), (c .before .before .before .before .before .before .before .before .pre .0) .limits .rows) }
 
 num-requires : tie.Need-num-requires Inv-loop μ-loop
 num-requires c κs = search needs
 
 add-num-2 : tie.Need-add-num-2 Inv-loop μ-loop
-add-num-2 c = record { fits = omega (arith, here-low (c .before .before .before .before .before .before .before .before .before .before .pre .0) (c .before .before .before .before .before .before .before .before .before .before .args .r) (tag-head _ 5 (c .before .before .before .before .before .before .before .before .before .before .pre .1 .1 .1 .1 .1 .1 .0) (omega arith) (omega arith)), c .before .before .before .before .before .before .before .before .before .before .pre .0 .limits .rows) }
+add-num-2 c = record { fits = omega (arith, (here-low (c .before .before .before .before .before .before .before .before .before .pre .0) (c .before .before .before .before .before .before .before .before .before .args .r) (tag-head _ 5 (c .before .before .before .before .before .before .before .before .before .pre .1 .1 .1 .1 .1 .1 .0) (omega arith) (omega arith))), (c .before .before .before .before .before .before .before .before .before .pre .0) .limits .rows) }
 
 num-requires-2 : tie.Need-num-requires-2 Inv-loop μ-loop
 num-requires-2 c κs = search needs
 
 behind-requires : tie.Need-behind-requires Inv-loop μ-loop
-behind-requires c κs = (c .before .before .before .before .before .before .before .before .before .before .before .pre .0, (c .before .before .before .before .before .before .before .before .before .before .before .pre .1 .0, (c .before .before .before .before .before .before .before .before .before .before .before .pre .1 .1 .1 .1 .1 .0 .0, tag-head _ 5 (c .before .before .before .before .before .before .before .before .before .before .before .pre .1 .1 .1 .1 .1 .1 .0) (omega arith) (omega arith))))
+behind-requires c κs = ((c .before .before .before .before .before .before .before .before .before .before .pre .0), ((c .before .before .before .before .before .before .before .before .before .before .pre .1 .0), ((c .before .before .before .before .before .before .before .before .before .before .pre .1 .1 .1 .1 .1 .0 .0), (tag-head _ 5 (c .before .before .before .before .before .before .before .before .before .before .pre .1 .1 .1 .1 .1 .1 .0) (omega arith) (omega arith)))))
 
 word-requires : tie.Need-word-requires Inv-loop μ-loop
-word-requires c κs = omega (arith, send-low (c .before .before .before .before .before .before .before .before .before .before .before .before .pre .0) _ _ _ (c .before .before .before .before .before .before .before .before .before .before .before .before .pre .1 .1 .1 .1 .1 .1 .0) (c .before .before .num .ensures) (c .before .num2 .ensures) .0, c .before .before .before .before .before .before .before .before .before .before .before .before .pre .1 .1 .0 .room)
+word-requires c κs = omega (arith, (send-low (c .before .before .before .before .before .before .before .before .before .before .before .pre .0) _ _ _ (c .before .before .before .before .before .before .before .before .before .before .before .pre .1 .1 .1 .1 .1 .1 .0) (c .before .before .num .ensures) (c .before .num2 .ensures)) .0, (c .before .before .before .before .before .before .before .before .before .before .before .pre .1 .1 .0) .room)
 
 add-word : tie.Need-add-word Inv-loop μ-loop
-add-word c = record { fits = omega (arith, send-low (c .before .before .before .before .before .before .before .before .before .before .before .before .before .pre .0) _ _ _ (c .before .before .before .before .before .before .before .before .before .before .before .before .before .pre .1 .1 .1 .1 .1 .1 .0) (c .before .before .before .num .ensures) (c .before .before .num2 .ensures) .0, c .before .before .before .before .before .before .before .before .before .before .before .before .before .pre .0 .limits .names) }
+add-word c = record { fits = omega (arith, (send-low (c .before .before .before .before .before .before .before .before .before .before .before .before .pre .0) _ _ _ (c .before .before .before .before .before .before .before .before .before .before .before .before .pre .1 .1 .1 .1 .1 .1 .0) (c .before .before .before .num .ensures) (c .before .before .num2 .ensures)) .0, (c .before .before .before .before .before .before .before .before .before .before .before .before .pre .0) .limits .names) }
 
 word-requires-2 : tie.Need-word-requires-2 Inv-loop μ-loop
-word-requires-2 c κs = omega (arith, send-low (c .before .before .before .before .before .before .before .before .before .before .before .before .before .pre .0) _ _ _ (c .before .before .before .before .before .before .before .before .before .before .before .before .before .pre .1 .1 .1 .1 .1 .1 .0) (c .before .before .before .num .ensures) (c .before .before .num2 .ensures) .0, c .before .before .before .before .before .before .before .before .before .before .before .before .before .pre .1 .1 .0 .room)
+word-requires-2 c κs = omega (arith, (send-low (c .before .before .before .before .before .before .before .before .before .before .before .before .pre .0) _ _ _ (c .before .before .before .before .before .before .before .before .before .before .before .before .pre .1 .1 .1 .1 .1 .1 .0) (c .before .before .before .num .ensures) (c .before .before .num2 .ensures)) .0, (c .before .before .before .before .before .before .before .before .before .before .before .before .pre .1 .1 .0) .room)
+
+letter-width-requires : tie.Need-letter-width-requires Inv-loop μ-loop
+letter-width-requires c κs = ((c .before .before .before .before .before .before .before .before .before .before .before .before .before .pre .0), (c .before .before .before .before .before .before .before .before .before .before .before .before .before .pre .1 .1 .1 .0))
 
 loop-holds : tie.Need-loop-holds Inv-loop μ-loop
-loop-holds c = let (u, v) = begin c in (added-none send _ _ 0 _ _ (omega arith), omega arith, flow-order (c .before .before .before .before .before .before .before .before .before .before .before .before .before .before .pre .0) _ _ _ u v .0, λ l. omega arith)
+loop-holds c = (added-none send _ _ 0 _ _ (omega arith), omega arith, (flow-order (c .before .before .before .before .before .before .before .before .before .before .before .before .before .before .pre .0) _ _ _ ((name-starts (c .before .before .before .before .before .before .before .before .before .before .before .before .before .before .pre .0) _ _ _ _ (c .before .before .before .before .before .before .before .before .before .before .before .before .before .before .pre .1 .1 .0) ((send-low (c .before .before .before .before .before .before .before .before .before .before .before .before .before .before .pre .0) _ _ _ (c .before .before .before .before .before .before .before .before .before .before .before .before .before .before .pre .1 .1 .1 .1 .1 .1 .0) (c .before .before .before .before .before .num .ensures) (c .before .before .before .before .num2 .ensures)) .0) (c .before .before .word .ensures .0) (c .before .word2 .ensures .0)) .0) ((name-starts (c .before .before .before .before .before .before .before .before .before .before .before .before .before .before .pre .0) _ _ _ _ (c .before .before .before .before .before .before .before .before .before .before .before .before .before .before .pre .1 .1 .0) ((send-low (c .before .before .before .before .before .before .before .before .before .before .before .before .before .before .pre .0) _ _ _ (c .before .before .before .before .before .before .before .before .before .before .before .before .before .before .pre .1 .1 .1 .1 .1 .1 .0) (c .before .before .before .before .before .num .ensures) (c .before .before .before .before .num2 .ensures)) .0) (c .before .before .word .ensures .0) (c .before .word2 .ensures .0)) .1)) .0, (λ l. omega arith), search needs)
 
 flow-value-requires : tie.Need-flow-value-requires Inv-loop μ-loop
 flow-value-requires c κs = search needs
@@ -67,25 +61,34 @@ is-class-requires : tie.Need-is-class-requires Inv-loop μ-loop
 is-class-requires c κs = search needs
 
 add-j : tie.Need-add-j Inv-loop μ-loop
-add-j c = record { fits = omega (arith, inside (c .before .before .before), c .before .before .before .before .before .before .before .before .before .before .before .before .before .before .before .before .before .before .before .pre .0 .limits .flows) }
+add-j c = record { fits = omega (arith, (flow-order (c .before .before .before .before .before .before .before .before .before .before .before .before .before .before .before .before .before .before .before .pre .0) _ _ _ ((name-starts (c .before .before .before .before .before .before .before .before .before .before .before .before .before .before .before .before .before .before .before .pre .0) _ _ _ _ (c .before .before .before .before .before .before .before .before .before .before .before .before .before .before .before .before .before .before .before .pre .1 .1 .0) ((send-low (c .before .before .before .before .before .before .before .before .before .before .before .before .before .before .before .before .before .before .before .pre .0) _ _ _ (c .before .before .before .before .before .before .before .before .before .before .before .before .before .before .before .before .before .before .before .pre .1 .1 .1 .1 .1 .1 .0) (c .before .before .before .before .before .before .before .before .before .before .num .ensures) (c .before .before .before .before .before .before .before .before .before .num2 .ensures)) .0) (c .before .before .before .before .before .before .before .word .ensures .0) (c .before .before .before .before .before .before .word2 .ensures .0)) .0) ((name-starts (c .before .before .before .before .before .before .before .before .before .before .before .before .before .before .before .before .before .before .before .pre .0) _ _ _ _ (c .before .before .before .before .before .before .before .before .before .before .before .before .before .before .before .before .before .before .before .pre .1 .1 .0) ((send-low (c .before .before .before .before .before .before .before .before .before .before .before .before .before .before .before .before .before .before .before .pre .0) _ _ _ (c .before .before .before .before .before .before .before .before .before .before .before .before .before .before .before .before .before .before .before .pre .1 .1 .1 .1 .1 .1 .0) (c .before .before .before .before .before .before .before .before .before .before .num .ensures) (c .before .before .before .before .before .before .before .before .before .num2 .ensures)) .0) (c .before .before .before .before .before .before .before .word .ensures .0) (c .before .before .before .before .before .before .word2 .ensures .0)) .1)) .1, (c .before .before .before .before .before .before .before .before .before .before .before .before .before .before .before .before .before .before .before .pre .0) .limits .flows) }
 
 loop-less : tie.Need-loop-less Inv-loop μ-loop
 loop-less c = search needs
 
 loop-again : tie.Need-loop-again Inv-loop μ-loop
-loop-again c = (added-kept send _ _ 0 _ _ _ _ _ _ (c .before .before .before .before .loop .inv .0) (c .before .before .before .before .loop .inv .1) (λ i. send-skipped (c .before .before .before .before .before .before .before .before .before .before .before .before .before .before .before .before .before .before .before .pre .0) _ _ _ _ _ i _ _ _ (c .before .before .flow-value .ensures) (c .before .is-class .ensures) (c .if1 .taken)), search needs, search needs, λ l. let (u, v) = begin (c .before .before .before .before .before) in let w = later-value (c .before .before .before .before .before .before .before .before .before .before .before .before .before .before .before .before .before .before .before .pre .0) _ _ (c .before .before .before .before .before .before .before .before .before .before .before .before .before .before .before .before .before .before .before .pre .1 .1 .1 .1 .0) (c .before .before .before .before .before .before .before .before .before .num .result) (c .before .before .before .before .loop .j) (omega (arith, c .before .before .before .before .loop .inv .1)) (omega arith) in omega (arith, w .1, c .before .before .before .before .loop .inv .3 (search needs)))
+loop-again c = (added-kept send _ _ 0 _ _ _ _ _ _ (c .before .before .before .before .loop .inv .0) (c .before .before .before .before .loop .inv .1) (λ i. send-skipped (c .before .before .before .before .before .before .before .before .before .before .before .before .before .before .before .before .before .before .before .pre .0) _ _ i _ _ _ (c .before .before .flow-value .ensures) (c .before .is-class .ensures) (c .if1 .taken)), search needs, search needs, (λ l. omega (arith, (later-value (c .before .before .before .before .before .before .before .before .before .before .before .before .before .before .before .before .before .before .before .pre .0) _ (c .before .before .before .before .before .before .before .before .before .before .before .before .before .before .before .before .before .before .before .pre .1 .1 .1 .0) (c .before .before .before .before .before .before .before .before .before .before .num .result) (c .before .before .before .before .loop .j) (omega (arith, c .before .before .before .before .loop .inv .1, (name-starts (c .before .before .before .before .before .before .before .before .before .before .before .before .before .before .before .before .before .before .before .pre .0) _ _ _ _ (c .before .before .before .before .before .before .before .before .before .before .before .before .before .before .before .before .before .before .before .pre .1 .1 .0) ((send-low (c .before .before .before .before .before .before .before .before .before .before .before .before .before .before .before .before .before .before .before .pre .0) _ _ _ (c .before .before .before .before .before .before .before .before .before .before .before .before .before .before .before .before .before .before .before .pre .1 .1 .1 .1 .1 .1 .0) (c .before .before .before .before .before .before .before .before .before .before .num .ensures) (c .before .before .before .before .before .before .before .before .before .num2 .ensures)) .0) (c .before .before .before .before .before .before .before .word .ensures .0) (c .before .before .before .before .before .before .word2 .ensures .0)) .0)) (omega (arith, (name-starts (c .before .before .before .before .before .before .before .before .before .before .before .before .before .before .before .before .before .before .before .pre .0) _ _ _ _ (c .before .before .before .before .before .before .before .before .before .before .before .before .before .before .before .before .before .before .before .pre .1 .1 .0) ((send-low (c .before .before .before .before .before .before .before .before .before .before .before .before .before .before .before .before .before .before .before .pre .0) _ _ _ (c .before .before .before .before .before .before .before .before .before .before .before .before .before .before .before .before .before .before .before .pre .1 .1 .1 .1 .1 .1 .0) (c .before .before .before .before .before .before .before .before .before .before .num .ensures) (c .before .before .before .before .before .before .before .before .before .num2 .ensures)) .0) (c .before .before .before .before .before .before .before .word .ensures .0) (c .before .before .before .before .before .before .word2 .ensures .0)) .1))) .1, c .before .before .before .before .loop .inv .3 (search needs))), c .before .before .before .before .loop .inv .4)
 
-put-letters-requires : tie.Need-put-letters-requires Inv-loop μ-loop
-put-letters-requires c κs = let d = class-low (c .before .before .before .before .before .before .before .before .before .before .before .before .before .before .before .before .before .before .before .before .before .pre .0) _ _ (c .before .before .before .is-class .ensures) (c .before .before .if1 .left) in (c .before .before .before .before .before .before .before .before .before .before .before .before .before .before .before .before .before .before .before .before .before .pre .0, (c .before .before .before .before .before .before .before .before .before .before .before .before .before .before .before .before .before .before .before .before .before .pre .1 .1 .1 .0, (c .before .before .before .before .before .before .before .before .before .before .before .before .before .before .before .before .before .before .before .before .before .pre .1 .1 .1 .1 .0, ((send-low (c .before .before .before .before .before .before .before .before .before .before .before .before .before .before .before .before .before .before .before .before .before .pre .0) _ _ _ (c .before .before .before .before .before .before .before .before .before .before .before .before .before .before .before .before .before .before .before .before .before .pre .1 .1 .1 .1 .1 .1 .0) (c .before .before .before .before .before .before .before .before .before .before .before .num .ensures) (c .before .before .before .before .before .before .before .before .before .before .num2 .ensures) .1, d), pair-room (c .before .before .before .before .before .before .before .before .before .before .before .before .before .before .before .before .before .before .before .before .before .pre .0) _ _ (c .before .before .before .before .before .before .before .before .before .before .before .before .before .before .before .before .before .before .before .before .before .pre .1 .1 .1 .1 .0) (c .before .before .before .before .before .before .before .before .before .before .before .before .before .before .before .before .before .before .before .before .before .pre .1 .1 .1 .1 .1 .1 .1 .1 .0) _ _ _ _ (c .before .before .before .before .before .before .before .before .before .before .before .before .before .before .before .before .before .before .before .before .before .pre .1 .1 .1 .1 .1 .1 .1 .1 .1) (c .before .before .before .before .before .before .loop .inv .0 .tos-long) (c .before .before .before .before .before .before .loop .inv .0 .others-long) _ _ d (omega (arith, ap (λ v. getD (c .before .before .before .before .before .before .before .before .before .before .before .before .before .before .before .before .before .before .before .before .before .args .letter-at .now) v 0) (c .before .before .before .before .flow-value .ensures), c .before .before .before .before .before .before .loop .inv .3 (search needs)))))))
+slice-aggregate-sent-letters : tie.Need-slice-aggregate-sent-letters Inv-loop μ-loop
+slice-aggregate-sent-letters c = search needs
+
+sent-letters-requires : tie.Need-sent-letters-requires Inv-loop μ-loop
+sent-letters-requires c κs = ((c .before .before .before .before .before .before .before .before .before .before .before .before .before .before .before .before .before .before .before .before .pre .0), ((c .before .before .before .before .before .before .before .before .before .before .before .before .before .before .before .before .before .before .before .before .pre .1 .1 .0), ((c .before .before .before .before .before .before .before .before .before .before .before .before .before .before .before .before .before .before .before .before .pre .1 .1 .1 .0), ((c .before .before .before .before .before .before .before .before .before .before .before .before .before .before .before .before .before .before .before .before .pre .1 .1 .1 .1 .0), ((send-low (c .before .before .before .before .before .before .before .before .before .before .before .before .before .before .before .before .before .before .before .before .pre .0) _ _ _ (c .before .before .before .before .before .before .before .before .before .before .before .before .before .before .before .before .before .before .before .before .pre .1 .1 .1 .1 .1 .1 .0) (c .before .before .before .before .before .before .before .before .before .before .before .num .ensures) (c .before .before .before .before .before .before .before .before .before .before .num2 .ensures)) .1, ((sent-mailed (c .before .before .before .before .before .before .before .before .before .before .before .before .before .before .before .before .before .before .before .before .pre .0) (c .before .before .before .before .before .before .before .before .before .before .before .before .before .before .before .before .before .before .before .before .args .i) (c .before .before .before .before .before .before .before .before .before .before .before .before .before .before .before .before .before .before .before .before .args .r) _ _ _ _ _ _ (c .before .before .before .before .before .before .before .before .before .before .before .before .before .before .before .before .before .before .before .before .pre .1 .1 .1 .1 .1 .0 .1) (c .before .before .before .before .before .before .before .before .before .before .before .before .before .before .before .before .before .before .before .before .pre .1 .1 .1 .1 .1 .1 .1 .0) (c .before .before .before .before .before .before .before .before .before .before .before .before .before .before .before .before .before .before .before .before .pre .1 .1 .1 .1 .1 .1 .0) ((name-starts (c .before .before .before .before .before .before .before .before .before .before .before .before .before .before .before .before .before .before .before .before .pre .0) _ _ _ _ (c .before .before .before .before .before .before .before .before .before .before .before .before .before .before .before .before .before .before .before .before .pre .1 .1 .0) ((send-low (c .before .before .before .before .before .before .before .before .before .before .before .before .before .before .before .before .before .before .before .before .pre .0) _ _ _ (c .before .before .before .before .before .before .before .before .before .before .before .before .before .before .before .before .before .before .before .before .pre .1 .1 .1 .1 .1 .1 .0) (c .before .before .before .before .before .before .before .before .before .before .before .num .ensures) (c .before .before .before .before .before .before .before .before .before .before .num2 .ensures)) .0) (c .before .before .before .before .before .before .before .before .word .ensures .0) (c .before .before .before .before .before .before .before .word2 .ensures .0)) .0 ∙ ap (range-from (tables (c .before .before .before .before .before .before .before .before .before .before .before .before .before .before .before .before .before .before .before .before .args .ws .now) (c .before .before .before .before .before .before .before .before .before .before .before .before .before .before .before .before .before .before .before .before .args .s) .flow)) (c .before .before .before .before .before .before .before .before .before .before .before .num .ensures)) ((name-starts (c .before .before .before .before .before .before .before .before .before .before .before .before .before .before .before .before .before .before .before .before .pre .0) _ _ _ _ (c .before .before .before .before .before .before .before .before .before .before .before .before .before .before .before .before .before .before .before .before .pre .1 .1 .0) ((send-low (c .before .before .before .before .before .before .before .before .before .before .before .before .before .before .before .before .before .before .before .before .pre .0) _ _ _ (c .before .before .before .before .before .before .before .before .before .before .before .before .before .before .before .before .before .before .before .before .pre .1 .1 .1 .1 .1 .1 .0) (c .before .before .before .before .before .before .before .before .before .before .before .num .ensures) (c .before .before .before .before .before .before .before .before .before .before .num2 .ensures)) .0) (c .before .before .before .before .before .before .before .before .word .ensures .0) (c .before .before .before .before .before .before .before .word2 .ensures .0)) .1 ∙ ap (range-to (tables (c .before .before .before .before .before .before .before .before .before .before .before .before .before .before .before .before .before .before .before .before .args .ws .now) (c .before .before .before .before .before .before .before .before .before .before .before .before .before .before .before .before .before .before .before .before .args .s) .flow)) (c .before .before .before .before .before .before .before .before .before .before .before .num .ensures)) (c .before .before .before .before .before .loop .inv .1) (search needs) (c .before .before .before .flow-value .ensures) (c .before .before .is-class .ensures) (c .before .if1 .left) (c .before .before .before .before .before .before .before .before .before .before .num2 .ensures)), set-room (c .before .before .before .before .before .before .before .before .before .before .before .before .before .before .before .before .before .before .before .before .pre .0) _ (c .before .before .before .before .before .before .before .before .before .before .before .before .before .before .before .before .before .before .before .before .pre .1 .1 .1 .1 .1 .1 .1 .1 .0) (search needs)))))))
+
+slice-aggregate-letter-rules : tie.Need-slice-aggregate-letter-rules Inv-loop μ-loop
+slice-aggregate-letter-rules c = search needs
+
+letter-rules-requires : tie.Need-letter-rules-requires Inv-loop μ-loop
+letter-rules-requires c κs = send-room (c .before .before .before .before .before .before .before .before .before .before .before .before .before .before .before .before .before .before .before .before .before .before .before .before .before .pre .0) _ (c .before .before .before .before .before .before .before .before .before .before .before .before .before .before .before .before .before .before .before .before .before .before .before .before .before .pre .1 .1 .1 .0) (c .before .before .before .before .before .before .before .before .before .before .before .before .before .before .before .before .before .before .before .before .before .before .before .before .before .pre .1 .1 .1 .1 .1 .1 .1 .1 .0) _ (c .before .before .before .before .before .before .before .before .before .before .before .letter-width .ensures) _ _ _ _ _ (c .before .before .before .before .sent-letters .ensures .row) (c .before .before .before .before .before .before .before .before .before .before .before .before .before .before .before .before .before .before .before .before .before .before .before .before .before .pre .1 .1 .1 .1 .1 .1 .1 .1 .1) (c .before .before .before .before .before .before .before .before .before .before .loop .inv .0 .tos-long) (c .before .before .before .before .before .before .before .before .before .before .loop .inv .0 .others-long) _ _ (class-low (c .before .before .before .before .before .before .before .before .before .before .before .before .before .before .before .before .before .before .before .before .before .before .before .before .before .pre .0) _ _ (c .before .before .before .before .before .before .before .is-class .ensures) (c .before .before .before .before .before .before .if1 .left)) (omega (arith, ap (λ v. getD (c .before .before .before .before .before .before .before .before .before .before .before .before .before .before .before .before .before .before .before .before .before .before .before .before .before .args .letter-at .now) v 0) (c .before .before .before .before .before .before .before .before .flow-value .ensures), c .before .before .before .before .before .before .before .before .before .before .loop .inv .3 (search needs)))
 
 add-j-2 : tie.Need-add-j-2 Inv-loop μ-loop
-add-j-2 c = record { fits = omega (arith, inside (c .before .before .before .before .before .before .before .before .before .before), c .before .before .before .before .before .before .before .before .before .before .before .before .before .before .before .before .before .before .before .before .before .before .before .before .before .before .pre .0 .limits .flows) }
+add-j-2 c = record { fits = omega (arith, (flow-order (c .before .before .before .before .before .before .before .before .before .before .before .before .before .before .before .before .before .before .before .before .before .before .before .before .before .before .before .before .before .before .pre .0) _ _ _ ((name-starts (c .before .before .before .before .before .before .before .before .before .before .before .before .before .before .before .before .before .before .before .before .before .before .before .before .before .before .before .before .before .before .pre .0) _ _ _ _ (c .before .before .before .before .before .before .before .before .before .before .before .before .before .before .before .before .before .before .before .before .before .before .before .before .before .before .before .before .before .before .pre .1 .1 .0) ((send-low (c .before .before .before .before .before .before .before .before .before .before .before .before .before .before .before .before .before .before .before .before .before .before .before .before .before .before .before .before .before .before .pre .0) _ _ _ (c .before .before .before .before .before .before .before .before .before .before .before .before .before .before .before .before .before .before .before .before .before .before .before .before .before .before .before .before .before .before .pre .1 .1 .1 .1 .1 .1 .0) (c .before .before .before .before .before .before .before .before .before .before .before .before .before .before .before .before .before .before .before .before .before .num .ensures) (c .before .before .before .before .before .before .before .before .before .before .before .before .before .before .before .before .before .before .before .before .num2 .ensures)) .0) (c .before .before .before .before .before .before .before .before .before .before .before .before .before .before .before .before .before .before .word .ensures .0) (c .before .before .before .before .before .before .before .before .before .before .before .before .before .before .before .before .before .word2 .ensures .0)) .0) ((name-starts (c .before .before .before .before .before .before .before .before .before .before .before .before .before .before .before .before .before .before .before .before .before .before .before .before .before .before .before .before .before .before .pre .0) _ _ _ _ (c .before .before .before .before .before .before .before .before .before .before .before .before .before .before .before .before .before .before .before .before .before .before .before .before .before .before .before .before .before .before .pre .1 .1 .0) ((send-low (c .before .before .before .before .before .before .before .before .before .before .before .before .before .before .before .before .before .before .before .before .before .before .before .before .before .before .before .before .before .before .pre .0) _ _ _ (c .before .before .before .before .before .before .before .before .before .before .before .before .before .before .before .before .before .before .before .before .before .before .before .before .before .before .before .before .before .before .pre .1 .1 .1 .1 .1 .1 .0) (c .before .before .before .before .before .before .before .before .before .before .before .before .before .before .before .before .before .before .before .before .before .num .ensures) (c .before .before .before .before .before .before .before .before .before .before .before .before .before .before .before .before .before .before .before .before .num2 .ensures)) .0) (c .before .before .before .before .before .before .before .before .before .before .before .before .before .before .before .before .before .before .word .ensures .0) (c .before .before .before .before .before .before .before .before .before .before .before .before .before .before .before .before .before .word2 .ensures .0)) .1)) .1, (c .before .before .before .before .before .before .before .before .before .before .before .before .before .before .before .before .before .before .before .before .before .before .before .before .before .before .before .before .before .before .pre .0) .limits .flows) }
 
 loop-less-2 : tie.Need-loop-less-2 Inv-loop μ-loop
 loop-less-2 c = search needs
 
 loop-again-2 : tie.Need-loop-again-2 Inv-loop μ-loop
-loop-again-2 c = (added-more send _ _ 0 _ _ _ _ _ _ (c .before .before .before .before .before .before .before .before .before .before .before .loop .inv .0) (c .before .before .before .before .before .before .before .before .before .before .before .loop .inv .1) _ _ _ (added-same send _ _ _ _ _ _ _ _ (c .before .before .before .before .put-letters .ensures .0) (λ i. send-kept (c .before .before .before .before .before .before .before .before .before .before .before .before .before .before .before .before .before .before .before .before .before .before .before .before .before .before .pre .0) _ _ _ _ _ i _ _ _ (c .before .before .before .before .before .before .before .before .before .flow-value .ensures) (c .before .before .before .before .before .before .before .before .is-class .ensures) (c .before .before .before .before .before .before .before .if1 .left))), search needs, search needs, λ l. let (u, v) = begin (c .before .before .before .before .before .before .before .before .before .before .before .before) in let w = later-value (c .before .before .before .before .before .before .before .before .before .before .before .before .before .before .before .before .before .before .before .before .before .before .before .before .before .before .pre .0) _ _ (c .before .before .before .before .before .before .before .before .before .before .before .before .before .before .before .before .before .before .before .before .before .before .before .before .before .before .pre .1 .1 .1 .1 .0) (c .before .before .before .before .before .before .before .before .before .before .before .before .before .before .before .before .num .result) (c .before .before .before .before .before .before .before .before .before .before .before .loop .j) (omega (arith, c .before .before .before .before .before .before .before .before .before .before .before .loop .inv .1)) (omega arith) in omega (arith, w .0, c .before .before .before .before .before .before .before .before .before .before .before .loop .inv .3 (search needs), c .before .before .before .before .put-letters .ensures .1, ap (λ v. getD (c .before .before .before .before .before .before .before .before .before .before .before .before .before .before .before .before .before .before .before .before .before .before .before .before .before .before .args .letter-at .now) v 0) (c .before .before .before .before .before .before .before .before .before .flow-value .ensures), ap (λ v. getD (c .before .before .before .before .before .before .before .before .before .before .before .before .before .before .before .before .before .before .before .before .before .before .before .before .before .before .args .letter-at .now) (v + 1) 0) (c .before .before .before .before .before .before .before .before .before .flow-value .ensures)))
+loop-again-2 c = (added-more send _ _ 0 _ _ _ _ _ _ (c .before .before .before .before .before .before .before .before .before .before .before .before .before .before .before .loop .inv .0) (c .before .before .before .before .before .before .before .before .before .before .before .before .before .before .before .loop .inv .1) _ _ _ (added-same send _ _ _ _ _ _ _ _ (c .before .before .before .before .letter-rules .ensures .0 send) (λ i. send-kept (c .before .before .before .before .before .before .before .before .before .before .before .before .before .before .before .before .before .before .before .before .before .before .before .before .before .before .before .before .before .before .pre .0) _ _ i _ _ _ (c .before .before .before .before .before .before .before .before .before .before .before .before .before .flow-value .ensures) (c .before .before .before .before .before .before .before .before .before .before .before .before .is-class .ensures) _ (c .before .before .before .before .before .before .before .before .before .before .before .before .before .before .before .before .before .before .before .before .before .before .before .before .before .before .before .before .before .before .pre .1 .1 .1 .0) _ _ (c .before .before .before .before .before .before .before .before .before .before .before .before .before .before .before .before .letter-width .ensures) (c .before .before .before .before .before .before .before .before .before .sent-letters .ensures) (sent-mailed (c .before .before .before .before .before .before .before .before .before .before .before .before .before .before .before .before .before .before .before .before .before .before .before .before .before .before .before .before .before .before .pre .0) (c .before .before .before .before .before .before .before .before .before .before .before .before .before .before .before .before .before .before .before .before .before .before .before .before .before .before .before .before .before .before .args .i) (c .before .before .before .before .before .before .before .before .before .before .before .before .before .before .before .before .before .before .before .before .before .before .before .before .before .before .before .before .before .before .args .r) _ _ _ _ _ _ (c .before .before .before .before .before .before .before .before .before .before .before .before .before .before .before .before .before .before .before .before .before .before .before .before .before .before .before .before .before .before .pre .1 .1 .1 .1 .1 .0 .1) (c .before .before .before .before .before .before .before .before .before .before .before .before .before .before .before .before .before .before .before .before .before .before .before .before .before .before .before .before .before .before .pre .1 .1 .1 .1 .1 .1 .1 .0) (c .before .before .before .before .before .before .before .before .before .before .before .before .before .before .before .before .before .before .before .before .before .before .before .before .before .before .before .before .before .before .pre .1 .1 .1 .1 .1 .1 .0) ((name-starts (c .before .before .before .before .before .before .before .before .before .before .before .before .before .before .before .before .before .before .before .before .before .before .before .before .before .before .before .before .before .before .pre .0) _ _ _ _ (c .before .before .before .before .before .before .before .before .before .before .before .before .before .before .before .before .before .before .before .before .before .before .before .before .before .before .before .before .before .before .pre .1 .1 .0) ((send-low (c .before .before .before .before .before .before .before .before .before .before .before .before .before .before .before .before .before .before .before .before .before .before .before .before .before .before .before .before .before .before .pre .0) _ _ _ (c .before .before .before .before .before .before .before .before .before .before .before .before .before .before .before .before .before .before .before .before .before .before .before .before .before .before .before .before .before .before .pre .1 .1 .1 .1 .1 .1 .0) (c .before .before .before .before .before .before .before .before .before .before .before .before .before .before .before .before .before .before .before .before .before .num .ensures) (c .before .before .before .before .before .before .before .before .before .before .before .before .before .before .before .before .before .before .before .before .num2 .ensures)) .0) (c .before .before .before .before .before .before .before .before .before .before .before .before .before .before .before .before .before .before .word .ensures .0) (c .before .before .before .before .before .before .before .before .before .before .before .before .before .before .before .before .before .word2 .ensures .0)) .0 ∙ ap (range-from (tables (c .before .before .before .before .before .before .before .before .before .before .before .before .before .before .before .before .before .before .before .before .before .before .before .before .before .before .before .before .before .before .args .ws .now) (c .before .before .before .before .before .before .before .before .before .before .before .before .before .before .before .before .before .before .before .before .before .before .before .before .before .before .before .before .before .before .args .s) .flow)) (c .before .before .before .before .before .before .before .before .before .before .before .before .before .before .before .before .before .before .before .before .before .num .ensures)) ((name-starts (c .before .before .before .before .before .before .before .before .before .before .before .before .before .before .before .before .before .before .before .before .before .before .before .before .before .before .before .before .before .before .pre .0) _ _ _ _ (c .before .before .before .before .before .before .before .before .before .before .before .before .before .before .before .before .before .before .before .before .before .before .before .before .before .before .before .before .before .before .pre .1 .1 .0) ((send-low (c .before .before .before .before .before .before .before .before .before .before .before .before .before .before .before .before .before .before .before .before .before .before .before .before .before .before .before .before .before .before .pre .0) _ _ _ (c .before .before .before .before .before .before .before .before .before .before .before .before .before .before .before .before .before .before .before .before .before .before .before .before .before .before .before .before .before .before .pre .1 .1 .1 .1 .1 .1 .0) (c .before .before .before .before .before .before .before .before .before .before .before .before .before .before .before .before .before .before .before .before .before .num .ensures) (c .before .before .before .before .before .before .before .before .before .before .before .before .before .before .before .before .before .before .before .before .num2 .ensures)) .0) (c .before .before .before .before .before .before .before .before .before .before .before .before .before .before .before .before .before .before .word .ensures .0) (c .before .before .before .before .before .before .before .before .before .before .before .before .before .before .before .before .before .word2 .ensures .0)) .1 ∙ ap (range-to (tables (c .before .before .before .before .before .before .before .before .before .before .before .before .before .before .before .before .before .before .before .before .before .before .before .before .before .before .before .before .before .before .args .ws .now) (c .before .before .before .before .before .before .before .before .before .before .before .before .before .before .before .before .before .before .before .before .before .before .before .before .before .before .before .before .before .before .args .s) .flow)) (c .before .before .before .before .before .before .before .before .before .before .before .before .before .before .before .before .before .before .before .before .before .num .ensures)) (c .before .before .before .before .before .before .before .before .before .before .before .before .before .before .before .loop .inv .1) (search needs) (c .before .before .before .before .before .before .before .before .before .before .before .before .before .flow-value .ensures) (c .before .before .before .before .before .before .before .before .before .before .before .before .is-class .ensures) (c .before .before .before .before .before .before .before .before .before .before .before .if1 .left) (c .before .before .before .before .before .before .before .before .before .before .before .before .before .before .before .before .before .before .before .before .num2 .ensures)) (c .before .before .before .before .before .before .before .before .before .before .before .if1 .left))), search needs, search needs, (λ l. omega (arith, (later-value (c .before .before .before .before .before .before .before .before .before .before .before .before .before .before .before .before .before .before .before .before .before .before .before .before .before .before .before .before .before .before .pre .0) _ (c .before .before .before .before .before .before .before .before .before .before .before .before .before .before .before .before .before .before .before .before .before .before .before .before .before .before .before .before .before .before .pre .1 .1 .1 .0) (c .before .before .before .before .before .before .before .before .before .before .before .before .before .before .before .before .before .before .before .before .before .num .result) (c .before .before .before .before .before .before .before .before .before .before .before .before .before .before .before .loop .j) (omega (arith, c .before .before .before .before .before .before .before .before .before .before .before .before .before .before .before .loop .inv .1, (name-starts (c .before .before .before .before .before .before .before .before .before .before .before .before .before .before .before .before .before .before .before .before .before .before .before .before .before .before .before .before .before .before .pre .0) _ _ _ _ (c .before .before .before .before .before .before .before .before .before .before .before .before .before .before .before .before .before .before .before .before .before .before .before .before .before .before .before .before .before .before .pre .1 .1 .0) ((send-low (c .before .before .before .before .before .before .before .before .before .before .before .before .before .before .before .before .before .before .before .before .before .before .before .before .before .before .before .before .before .before .pre .0) _ _ _ (c .before .before .before .before .before .before .before .before .before .before .before .before .before .before .before .before .before .before .before .before .before .before .before .before .before .before .before .before .before .before .pre .1 .1 .1 .1 .1 .1 .0) (c .before .before .before .before .before .before .before .before .before .before .before .before .before .before .before .before .before .before .before .before .before .num .ensures) (c .before .before .before .before .before .before .before .before .before .before .before .before .before .before .before .before .before .before .before .before .num2 .ensures)) .0) (c .before .before .before .before .before .before .before .before .before .before .before .before .before .before .before .before .before .before .word .ensures .0) (c .before .before .before .before .before .before .before .before .before .before .before .before .before .before .before .before .before .word2 .ensures .0)) .0)) (omega (arith, (name-starts (c .before .before .before .before .before .before .before .before .before .before .before .before .before .before .before .before .before .before .before .before .before .before .before .before .before .before .before .before .before .before .pre .0) _ _ _ _ (c .before .before .before .before .before .before .before .before .before .before .before .before .before .before .before .before .before .before .before .before .before .before .before .before .before .before .before .before .before .before .pre .1 .1 .0) ((send-low (c .before .before .before .before .before .before .before .before .before .before .before .before .before .before .before .before .before .before .before .before .before .before .before .before .before .before .before .before .before .before .pre .0) _ _ _ (c .before .before .before .before .before .before .before .before .before .before .before .before .before .before .before .before .before .before .before .before .before .before .before .before .before .before .before .before .before .before .pre .1 .1 .1 .1 .1 .1 .0) (c .before .before .before .before .before .before .before .before .before .before .before .before .before .before .before .before .before .before .before .before .before .num .ensures) (c .before .before .before .before .before .before .before .before .before .before .before .before .before .before .before .before .before .before .before .before .num2 .ensures)) .0) (c .before .before .before .before .before .before .before .before .before .before .before .before .before .before .before .before .before .before .word .ensures .0) (c .before .before .before .before .before .before .before .before .before .before .before .before .before .before .before .before .before .word2 .ensures .0)) .1))) .0, c .before .before .before .before .before .before .before .before .before .before .before .before .before .before .before .loop .inv .3 (search needs), c .before .before .before .before .letter-rules .ensures .1, ap (λ v. getD (c .before .before .before .before .before .before .before .before .before .before .before .before .before .before .before .before .before .before .before .before .before .before .before .before .before .before .before .before .before .before .args .letter-at .now) v 0) (c .before .before .before .before .before .before .before .before .before .before .before .before .before .flow-value .ensures), ap (λ v. getD (c .before .before .before .before .before .before .before .before .before .before .before .before .before .before .before .before .before .before .before .before .before .before .before .before .before .before .before .before .before .before .args .letter-at .now) (v + 1) 0) (c .before .before .before .before .before .before .before .before .before .before .before .before .before .flow-value .ensures))), search needs)
 
 same-length : tie.Need-same-length Inv-loop μ-loop
 same-length c = search needs
@@ -94,7 +97,36 @@ same-length-2 : tie.Need-same-length-2 Inv-loop μ-loop
 same-length-2 c = search needs
 
 returns : tie.Need-returns Inv-loop μ-loop
-returns c = added-same send _ _ 0 _ _ _ _ _ (c .before .loop .inv .0) (λ i. let (u, v) = begin (c .before .before) in let e : c .before .loop .j ≡ c .before .before .word2 .result = omega (arith, c .before .loop .inv .2, c .loop-test .left) in rw e (send-gathered (c .before .before .before .before .before .before .before .before .before .before .before .before .before .before .before .before .pre .0) _ _ _ (c .before .before .before .before .before .before .before .before .before .before .before .before .before .before .before .before .pre .1 .1 .1 .0) (c .before .before .before .before .before .before .before .before .before .before .before .before .before .before .before .before .pre .1 .1 .1 .1 .0) _ _ _ _ _ _ _ i (c .before .before .before .before .before .before .before .before .before .before .before .before .before .before .before .before .pre .1 .1 .1 .1 .1 .0 .1) (c .before .before .before .before .before .before .before .before .before .before .before .before .before .before .before .before .pre .1 .1 .1 .1 .1 .1 .0) (c .before .before .before .before .before .before .before .before .before .before .before .before .before .before .before .before .pre .1 .1 .1 .1 .1 .1 .1 .0) (c .before .before .before .before .before .before .num .ensures) (c .before .before .before .before .before .num2 .ensures) (send-low (c .before .before .before .before .before .before .before .before .before .before .before .before .before .before .before .before .pre .0) _ _ _ (c .before .before .before .before .before .before .before .before .before .before .before .before .before .before .before .before .pre .1 .1 .1 .1 .1 .1 .0) (c .before .before .before .before .before .before .num .ensures) (c .before .before .before .before .before .num2 .ensures) .1) (c .before .before .before .before .behind .ensures) u v))
+returns c = added-same send _ _ 0 _ _ _ _ _ (c .before .loop .inv .0) (λ i. let e : c .before .loop .j ≡ c .before .before .before .word2 .result = omega (arith, c .before .loop .inv .2, c .loop-test .left) in rw e (send-gathered (c .before .before .before .before .before .before .before .before .before .before .before .before .before .before .before .before .pre .0) _ _ _ _ _ _ _ i (c .before .before .before .before .before .before .before .before .before .before .before .before .before .before .before .before .pre .1 .1 .1 .1 .1 .0 .1) (c .before .before .before .before .before .before .before .before .before .before .before .before .before .before .before .before .pre .1 .1 .1 .1 .1 .1 .0) (c .before .before .before .before .before .before .before .num .ensures) (c .before .before .before .before .before .before .num2 .ensures) (c .before .before .before .before .before .behind .ensures) ((name-starts (c .before .before .before .before .before .before .before .before .before .before .before .before .before .before .before .before .pre .0) _ _ _ _ (c .before .before .before .before .before .before .before .before .before .before .before .before .before .before .before .before .pre .1 .1 .0) ((send-low (c .before .before .before .before .before .before .before .before .before .before .before .before .before .before .before .before .pre .0) _ _ _ (c .before .before .before .before .before .before .before .before .before .before .before .before .before .before .before .before .pre .1 .1 .1 .1 .1 .1 .0) (c .before .before .before .before .before .before .before .num .ensures) (c .before .before .before .before .before .before .num2 .ensures)) .0) (c .before .before .before .before .word .ensures .0) (c .before .before .before .word2 .ensures .0)) .0) ((name-starts (c .before .before .before .before .before .before .before .before .before .before .before .before .before .before .before .before .pre .0) _ _ _ _ (c .before .before .before .before .before .before .before .before .before .before .before .before .before .before .before .before .pre .1 .1 .0) ((send-low (c .before .before .before .before .before .before .before .before .before .before .before .before .before .before .before .before .pre .0) _ _ _ (c .before .before .before .before .before .before .before .before .before .before .before .before .before .before .before .before .pre .1 .1 .1 .1 .1 .1 .0) (c .before .before .before .before .before .before .before .num .ensures) (c .before .before .before .before .before .before .num2 .ensures)) .0) (c .before .before .before .before .word .ensures .0) (c .before .before .before .word2 .ensures .0)) .1)))
 
 pub send-rules-spec : {M : Type 1} → statement M
-send-rules-spec = tie.close (tie.spec Inv-loop μ-loop add-num num-requires add-num-2 num-requires-2 behind-requires word-requires add-word word-requires-2 loop-holds flow-value-requires is-class-requires add-j loop-less loop-again put-letters-requires add-j-2 loop-less-2 loop-again-2 same-length same-length-2 returns)
+send-rules-spec =
+    tie.close
+    (tie.spec
+    Inv-loop
+    μ-loop
+    add-num
+    num-requires
+    add-num-2
+    num-requires-2
+    behind-requires
+    word-requires
+    add-word
+    word-requires-2
+    letter-width-requires
+    loop-holds
+    flow-value-requires
+    is-class-requires
+    add-j
+    loop-less
+    loop-again
+    slice-aggregate-sent-letters
+    sent-letters-requires
+    slice-aggregate-letter-rules
+    letter-rules-requires
+    add-j-2
+    loop-less-2
+    loop-again-2
+    same-length
+    same-length-2
+    returns)

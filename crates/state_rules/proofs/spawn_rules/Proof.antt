@@ -12,7 +12,8 @@ use borrow.Author.Tests.{not-false}
 use Rattle.rules.proofs.States.{index-small}
 use Rattle.rules.proofs.Adding.{added-none, added-same, added-kept, added-one}
 use Rattle.state_rules.specs.Heads.{spawn-turn}
-use Rattle.state_rules.proofs.Heads.{tag-head, here-low, name-starts, flow-order, value-from, takes-function, spawn-gathered, spawn-low, spawn-kept, spawn-skipped}
+use Rattle.pattern_letters.proofs.Entries.{name-starts, flow-order}
+use Rattle.state_rules.proofs.Heads.{tag-head, here-low, value-from, takes-function, spawn-gathered, spawn-low, spawn-kept, spawn-skipped}
 use Rattle.state_rules.proofs.spawn_rules.Statement.{statement}
 use Rattle.state_rules.proofs.spawn_rules.Tie as tie
 

@@ -27,7 +27,7 @@ call-rules-requires : tie.Need-call-rules-requires
 call-rules-requires c κs = (c .before .before .before .before .before .before .before .before .before .before .before .before .before .before .before .pre .0 .ready, (c .before .before .before .before .before .before .before .before .before .before .before .before .before .before .before .pre .0 .flow-starts, ((c .before .before .before .before .before .before .before .before .before .before .before .before .before .before .before .pre .1 .0, c .before .before .before .state-location .ensures), ((sym (c .before .before .tag .ensures) ∙ c .before .match .keys2), c .before .before .before .before .before .before .before .before .before .before .before .before .before .before .before .pre .1 .1 .values))))
 
 send-rules-requires : tie.Need-send-rules-requires
-send-rules-requires c κs = (c .before .before .before .before .before .before .before .before .before .before .before .before .before .before .before .before .pre .0 .ready, (c .before .before .before .before .before .before .before .before .before .before .before .before .before .before .before .before .pre .0 .ends, (c .before .before .before .before .before .before .before .before .before .before .before .before .before .before .before .before .pre .0 .flow-starts, (c .before .before .before .before .before .before .before .before .before .before .before .before .before .before .before .before .pre .0 .name-letters, (c .before .before .before .before .before .before .before .before .before .before .before .before .before .before .before .before .pre .0 .class-letters, ((c .before .before .before .before .before .before .before .before .before .before .before .before .before .before .before .before .pre .1 .0, c .before .before .before .before .state-location .ensures), ((sym (c .before .before .before .tag .ensures) ∙ c .before .before .match .keys3), (state-open (c .before .before .before .before .before .before .before .before .before .before .before .before .before .before .before .before .pre .0 .ready) (c .before .before .before .before .before .before .before .before .before .before .before .before .before .before .before .before .args .i) (c .before .before .before .before .before .before .before .before .before .before .before .before .before .before .before .before .pre .0 .closed) (c .before .before .before .before .before .before .before .before .before .before .before .before .before .before .before .before .pre .1 .0), (c .before .before .before .before .before .before .before .before .before .before .before .before .before .before .before .before .pre .0 .few, c .before .before .before .before .before .before .before .before .before .before .before .before .before .before .before .before .pre .1 .1)))))))))
+send-rules-requires c κs = (c .before .before .before .before .before .before .before .before .before .before .before .before .before .before .before .before .pre .0 .ready, (c .before .before .before .before .before .before .before .before .before .before .before .before .before .before .before .before .pre .0 .ends, (c .before .before .before .before .before .before .before .before .before .before .before .before .before .before .before .before .pre .0 .flow-starts, (c .before .before .before .before .before .before .before .before .before .before .before .before .before .before .before .before .pre .0 .class-letters, (c .before .before .before .before .before .before .before .before .before .before .before .before .before .before .before .before .pre .0 .letter-sets, ((c .before .before .before .before .before .before .before .before .before .before .before .before .before .before .before .before .pre .1 .0, c .before .before .before .before .state-location .ensures), ((sym (c .before .before .before .tag .ensures) ∙ c .before .before .match .keys3), (state-open (c .before .before .before .before .before .before .before .before .before .before .before .before .before .before .before .before .pre .0 .ready) (c .before .before .before .before .before .before .before .before .before .before .before .before .before .before .before .before .args .i) (c .before .before .before .before .before .before .before .before .before .before .before .before .before .before .before .before .pre .0 .closed) (c .before .before .before .before .before .before .before .before .before .before .before .before .before .before .before .before .pre .1 .0), (c .before .before .before .before .before .before .before .before .before .before .before .before .before .before .before .before .pre .0 .few, c .before .before .before .before .before .before .before .before .before .before .before .before .before .before .before .before .pre .1 .1)))))))))
 
 spawn-rules-requires : tie.Need-spawn-rules-requires
 spawn-rules-requires c κs = (c .before .before .before .before .before .before .before .before .before .before .before .before .before .before .before .before .pre .0 .ready, (c .before .before .before .before .before .before .before .before .before .before .before .before .before .before .before .before .pre .0 .ends, (c .before .before .before .before .before .before .before .before .before .before .before .before .before .before .before .before .pre .0 .flow-starts, ((c .before .before .before .before .before .before .before .before .before .before .before .before .before .before .before .before .pre .1 .0, c .before .before .before .before .state-location .ensures), ((sym (c .before .before .before .tag .ensures) ∙ c .before .before .match .keys4), c .before .before .before .before .before .before .before .before .before .before .before .before .before .before .before .before .pre .1 .1)))))
@@ -36,7 +36,7 @@ case-rules-requires : tie.Need-case-rules-requires
 case-rules-requires c κs = (c .before .before .before .before .before .before .before .before .before .before .before .before .before .before .before .pre .0 .ready, (c .before .before .before .before .before .before .before .before .before .before .before .before .before .before .before .pre .0 .ends, (c .before .before .before .before .before .before .before .before .before .before .before .before .before .before .before .pre .0 .branch-bits, ((sym (c .before .before .tag .ensures) ∙ c .before .match .keys5), ((c .before .before .before .before .before .before .before .before .before .before .before .before .before .before .before .pre .1 .0, c .before .before .before .state-location .ensures), omega (arith, c .before .before .before .before .before .before .before .before .before .before .before .before .before .before .before .pre .1 .1 .letters))))))
 
 receive-rules-requires : tie.Need-receive-rules-requires
-receive-rules-requires c κs = (c .before .before .before .before .before .before .before .before .before .before .before .before .before .before .before .before .pre .0 .ready, (c .before .before .before .before .before .before .before .before .before .before .before .before .before .before .before .before .pre .0 .ends, (c .before .before .before .before .before .before .before .before .before .before .before .before .before .before .before .before .pre .0 .class-letters, (c .before .before .before .before .before .before .before .before .before .before .before .before .before .before .before .before .pre .0 .branch-bits, ((sym (c .before .before .before .tag .ensures) ∙ c .before .before .match .keys6), ((c .before .before .before .before .before .before .before .before .before .before .before .before .before .before .before .before .pre .1 .0, c .before .before .before .before .state-location .ensures), (c .before .before .before .before .before .before .before .before .before .before .before .before .before .before .before .before .pre .1 .1, ((c .before .before .before .before .before .before .before .before .before .before .before .before .before .before .before .before .pre .0 .flow-width, c .before .before .before .before .before .before .before .before .before .before .before .before .before .before .before .before .pre .0 .flow-sets), c .before .before .before .before .before .before .before .before .before .before .before .before .before .before .before .before .pre .0 .name-letters))))))))
+receive-rules-requires c κs = (c .before .before .before .before .before .before .before .before .before .before .before .before .before .before .before .before .pre .0 .ready, (c .before .before .before .before .before .before .before .before .before .before .before .before .before .before .before .before .pre .0 .ends, (c .before .before .before .before .before .before .before .before .before .before .before .before .before .before .before .before .pre .0 .class-letters, (c .before .before .before .before .before .before .before .before .before .before .before .before .before .before .before .before .pre .0 .letter-sets, (c .before .before .before .before .before .before .before .before .before .before .before .before .before .before .before .before .pre .0 .reads, (c .before .before .before .before .before .before .before .before .before .before .before .before .before .before .before .before .pre .0 .branch-bits, ((sym (c .before .before .before .tag .ensures) ∙ c .before .before .match .keys6), ((c .before .before .before .before .before .before .before .before .before .before .before .before .before .before .before .before .pre .1 .0, c .before .before .before .before .state-location .ensures), (c .before .before .before .before .before .before .before .before .before .before .before .before .before .before .before .before .pre .1 .1, (c .before .before .before .before .before .before .before .before .before .before .before .before .before .before .before .before .pre .0 .few, record { ready = c .before .before .before .before .before .before .before .before .before .before .before .before .before .before .before .before .pre .0 .ready; name-width = c .before .before .before .before .before .before .before .before .before .before .before .before .before .before .before .before .pre .0 .name-width; fitting-sets = c .before .before .before .before .before .before .before .before .before .before .before .before .before .before .before .before .pre .0 .fitting-sets; name-heads = c .before .before .before .before .before .before .before .before .before .before .before .before .before .before .before .before .pre .0 .name-heads }))))))))))
 
 rest-rules-requires : tie.Need-rest-rules-requires
 rest-rules-requires c κs = (c .before .before .before .before .before .before .before .before .before .before .before .before .before .before .before .pre .0 .ready, (c .before .before .before .before .before .before .before .before .before .before .before .before .before .before .before .pre .0 .ends, ((c .before .before .before .before .before .before .before .before .before .before .before .before .before .before .before .pre .1 .0, c .before .before .before .state-location .ensures), (plain (c .before), omega (arith, c .before .before .before .before .before .before .before .before .before .before .before .before .before .before .before .pre .1 .1 .values)))))

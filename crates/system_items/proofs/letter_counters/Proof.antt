@@ -1,48 +1,56 @@
 use native.Mathlib.Omega.{arith}
-use Rattle.system_letters.proofs.Pairs.{pairs-told}
-use Rattle.system_letters.proofs.Tables.{last-inside}
-use Rattle.system_items.proofs.Counters.{class-missed, letter-found, letter-lost}
+use mathlib.Core.Path.{sym, _∙_}
+use borrow.Author.Tests.{not-true, not-false}
+use Rattle.system_items.proofs.Ranges.{class-missed, none-named, letters-range}
 use borrow.Author.Needs.{needs}
 use Rattle.system_items.proofs.letter_counters.Statement.{statement}
 use Rattle.system_items.proofs.letter_counters.Tie as tie
 
+bad-number-requires : tie.Need-bad-number-requires
+bad-number-requires c κs = search needs
+
 returns : tie.Need-returns
-returns c = class-missed (c .before .before .before .before .before .pre .0) _ _ (c .before .before .before .before .before .pre .1) _ _ (c .if1 .taken)
+returns c = class-missed (c .before .before .before .before .before .before .pre .0) _ (c .before .before .before .before .before .before .pre .1 .1 .1 .1) _ (c .before .before .bad-number .ensures .0) (c .if1 .taken)
 
-word-requires : tie.Need-word-requires
-word-requires c κs = omega (arith, last-inside (c .before .before .before .before .before .pre .0) _ _ (c .before .before .before .before .before .pre .1), c .if1 .left)
+add-number : tie.Need-add-number
+add-number c = search needs
 
-add-word : tie.Need-add-word
-add-word c = search needs
+add-past-heads : tie.Need-add-past-heads
+add-past-heads c = search needs
 
-word-requires-2 : tie.Need-word-requires-2
-word-requires-2 c κs = omega (arith, last-inside (c .before .before .before .before .before .before .pre .0) _ _ (c .before .before .before .before .before .before .pre .1), c .before .if1 .left)
+past-heads-requires : tie.Need-past-heads-requires
+past-heads-requires c κs = search needs
 
-pair-with-requires : tie.Need-pair-with-requires
-pair-with-requires c κs = let (a, b, d, e, f) = pairs-told (c .before .before .before .before .before .before .before .pre .0) _ _ (c .before .before .before .before .before .before .before .pre .1) _ _ _ (c .before .before .if1 .left) (c .before .word .ensures .0) (c .word2 .ensures .0) in (a, b)
-
-add-x : tie.Need-add-x
-add-x c = search needs
-
-add-next : tie.Need-add-next
-add-next c = search needs
+names-letters-requires : tie.Need-names-letters-requires
+names-letters-requires c κs = search needs
 
 returns-2 : tie.Need-returns-2
-returns-2 c = letter-found (c .before .before .before .before .before .before .before .before .before .before .pre .0) _ _ (c .before .before .before .before .before .before .before .before .before .before .pre .1) _ _ _ _ _ (c .before .before .before .before .before .if1 .left) (c .before .before .before .before .word .ensures .0) (c .before .before .before .word2 .ensures .0) (pairs-told (c .before .before .before .before .before .before .before .before .before .before .pre .0) _ _ (c .before .before .before .before .before .before .before .before .before .before .pre .1) _ _ _ (c .before .before .before .before .before .if1 .left) (c .before .before .before .before .word .ensures .0) (c .before .before .before .word2 .ensures .0) .0) (c .before .before .pair-with .ensures) (c .before .if2 .taken)
+returns-2 c = none-named (c .before .before .before .before .before .before .before .before .before .pre .0) _ (c .before .before .before .before .before .before .before .before .before .pre .1 .1 .1 .1) _ (c .before .before .past-heads .ensures) (sym (c .before .names-letters .ensures) ∙ not-true _ (c .if2 .taken))
+
+letters-named-requires : tie.Need-letters-named-requires
+letters-named-requires c κs = (c .before .before .before .before .before .before .before .before .before .pre .0, (c .before .before .before .before .before .before .before .before .before .pre .1 .0, (c .before .before .before .before .before .before .before .before .before .pre .1 .1 .0, (omega (arith, c .before .before .before .if1 .left), sym (c .before .names-letters .ensures) ∙ not-false _ (c .if2 .left)))))
+
+add-from : tie.Need-add-from
+add-from c = let h = c .before .before .letters-named .ensures in omega (arith, h .0 .order, h .1, c .before .before .before .before .before .before .before .before .before .before .before .before .pre .0 .limits .states)
+
+add-to : tie.Need-add-to
+add-to c = let h = c .before .before .before .before .letters-named .ensures in omega (arith, h .1, c .before .before .before .before .before .before .before .before .before .before .before .before .before .before .pre .0 .limits .states)
 
 returns-3 : tie.Need-returns-3
-returns-3 c = letter-lost (c .before .before .before .before .before .before .before .before .before .pre .0) _ _ (c .before .before .before .before .before .before .before .before .before .pre .1) _ _ _ _ _ (c .before .before .before .before .if1 .left) (c .before .before .before .word .ensures .0) (c .before .before .word2 .ensures .0) (pairs-told (c .before .before .before .before .before .before .before .before .before .pre .0) _ _ (c .before .before .before .before .before .before .before .before .before .pre .1) _ _ _ (c .before .before .before .before .if1 .left) (c .before .before .before .word .ensures .0) (c .before .before .word2 .ensures .0) .0) (c .before .pair-with .ensures) (c .if2 .left)
+returns-3 c = letters-range (c .before .before .before .before .before .before .before .before .before .before .before .before .before .before .pre .0) _ (c .before .before .before .before .before .before .before .before .before .before .before .before .before .before .pre .1 .1 .1 .1) _ _ _ _ (c .before .before .before .before .before .before .before .before .before .before .bad-number .ensures .0) (c .before .before .before .before .before .before .before .past-heads .ensures) (sym (c .before .before .before .before .before .before .names-letters .ensures) ∙ not-false _ (c .before .before .before .before .before .if2 .left)) (c .before .before .before .before .letters-named .ensures .0)
 
 pub letter-counters-spec : {M : Type 1} → statement M
 letter-counters-spec =
     tie.close
     (tie.spec
+    bad-number-requires
     returns
-    word-requires
-    add-word
-    word-requires-2
-    pair-with-requires
-    add-x
-    add-next
+    add-number
+    add-past-heads
+    past-heads-requires
+    names-letters-requires
     returns-2
+    letters-named-requires
+    add-from
+    add-to
     returns-3)

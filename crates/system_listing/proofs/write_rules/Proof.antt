@@ -15,10 +15,10 @@ use Rattle.system_listing.proofs.write_rules.Statement.{statement}
 use Rattle.system_listing.proofs.write_rules.Tie as tie
 
 abbrev Inv-loop : tie.InvT-loop
-Inv-loop out₀ n ws s afters flow-at w flows names letter-at letters branches at₀ tos₀ others₀ e₀ i₀ out at tos others e i = Put out₀ out n 0 e (lines (gather 0 i (of-state (program ws s) (tables ws s)))) × Walk at₀ tos₀ others₀ at tos others × (i ≤ s .states)
+Inv-loop out₀ n ws s afters flow-at w fitting names letter-at letters branches at₀ tos₀ others₀ e₀ i₀ out at tos others e i = Put out₀ out n 0 e (lines (gather 0 i (of-state (program ws s) (tables ws s)))) × Walk at₀ tos₀ others₀ at tos others × (i ≤ s .states)
 
 abbrev μ-loop : tie.MeasureT-loop
-μ-loop out₀ n ws s afters flow-at w flows names letter-at letters branches at₀ tos₀ others₀ e₀ i₀ out at tos others e i = s .states - i
+μ-loop out₀ n ws s afters flow-at w fitting names letter-at letters branches at₀ tos₀ others₀ e₀ i₀ out at tos others e i = s .states - i
 
 loop-holds : tie.Need-loop-holds Inv-loop μ-loop
 loop-holds c = (put-begin _ _ _ 0 _, walk-begin _ _ _, omega arith)
@@ -27,7 +27,7 @@ guess-class-requires : tie.Need-guess-class-requires Inv-loop μ-loop
 guess-class-requires c κs = c .before .before .before .before .before .before .before .before .before .before .before .before .before .before .before .before .pre .0 .ready
 
 state-rules-requires : tie.Need-state-rules-requires Inv-loop μ-loop
-state-rules-requires c κs = (c .before .before .before .before .before .before .before .before .before .before .before .before .before .before .before .before .before .before .before .before .before .before .pre .0, (c .before .before .before .before .before .before .before .if1 .taken, walk-room _ _ _ _ _ _ (c .before .before .before .before .before .before .before .before .before .loop .inv .1) _ (c .before .before .before .before .before .before .before .before .before .before .before .before .before .before .before .before .before .before .before .before .before .before .pre .1 .0)))
+state-rules-requires c κs = (c .before .before .before .before .before .before .before .before .before .before .before .before .before .before .before .before .before .before .before .before .before .before .pre .0, (c .before .before .before .before .before .before .before .if1 .taken, walk-room _ _ _ _ _ _ (c .before .before .before .before .before .before .before .before .before .loop .inv .1) _ _ (c .before .before .before .before .before .before .before .before .before .before .before .before .before .before .before .before .before .before .before .before .before .before .pre .1 .0)))
 
 state-head-requires : tie.Need-state-head-requires Inv-loop μ-loop
 state-head-requires c κs = c .before .before .before .before .before .before .before .before .before .before .before .before .before .before .before .before .before .before .before .before .before .before .before .before .before .before .before .pre .0 .ready

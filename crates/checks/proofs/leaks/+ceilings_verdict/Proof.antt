@@ -13,35 +13,44 @@ use Rattle.checks.proofs.leaks.more_limits.Reads as more-limits-reads
 use Rattle.checks.proofs.leaks.+ceilings_verdict.{statement}
 use Rattle.checks.proofs.leaks.+ceilings_verdict.Tie.{close}
 
-abbrev μ-ceilings-verdict : Measures 8 ceilings-verdict-kinds.ps ℕ
+abbrev μ-ceilings-verdict : Measures 9 ceilings-verdict-kinds.ps ℕ
 μ-ceilings-verdict κs a = 512 - a .0
 
-abbrev ceilings-verdict-at : ℕ → In 8 ceilings-verdict-kinds.ps
-ceilings-verdict-at t = and 8 ceilings-verdict-kinds.ps (is 8 ceilings-verdict-kinds.ps μ-ceilings-verdict t) ceilings-verdict.Pre
+abbrev ceilings-verdict-at : ℕ → In 9 ceilings-verdict-kinds.ps
+ceilings-verdict-at t = and 9 ceilings-verdict-kinds.ps (is 9 ceilings-verdict-kinds.ps μ-ceilings-verdict t) ceilings-verdict.Pre
 
-abbrev ceilings-verdict-below : ℕ → In 8 ceilings-verdict-kinds.ps
-ceilings-verdict-below t = and 8 ceilings-verdict-kinds.ps (falls 8 ceilings-verdict-kinds.ps _<_ μ-ceilings-verdict t) ceilings-verdict.Pre
+abbrev ceilings-verdict-below : ℕ → In 9 ceilings-verdict-kinds.ps
+ceilings-verdict-below t = and 9 ceilings-verdict-kinds.ps (falls 9 ceilings-verdict-kinds.ps _<_ μ-ceilings-verdict t) ceilings-verdict.Pre
 
 abbrev ceilings-verdict-claims : ℕ → ceilings-verdict-lts.Claims
 ceilings-verdict-claims t = (all-limits-reads.Asked, all-limits-reads.Learnt, few-limits-reads.Asked, few-limits-reads.Learnt, more-limits-reads.Asked, more-limits-reads.Learnt, ceilings-verdict-below t, ceilings-verdict.Post)
 
 ceilings-verdict-all-limits-requires : (t : ℕ) → ceilings-verdict-lts.Need-all-limits-requires (ceilings-verdict-claims t) (ceilings-verdict-at t) ceilings-verdict.Post
-ceilings-verdict-all-limits-requires t c κs = c .before .before .before .before .before .before .before .before .before .pre .1 .1
+ceilings-verdict-all-limits-requires t c κs = c .before .before .before .before .before .before .before .before .before .before .before .pre .1 .1
+
+ceilings-verdict-same-length : (t : ℕ) → ceilings-verdict-lts.Need-same-length (ceilings-verdict-claims t) (ceilings-verdict-at t) ceilings-verdict.Post
+ceilings-verdict-same-length t c = search needs
 
 ceilings-verdict-returns : (t : ℕ) → ceilings-verdict-lts.Need-returns (ceilings-verdict-claims t) (ceilings-verdict-at t) ceilings-verdict.Post
 ceilings-verdict-returns t c = search needs
 
 ceilings-verdict-mul-cells : (t : ℕ) → ceilings-verdict-lts.Need-mul-cells (ceilings-verdict-claims t) (ceilings-verdict-at t) ceilings-verdict.Post
-ceilings-verdict-mul-cells t c = record { fits = let z = all-cells _ _ (few-counters _ _ _ (c .before .before .before .before .before .before .before .before .before .before .before .pre .1 .1 .1 .counted) (c .before .before .before .before .before .before .before .before .before .before .before .pre .1 .1 .0 .few)) (c .before .before .before .before .before .before .before .before .before .before .before .pre .1 .1 .0 .ready .limits) in omega arith }
+ceilings-verdict-mul-cells t c = record { fits = let z = all-cells _ _ (few-counters _ _ _ (c .before .before .before .before .before .before .before .before .before .before .before .before .pre .1 .1 .1 .counted) (c .before .before .before .before .before .before .before .before .before .before .before .before .pre .1 .1 .0 .few)) (c .before .before .before .before .before .before .before .before .before .before .before .before .pre .1 .1 .0 .ready .limits) in omega arith }
 
 ceilings-verdict-few-limits-requires : (t : ℕ) → ceilings-verdict-lts.Need-few-limits-requires (ceilings-verdict-claims t) (ceilings-verdict-at t) ceilings-verdict.Post
-ceilings-verdict-few-limits-requires t c κs = (c .before .before .before .before .before .before .before .before .before .before .before .before .before .pre .1 .1 .0, (c .before .before .before .before .before .before .before .before .before .before .before .before .before .pre .1 .1 .1, (omega arith, omega arith)))
+ceilings-verdict-few-limits-requires t c κs = (c .before .before .before .before .before .before .before .before .before .before .before .before .before .before .before .pre .1 .1 .0, (c .before .before .before .before .before .before .before .before .before .before .before .before .before .before .before .pre .1 .1 .1, (omega arith, omega arith)))
+
+ceilings-verdict-same-length-2 : (t : ℕ) → ceilings-verdict-lts.Need-same-length-2 (ceilings-verdict-claims t) (ceilings-verdict-at t) ceilings-verdict.Post
+ceilings-verdict-same-length-2 t c = search needs
 
 ceilings-verdict-returns-2 : (t : ℕ) → ceilings-verdict-lts.Need-returns-2 (ceilings-verdict-claims t) (ceilings-verdict-at t) ceilings-verdict.Post
 ceilings-verdict-returns-2 t c = search needs
 
 ceilings-verdict-more-limits-requires : (t : ℕ) → ceilings-verdict-lts.Need-more-limits-requires (ceilings-verdict-claims t) (ceilings-verdict-at t) ceilings-verdict.Post
-ceilings-verdict-more-limits-requires t c κs = (c .before .before .before .before .before .before .before .before .before .before .before .before .before .before .pre .1 .1 .0, (c .before .before .before .before .before .before .before .before .before .before .before .before .before .before .pre .1 .1 .1, (omega arith, omega arith)))
+ceilings-verdict-more-limits-requires t c κs = (c .before .before .before .before .before .before .before .before .before .before .before .before .before .before .before .before .pre .1 .1 .0, (c .before .before .before .before .before .before .before .before .before .before .before .before .before .before .before .before .pre .1 .1 .1, (omega arith, omega arith)))
+
+ceilings-verdict-same-length-3 : (t : ℕ) → ceilings-verdict-lts.Need-same-length-3 (ceilings-verdict-claims t) (ceilings-verdict-at t) ceilings-verdict.Post
+ceilings-verdict-same-length-3 t c = search needs
 
 ceilings-verdict-returns-3 : (t : ℕ) → ceilings-verdict-lts.Need-returns-3 (ceilings-verdict-claims t) (ceilings-verdict-at t) ceilings-verdict.Post
 ceilings-verdict-returns-3 t c = search needs
@@ -50,7 +59,10 @@ ceilings-verdict-mul-ceilings-verdict : (t : ℕ) → ceilings-verdict-lts.Need-
 ceilings-verdict-mul-ceilings-verdict t c = record { fits = omega arith }
 
 ceilings-verdict-ceilings-verdict-requires : (t : ℕ) → ceilings-verdict-lts.Need-ceilings-verdict-requires (ceilings-verdict-claims t) (ceilings-verdict-at t) ceilings-verdict.Post
-ceilings-verdict-ceilings-verdict-requires t c κs = (omega arith, (omega arith, c .before .before .before .before .before .before .before .before .before .before .pre .1 .1))
+ceilings-verdict-ceilings-verdict-requires t c κs = (omega arith, (omega arith, c .before .before .before .before .before .before .before .before .before .before .before .before .pre .1 .1))
+
+ceilings-verdict-same-length-4 : (t : ℕ) → ceilings-verdict-lts.Need-same-length-4 (ceilings-verdict-claims t) (ceilings-verdict-at t) ceilings-verdict.Post
+ceilings-verdict-same-length-4 t c = search needs
 
 ceilings-verdict-returns-4 : (t : ℕ) → ceilings-verdict-lts.Need-returns-4 (ceilings-verdict-claims t) (ceilings-verdict-at t) ceilings-verdict.Post
 ceilings-verdict-returns-4 t c = search needs
@@ -65,12 +77,16 @@ pub +ceilings-verdict-spec : {M : Type 1} → statement M
     (ceilings-verdict-at t)
     ceilings-verdict.Post
     (ceilings-verdict-all-limits-requires t)
+    (ceilings-verdict-same-length t)
     (ceilings-verdict-returns t)
     (ceilings-verdict-mul-cells t)
     (ceilings-verdict-few-limits-requires t)
+    (ceilings-verdict-same-length-2 t)
     (ceilings-verdict-returns-2 t)
     (ceilings-verdict-more-limits-requires t)
+    (ceilings-verdict-same-length-3 t)
     (ceilings-verdict-returns-3 t)
     (ceilings-verdict-mul-ceilings-verdict t)
     (ceilings-verdict-ceilings-verdict-requires t)
+    (ceilings-verdict-same-length-4 t)
     (ceilings-verdict-returns-4 t))

@@ -1,5 +1,5 @@
 use native.Mathlib.Omega.{arith}
-use Prim.Native.Nat.{ℕ, _≤_}
+use Prim.Native.Nat.{ℕ}
 use mathlib.Core.Path.{_≡_, sym, ap, _∙_}
 use mathlib.Core.List.{List}
 use mathlib.Core.Option.{none}
@@ -12,22 +12,17 @@ use Rattle.model.specs.Scopes.{name-check, scope-check}
 use Rattle.model.specs.Bads.{bad-check}
 use Rattle.model.specs.Tables.{tables, entry-check}
 use Rattle.model.specs.Closed.{open-check}
-use Rattle.model.specs.Counters.{counter-count, counter-check}
-use Rattle.model.specs.Ceilings.{ceiling-check}
-use Rattle.model.specs.Limits.{present, maxCounters}
+use Rattle.model.specs.Limits.{present}
 use Rattle.model.specs.Verify.{message-check, answer}
-use Rattle.model.proofs.Exact.Answer.{row-refuses, name-refuses, bad-refuses, entry-refuses, open-refuses, ceiling-refuses}
-use Rattle.model.proofs.Exact.Entries.{bad-none, ceiling-none}
+use Rattle.model.proofs.Exact.Answer.{row-refuses, name-refuses, bad-refuses, entry-refuses, open-refuses}
+use Rattle.model.proofs.Exact.Entries.{bad-none}
 use Rattle.answers.proofs.Passing.{passed, safe-only}
 use Rattle.rooms.specs.Rooms.{row-room}
 use Rattle.lists.specs.Ready.{Ready}
 use Rattle.positions.specs.Positions.{Ends}
-use Rattle.rules.specs.Derived.{Rule-tables}
-use Rattle.mailed.specs.Mailed.{mailed-then-counters}
-use Rattle.mailed.proofs.Mailing.{then-counters-refuse, counters-fit}
-use Rattle.checks.specs.Order.{taken, under-ceilings, from-3, from-4, from-5, from-6, from-7, from-8, from-22, from-10, from-11, from-14}
-use Rattle.checks.proofs.Answering.{in-order, goes-by, ends-with, scopes-refuse, under-refuses, ceiling-told, ceilings-told}
-use Rattle.checks.proofs.Laying.{program-passes, ready, ceilings-whole, few, few-counters, ends}
+use Rattle.checks.specs.Order.{taken, from-3, from-4, from-5, from-6, from-7, from-8, from-22}
+use Rattle.checks.proofs.Answering.{in-order, goes-by, ends-with, scopes-refuse}
+use Rattle.checks.proofs.Laying.{program-passes, ready, ceilings-whole, ends}
 use borrow.Author.Needs.{needs}
 use Rattle.checks.proofs.order.words_verdict.Statement.{statement}
 use Rattle.checks.proofs.order.words_verdict.Tie as tie
@@ -186,18 +181,6 @@ returns-6 : tie.Need-returns-6
 unfolding from-8
 returns-6 c = ends-with _ _ _ _ _ _ _ _ (goes-8 (c .before .before .before .before .before .before .before .before .before .before .before .before .before)) (c .before .before .before .before .before .before .open-verdict .ensures .0) (c .before .is-safe6 .ensures) (not-true _ (c .if6 .taken))
 
-row-words16-requires-4 : tie.Need-row-words16-requires-4
-row-words16-requires-4 c κs = search needs
-
-words16-512-requires-2 : tie.Need-words16-512-requires-2
-words16-512-requires-2 c κs = search needs
-
-slice-aggregate-fill-letters : tie.Need-slice-aggregate-fill-letters
-slice-aggregate-fill-letters c = search needs
-
-slice-aggregate-fill-letters-2 : tie.Need-slice-aggregate-fill-letters-2
-slice-aggregate-fill-letters-2 c = search needs
-
 closed-pass : (c : tie.Else6) → Passes (c .before .before .before .before .before .before .before .before .before .before .before .before .before .before .before .before .before .before .before .before .before .before .before .before .before .before .before .before .before .before .before .before .before .before .before .before .before .before .before .before) (λ ws s. open-check s (program ws s) (tables ws s))
 closed-pass c = passed _ _ _ (open-refuses _ _ _) (c .before .before .before .before .before .before .open-verdict .ensures .0) (c .before .is-safe6 .ensures) (not-false _ (c .if6 .left))
 
@@ -205,125 +188,41 @@ goes-22 : (c : tie.Else6) → Goes (c .before .before .before .before .before .b
 unfolding from-8
 goes-22 c = goes-by _ _ _ (goes-8 (c .before .before .before .before .before .before .before .before .before .before .before .before .before)) (closed-pass c)
 
-fill-letters-requires : tie.Need-fill-letters-requires
-fill-letters-requires c κs =
-    let r = c .before .before .before .before .before .before .before .before .before .before .before .before .before .before .before .before .before .before .before .before .before .before .before .before .before .before .before .before .before .before .before .before .before .before .before .before .before .before .before .before .before .before .before .before .pre .0 .limits in
-    (all-ready (c .before .before .before .before .before .before .before .before .before .before .before .before .before .before .before .before .before), (omega (arith, r .rows .1, c .before .before .before .row-words164 .ensures .room), omega (arith, r .mails, c .before .before .words16-5122 .ensures .room)))
+name-width-requires : tie.Need-name-width-requires
+name-width-requires c κs = search needs
 
-slice-aggregate-counters-verdict : tie.Need-slice-aggregate-counters-verdict
-slice-aggregate-counters-verdict c = search needs
+slice-aggregate-system-verdict : tie.Need-slice-aggregate-system-verdict
+slice-aggregate-system-verdict c = sym (afters-long (c .before .before .before .before .before .before .before .before .before .before .before .before .before .before .before .before .before .before .before .before .before .before .before .before .before .before .before))
 
-slice-aggregate-counters-verdict-2 : tie.Need-slice-aggregate-counters-verdict-2
-slice-aggregate-counters-verdict-2 c = search needs
+slice-aggregate-system-verdict-2 : tie.Need-slice-aggregate-system-verdict-2
+slice-aggregate-system-verdict-2 c = sym (c .before .before .before .before .before .before .before .before .before .open-verdict .kept .1 .1 .1 .1 .0 ∙ c .before .before .before .before .before .before .before .before .before .before .before .before .before .before .before .row-words162 .ensures .room)
 
-counters-verdict-requires : tie.Need-counters-verdict-requires
-counters-verdict-requires c κs = (all-ready (c .before .before .before .before .before .before .before .before .before .before .before .before .before .before .before .before .before .before .before .before .before .before), c .before .before .before .before .fill-letters .ensures)
+slice-aggregate-system-verdict-3 : tie.Need-slice-aggregate-system-verdict-3
+slice-aggregate-system-verdict-3 c = sym (c .before .before .before .before .before .before .before .before .before .before .before .open-verdict .kept .1 .1 .1 .1 .1 .1 .0 ∙ c .before .before .before .before .before .before .before .before .before .before .before .before .before .before .before .before .row-words163 .ensures .room)
 
-is-safe-requires-7 : tie.Need-is-safe-requires-7
-is-safe-requires-7 c κs = search needs
+system-verdict-requires : tie.Need-system-verdict-requires
+system-verdict-requires c κs =
+    let safe = safe-only _ (sym (c .before .before .before .before .before .before .before .is-safe6 .ensures) ∙ not-false _ (c .before .before .before .before .before .before .if6 .left)) in
+    record {
+      ready = all-ready (c .before .before .before .before .before .before .before .before .before .before .before .before .before .before .before .before .before .before .before);
+      whole = ceilings-whole _ _ (c .before .before .before .before .before .before .before .before .before .before .before .before .before .before .before .before .before .before .before .before .before .before .before .before .before .before .before .before .before .before .before .before .before .before .before .before .before .before .before .before .before .before .before .before .before .before .pre .0);
+      bads = bad-none _ _ _ .0 (bads-pass (c .before .before .before .before .before .before .before .before .before .before .before .before .before .before .before .before .before .before .before .before .before .before));
+      closed = closed-pass (c .before .before .before .before .before .before);
+      ends = ends _ _ _ (omega (arith, c .before .before .before .before .before .before .before .before .before .before .before .before .before .before .before .before .before .before .before .before .before .before .before .before .before .before .before .before .before .before .before .before .before .before .before .before .before .before .before .before .before .before .before .before .before .before .pre .0 .limits .rows .1, afters-long (c .before .before .before .before .before .before .before .before .before .before .before .before .before .before .before .before .before .before .before .before .before .before .before .before .before .before .before .before .before .before .before))) (c .before .before .before .before .before .before .before .before .before .before .before .before .before .before .before .before .before .before .before .before .before .before .before .before .before .before .before .before .before .before .before .fill-ends .ensures);
+      flow-starts = c .before .before .before .before .before .before .before .before .before .before .before .before .open-verdict .ensures .1 .0 safe;
+      name-width = c .before .before .before .before .before .name-width .ensures;
+      fitting-sets = c .before .before .before .before .before .before .before .before .before .before .before .before .open-verdict .ensures .1 .1 .0 safe;
+      branch-bits = c .before .before .before .before .before .before .before .before .before .before .before .before .open-verdict .ensures .1 .1 .1 safe;
+    }
 
 same-length-2 : tie.Need-same-length-2
-same-length-2 c = search needs
-
-returns-7 : tie.Need-returns-7
-unfolding from-22
-returns-7 c = ends-with _ _ _ _ _ _ _ _ (goes-22 (c .before .before .before .before .before .before .before .before .before .before .before .before)) (c .before .before .counters-verdict .ensures) (c .before .is-safe7 .ensures) (not-true _ (c .if7 .taken))
-
-slice-aggregate-counter-count : tie.Need-slice-aggregate-counter-count
-slice-aggregate-counter-count c = search needs
-
-slice-aggregate-counter-count-2 : tie.Need-slice-aggregate-counter-count-2
-slice-aggregate-counter-count-2 c = search needs
-
-both-pass : (c : tie.Else7) → Passes (c .before .before .before .before .before .before .before .before .before .before .before .before .before .before .before .before .before .before .before .before .before .before .before .before .before .before .before .before .before .before .before .before .before .before .before .before .before .before .before .before .before .before .before .before .before .before .before .before .before .before .before .before) (λ ws s. mailed-then-counters s (program ws s) (tables ws s))
-both-pass c = passed _ _ _ (then-counters-refuse _ _ _) (c .before .before .counters-verdict .ensures) (c .before .is-safe7 .ensures) (not-false _ (c .if7 .left))
-
-counters-pass : (c : tie.Else7) → Passes (c .before .before .before .before .before .before .before .before .before .before .before .before .before .before .before .before .before .before .before .before .before .before .before .before .before .before .before .before .before .before .before .before .before .before .before .before .before .before .before .before .before .before .before .before .before .before .before .before .before .before .before .before) (λ ws s. counter-check present s (program ws s) (tables ws s))
-counters-pass c = counters-fit _ _ _ (both-pass c)
-
-goes-10 : (c : tie.Else7) → Goes (c .before .before .before .before .before .before .before .before .before .before .before .before .before .before .before .before .before .before .before .before .before .before .before .before .before .before .before .before .before .before .before .before .before .before .before .before .before .before .before .before .before .before .before .before .before .before .before .before .before .before .before .before) from-10
-unfolding from-22
-goes-10 c = goes-by _ _ _ (goes-22 (c .before .before .before .before .before .before .before .before .before .before .before .before)) (both-pass c)
-
-counter-count-requires : tie.Need-counter-count-requires
-counter-count-requires c κs = (all-ready (c .before .before .before .before .before .before .before .before .before .before .before .before .before .before .before .before .before .before .before .before .before .before .before .before .before .before .before), c .before .before .before .before .before .before .before .before .before .fill-letters .ensures)
-
-counters-few : (c : tie.After-counter-count) → c .counter-count .result ≤ maxCounters
-counters-few c = few-counters _ _ _ (c .counter-count .ensures) (few _ _ _ (counters-pass (c .before .before .before)))
-
-ceiling-check-requires : tie.Need-ceiling-check-requires
-ceiling-check-requires c κs = (ceilings-whole _ _ (c .before .before .before .before .before .before .before .before .before .before .before .before .before .before .before .before .before .before .before .before .before .before .before .before .before .before .before .before .before .before .before .before .before .before .before .before .before .before .before .before .before .before .before .before .before .before .before .before .before .before .before .before .before .before .before .pre .0), counters-few c)
-
-is-safe-requires-8 : tie.Need-is-safe-requires-8
-is-safe-requires-8 c κs = search needs
+same-length-2 c = c .before .before .before .before .before .before .before .before .before .before .before .before .before .before .before .open-verdict .kept .1 .1 .1 .1 .1 .0
 
 same-length-3 : tie.Need-same-length-3
 same-length-3 c = search needs
 
-returns-8 : tie.Need-returns-8
-unfolding from-10
-returns-8 c = ends-with _ _ _ _ _ _ _ _ (goes-10 (c .before .before .before .before .before .before)) (ceiling-told _ _ _ _ (c .before .before .ceiling-check .ensures) (c .before .before .before .counter-count .ensures)) (c .before .is-safe8 .ensures) (not-true _ (c .if8 .taken))
-
-width-requires : tie.Need-width-requires
-width-requires c κs = search needs
-
-form-passes : (c : tie.Else8) → Passes (c .before .before .before .before .before .before .before .before .before .before .before .before .before .before .before .before .before .before .before .before .before .before .before .before .before .before .before .before .before .before .before .before .before .before .before .before .before .before .before .before .before .before .before .before .before .before .before .before .before .before .before .before .before .before .before .before .before .before) (λ ws s. ceiling-check ws s (counter-count (program ws s) (tables ws s)))
-form-passes c = passed _ _ _ (ceiling-refuses _ _ _) (ceiling-told _ _ _ _ (c .before .before .ceiling-check .ensures) (c .before .before .before .counter-count .ensures)) (c .before .is-safe8 .ensures) (not-false _ (c .if8 .left))
-
-goes-11 : (c : tie.Else8) → Goes (c .before .before .before .before .before .before .before .before .before .before .before .before .before .before .before .before .before .before .before .before .before .before .before .before .before .before .before .before .before .before .before .before .before .before .before .before .before .before .before .before .before .before .before .before .before .before .before .before .before .before .before .before .before .before .before .before .before .before) from-11
-unfolding from-10
-goes-11 c = goes-by _ _ _ (goes-10 (c .before .before .before .before .before .before)) (form-passes c)
-
-slice-aggregate-system-verdict : tie.Need-slice-aggregate-system-verdict
-slice-aggregate-system-verdict c = sym (afters-long (c .before .before .before .before .before .before .before .before .before .before .before .before .before .before .before .before .before .before .before .before .before .before .before .before .before .before .before .before .before .before .before .before .before .before .before .before .before .before .before .before .before .before .before .before .before))
-
-slice-aggregate-system-verdict-2 : tie.Need-slice-aggregate-system-verdict-2
-slice-aggregate-system-verdict-2 c = sym (c .before .before .before .before .before .before .before .before .before .before .before .before .before .before .before .before .before .before .before .before .before .before .before .before .before .before .before .open-verdict .kept .1 .1 .1 .1 .0 ∙ c .before .before .before .before .before .before .before .before .before .before .before .before .before .before .before .before .before .before .before .before .before .before .before .before .before .before .before .before .before .before .before .before .before .row-words162 .ensures .room)
-
-slice-aggregate-system-verdict-3 : tie.Need-slice-aggregate-system-verdict-3
-slice-aggregate-system-verdict-3 c = sym (c .before .before .before .before .before .before .before .before .before .before .before .before .before .before .before .before .before .before .fill-letters .kept .1 .1 .0 ∙ c .before .before .before .before .before .before .before .before .before .before .before .before .before .before .before .before .before .before .before .before .before .before .row-words164 .ensures .room)
-
-slice-aggregate-system-verdict-4 : tie.Need-slice-aggregate-system-verdict-4
-slice-aggregate-system-verdict-4 c = sym (c .before .before .before .before .before .before .before .before .before .before .before .before .before .before .before .before .before .before .before .fill-letters .kept .1 .1 .1 .0 ∙ c .before .before .before .before .before .before .before .before .before .before .before .before .before .before .before .before .before .before .before .before .before .before .words16-5122 .ensures .room)
-
-slice-aggregate-system-verdict-5 : tie.Need-slice-aggregate-system-verdict-5
-slice-aggregate-system-verdict-5 c = sym (c .before .before .before .before .before .before .before .before .before .before .before .before .before .before .before .before .before .before .before .before .before .before .before .before .before .before .before .before .before .before .before .open-verdict .kept .1 .1 .1 .1 .1 .1 .0 ∙ c .before .before .before .before .before .before .before .before .before .before .before .before .before .before .before .before .before .before .before .before .before .before .before .before .before .before .before .before .before .before .before .before .before .before .before .before .row-words163 .ensures .room)
-
-system-verdict-requires : tie.Need-system-verdict-requires
-system-verdict-requires c κs =
-    let safe = safe-only _ (sym (c .before .before .before .before .before .before .before .before .before .before .before .before .before .before .before .before .before .before .before .before .before .before .before .before .before .before .before .is-safe6 .ensures) ∙ not-false _ (c .before .before .before .before .before .before .before .before .before .before .before .before .before .before .before .before .before .before .before .before .before .before .before .before .before .before .if6 .left)) in (
-      all-ready (c .before .before .before .before .before .before .before .before .before .before .before .before .before .before .before .before .before .before .before .before .before .before .before .before .before .before .before .before .before .before .before .before .before .before .before .before .before .before .before),
-      (
-        record {
-          named = λ names letters. record {
-            ready = all-ready (c .before .before .before .before .before .before .before .before .before .before .before .before .before .before .before .before .before .before .before .before .before .before .before .before .before .before .before .before .before .before .before .before .before .before .before .before .before .before .before);
-            closed = closed-pass (c .before .before .before .before .before .before .before .before .before .before .before .before .before .before .before .before .before .before .before .before .before .before .before .before .before .before);
-            few = few _ _ _ (counters-pass (c .before .before .before .before .before .before .before .before .before .before .before .before .before .before));
-            ends = ends _ _ _ (omega (arith, c .before .before .before .before .before .before .before .before .before .before .before .before .before .before .before .before .before .before .before .before .before .before .before .before .before .before .before .before .before .before .before .before .before .before .before .before .before .before .before .before .before .before .before .before .before .before .before .before .before .before .before .before .before .before .before .before .before .before .before .before .before .before .before .before .before .before .pre .0 .limits .rows .1, afters-long (c .before .before .before .before .before .before .before .before .before .before .before .before .before .before .before .before .before .before .before .before .before .before .before .before .before .before .before .before .before .before .before .before .before .before .before .before .before .before .before .before .before .before .before .before .before .before .before .before .before .before .before))) (c .before .before .before .before .before .before .before .before .before .before .before .before .before .before .before .before .before .before .before .before .before .before .before .before .before .before .before .before .before .before .before .before .before .before .before .before .before .before .before .before .before .before .before .before .before .before .before .before .before .before .before .fill-ends .ensures);
-            flow-starts = c .before .before .before .before .before .before .before .before .before .before .before .before .before .before .before .before .before .before .before .before .before .before .before .before .before .before .before .before .before .before .before .before .open-verdict .ensures .1 .0 safe;
-            flow-width = c .before .before .before .before .before .before .before .width .ensures;
-            flow-sets = c .before .before .before .before .before .before .before .before .before .before .before .before .before .before .before .before .before .before .before .before .before .before .before .before .before .before .before .before .before .before .before .before .open-verdict .ensures .1 .1 .0 safe;
-            name-letters = letters;
-            class-letters = c .before .before .before .before .before .before .before .before .before .before .before .before .before .before .before .before .before .before .before .before .before .fill-letters .ensures;
-            branch-bits = c .before .before .before .before .before .before .before .before .before .before .before .before .before .before .before .before .before .before .before .before .before .before .before .before .before .before .before .before .before .before .before .before .open-verdict .ensures .1 .1 .1 safe;
-          };
-        },
-        record {
-          counted = c .before .before .before .before .before .before .before .before .before .before .before .counter-count .ensures;
-          in-form = ceiling-none _ _ _ .0 (passed _ _ _ (ceiling-refuses _ _ _) (c .before .before .before .before .before .before .before .before .before .before .ceiling-check .ensures) (c .before .before .before .before .before .before .before .before .before .is-safe8 .ensures) (not-false _ (c .before .before .before .before .before .before .before .before .if8 .left)));
-          bads = bad-none _ _ _ .0 (bads-pass (c .before .before .before .before .before .before .before .before .before .before .before .before .before .before .before .before .before .before .before .before .before .before .before .before .before .before .before .before .before .before .before .before .before .before .before .before .before .before .before .before .before .before));
-        },
-      ),
-    )
-
-same-length-4 : tie.Need-same-length-4
-same-length-4 c = c .before .before .before .before .before .before .before .before .before .before .before .before .before .before .before .before .before .before .before .before .before .before .before .before .before .before .before .before .before .before .before .before .before .before .before .open-verdict .kept .1 .1 .1 .1 .1 .0
-
-same-length-5 : tie.Need-same-length-5
-same-length-5 c = search needs
-
-returns-9 : tie.Need-returns-9
-returns-9 c = (c .before .before .system-verdict .ensures .0 ∙ sym (ap answer (goes-11 (c .before .before .before .before .before .before .before .before .before .before .before))), c .before .before .system-verdict .ensures .1)
+returns-7 : tie.Need-returns-7
+returns-7 c = (c .before .before .system-verdict .ensures .0 ∙ sym (ap answer (goes-22 (c .before .before .before .before .before .before .before .before .before))), c .before .before .system-verdict .ensures .1)
 
 pub words-verdict-spec : {M : Type 1} → statement M
 words-verdict-spec =
@@ -360,31 +259,11 @@ words-verdict-spec =
     is-safe-requires-6
     same-length
     returns-6
-    row-words16-requires-4
-    words16-512-requires-2
-    slice-aggregate-fill-letters
-    slice-aggregate-fill-letters-2
-    fill-letters-requires
-    slice-aggregate-counters-verdict
-    slice-aggregate-counters-verdict-2
-    counters-verdict-requires
-    is-safe-requires-7
-    same-length-2
-    returns-7
-    slice-aggregate-counter-count
-    slice-aggregate-counter-count-2
-    counter-count-requires
-    ceiling-check-requires
-    is-safe-requires-8
-    same-length-3
-    returns-8
-    width-requires
+    name-width-requires
     slice-aggregate-system-verdict
     slice-aggregate-system-verdict-2
     slice-aggregate-system-verdict-3
-    slice-aggregate-system-verdict-4
-    slice-aggregate-system-verdict-5
     system-verdict-requires
-    same-length-4
-    same-length-5
-    returns-9)
+    same-length-2
+    same-length-3
+    returns-7)

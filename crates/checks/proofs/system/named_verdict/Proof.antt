@@ -1,54 +1,116 @@
 use native.Mathlib.Omega.{arith}
-use mathlib.Core.Path.{_≡_, sym, ap, _∙_, refl}
-use mathlib.Core.Option.{none}
-use lib.ListN.{length}
+use mathlib.Core.Path.{refl, sym, ap, _∙_}
 use borrow.Author.Tests.{not-true, not-false}
-use borrow.Author.Needs.{needs}
-use Rattle.model.specs.Rows.{program}
-use Rattle.model.specs.Tables.{tables}
-use Rattle.model.specs.Counters.{counter-count}
-use Rattle.model.specs.Ceilings.{ceiling-check}
 use Rattle.model.specs.Verify.{answer}
+use Rattle.model.proofs.Exact.Answer.{ceiling-refuses}
 use Rattle.model.proofs.Exact.Entries.{ceiling-none}
-use Rattle.answers.proofs.Passing.{passed, safe-only}
-use Rattle.checks.specs.Order.{under-ceilings, from-11, from-14}
-use Rattle.checks.proofs.Answering.{goes-by, ends-with, under-refuses, ceilings-told, form-passed}
+use Rattle.answers.proofs.Passing.{passed}
+use Rattle.letter_codes.proofs.Capped.{capped-most}
+use Rattle.mailed.proofs.Mailing.{then-counters-refuse, counters-fit}
+use Rattle.checks.specs.Order.{from-22, from-10}
+use Rattle.checks.proofs.Answering.{goes-by, ends-with, ceiling-told}
+use Rattle.checks.proofs.Laying.{all-counted}
+use borrow.Author.Needs.{needs}
 use Rattle.checks.proofs.system.named_verdict.Statement.{statement}
 use Rattle.checks.proofs.system.named_verdict.Tie as tie
 
 fill-names-requires : tie.Need-fill-names-requires
-fill-names-requires c κs = (c .before .before .before .before .before .before .before .before .before .before .pre .0, c .before .before .before .before .before .before .before .before .before .before .pre .1 .1 .1)
+fill-names-requires c κs = (c .before .before .before .before .before .before .before .before .pre .0 .ready, c .before .before .before .before .before .before .before .before .pre .1)
 
-ceilings-verdict-requires : tie.Need-ceilings-verdict-requires
-ceilings-verdict-requires c κs = (omega arith, (c .before .before .before .before .before .before .before .before .before .before .before .before .before .before .pre .1 .0 .named _ (c .before .before .before .fill-names .ensures), c .before .before .before .before .before .before .before .before .before .before .before .before .before .before .pre .1 .1 .0))
+row-words16-requires : tie.Need-row-words16-requires
+row-words16-requires c κs = search needs
+
+letter-codes-requires : tie.Need-letter-codes-requires
+letter-codes-requires c κs = search needs
+
+slice-aggregate-fill-codes : tie.Need-slice-aggregate-fill-codes
+slice-aggregate-fill-codes c = search needs
+
+slice-aggregate-fill-codes-2 : tie.Need-slice-aggregate-fill-codes-2
+slice-aggregate-fill-codes-2 c = search needs
+
+fill-codes-requires : tie.Need-fill-codes-requires
+fill-codes-requires c κs = (c .before .before .before .before .before .before .before .before .before .before .before .before .before .before .before .before .pre .0 .ready, (c .before .before .before .before .before .before .before .fill-names .ensures, ((omega arith, omega (arith, c .before .before .before .letter-codes .ensures .room)), omega (arith, c .before .before .before .before .before .before .before .before .before .before .before .before .before .before .before .before .pre .0 .ready .limits .rows .1, c .before .before .before .before .row-words16 .ensures .room))))
+
+counters-verdict-requires : tie.Need-counters-verdict-requires
+counters-verdict-requires c κs = (c .before .before .before .before .before .before .before .before .before .before .before .before .before .before .before .before .before .before .before .pre .0 .ready, c .before .before .fill-codes .ensures .0)
 
 is-safe-requires : tie.Need-is-safe-requires
 is-safe-requires c κs = search needs
 
 same-length : tie.Need-same-length
-same-length c = search needs
+same-length c = c .before .before .before .before .before .before .before .before .before .before .before .before .before .fill-names .kept .1 .1 .0
 
 returns : tie.Need-returns
-unfolding from-11
-returns c = ends-with _ _ _ _ _ _ _ _ refl (ceilings-told _ _ _ _ (c .before .before .ceilings-verdict .ensures .0) (c .before .before .before .before .before .before .before .before .before .before .before .before .before .before .before .before .before .pre .1 .1 .0 .counted)) (c .before .is-safe .ensures) (not-true _ (c .if1 .taken))
+unfolding from-22
+returns c = ends-with _ _ _ _ _ _ _ _ refl (c .before .before .counters-verdict .ensures) (c .before .is-safe .ensures) (not-true _ (c .if1 .taken))
 
--- refusals 11 to 13 found nothing
-pass : (c : tie.Else1) → under-ceilings (c .before .before .before .before .before .before .before .before .before .before .before .before .before .before .before .before .before .args .ws .now) (c .before .before .before .before .before .before .before .before .before .before .before .before .before .before .before .before .before .args .s) (counter-count (program (c .before .before .before .before .before .before .before .before .before .before .before .before .before .before .before .before .before .args .ws .now) (c .before .before .before .before .before .before .before .before .before .before .before .before .before .before .before .before .before .args .s)) (tables (c .before .before .before .before .before .before .before .before .before .before .before .before .before .before .before .before .before .args .ws .now) (c .before .before .before .before .before .before .before .before .before .before .before .before .before .before .before .before .before .args .s))) ≡ none
-pass c = passed _ _ _ (under-refuses _ _ (form-passed _ _ _ (c .before .before .before .before .before .before .before .before .before .before .before .before .before .before .before .before .before .pre .1 .1 .0))) (ceilings-told _ _ _ _ (c .before .before .ceilings-verdict .ensures .0) (c .before .before .before .before .before .before .before .before .before .before .before .before .before .before .before .before .before .pre .1 .1 .0 .counted)) (c .before .is-safe .ensures) (not-false _ (c .if1 .left))
+add-n : tie.Need-add-n
+add-n c = record { fits = omega (arith, capped-most _ _ _ (c .before .before .before .before .before .before .fill-codes .ensures .0), c .before .before .before .before .before .before .before .before .before .before .before .before .before .before .before .before .before .before .before .before .before .before .before .pre .0 .ready .limits .states) }
 
-listing-verdict-requires : tie.Need-listing-verdict-requires
-listing-verdict-requires c κs = (c .before .before .before .before .before .before .before .before .before .before .before .before .before .before .before .before .before .before .before .before .pre .1 .0 .named _ (c .before .before .before .before .before .before .before .before .before .fill-names .ensures), c .before .before .before .before .before .ceilings-verdict .ensures .1 (safe-only _ (sym (c .before .before .before .before .is-safe .ensures) ∙ not-false _ (c .before .before .before .if1 .left))))
+ceiling-check-requires : tie.Need-ceiling-check-requires
+ceiling-check-requires c κs = (c .before .before .before .before .before .before .before .before .before .before .before .before .before .before .before .before .before .before .before .before .before .before .before .pre .0 .whole, omega (arith, all-counted _ _ _ (c .before .before .before .before .before .before .fill-codes .ensures .0) (counters-fit _ _ _ (passed _ _ _ (then-counters-refuse _ _ _) (c .before .before .before .counters-verdict .ensures) (c .before .before .is-safe .ensures) (not-false _ (c .before .if1 .left)))) .1))
+
+is-safe-requires-2 : tie.Need-is-safe-requires-2
+is-safe-requires-2 c κs = search needs
 
 same-length-2 : tie.Need-same-length-2
-same-length-2 c = search needs
-
-same-length-3 : tie.Need-same-length-3
-same-length-3 c = search needs
+same-length-2 c = c .before .before .before .before .before .before .before .before .before .before .before .before .before .before .before .before .before .fill-names .kept .1 .1 .0
 
 returns-2 : tie.Need-returns-2
-unfolding from-11 from-14
-returns-2 c = (c .before .before .listing-verdict .ensures .0 ∙ sym (ap answer (goes-by _ _ _ refl (pass (c .before .before .before .before .before .before)))), c .before .before .listing-verdict .ensures .1)
+unfolding from-22 from-10
+returns-2 c =
+    let both = passed _ _ _ (then-counters-refuse _ _ _) (c .before .before .before .before .before .before .counters-verdict .ensures) (c .before .before .before .before .before .is-safe .ensures) (not-false _ (c .before .before .before .before .if1 .left)) in
+    let all = all-counted _ _ _ (c .before .before .before .before .before .before .before .before .before .fill-codes .ensures .0) (counters-fit _ _ _ both) in
+    ends-with _ _ _ _ _ _ _ _ (goes-by _ _ _ refl both) (ceiling-told _ _ _ _ (c .before .before .ceiling-check .ensures) (all .0)) (c .before .is-safe2 .ensures) (not-true _ (c .if2 .taken))
+
+slice-aggregate-sets-verdict : tie.Need-slice-aggregate-sets-verdict
+slice-aggregate-sets-verdict c = search needs
+
+slice-aggregate-sets-verdict-2 : tie.Need-slice-aggregate-sets-verdict-2
+slice-aggregate-sets-verdict-2 c = search needs
+
+sets-verdict-requires : tie.Need-sets-verdict-requires
+sets-verdict-requires c κs =
+    let all = all-counted _ _ _ (c .before .before .before .before .before .before .before .before .before .before .before .before .before .fill-codes .ensures .0) (counters-fit _ _ _ (passed _ _ _ (then-counters-refuse _ _ _) (c .before .before .before .before .before .before .before .before .before .before .counters-verdict .ensures) (c .before .before .before .before .before .before .before .before .before .is-safe .ensures) (not-false _ (c .before .before .before .before .before .before .before .before .if1 .left)))) in
+    (omega arith, (c .before .before .before .before .before .before .before .before .before .before .before .before .before .before .before .before .before .before .before .before .before .before .before .before .before .before .before .before .before .before .pre .0, (c .before .before .before .before .before .before .before .before .before .before .before .before .before .before .before .before .before .before .before .before .before .fill-names .ensures, (c .before .before .before .before .before .before .before .before .before .before .before .before .before .fill-codes .ensures .1 .0 (omega (arith, all .1)), (c .before .before .before .before .before .before .before .before .before .before .before .before .before .fill-codes .ensures .1 .1 (omega (arith, all .1)), (record { counted = all .0; in-form = ceiling-none _ _ _ .0 (passed _ _ _ (ceiling-refuses _ _ _) (c .before .before .before .before .before .before .ceiling-check .ensures) (c .before .before .before .before .before .is-safe2 .ensures) (not-false _ (c .before .before .before .before .if2 .left))); bads = c .before .before .before .before .before .before .before .before .before .before .before .before .before .before .before .before .before .before .before .before .before .before .before .before .before .before .before .before .before .before .pre .0 .bads }, all .1))))))
+
+same-length-3 : tie.Need-same-length-3
+same-length-3 c = c .before .before .before .before .before .before .before .before .before .before .before .before .before .before .before .before .before .before .before .before .before .before .before .before .fill-names .kept .1 .1 .0
+
+same-length-4 : tie.Need-same-length-4
+same-length-4 c = search needs
+
+returns-3 : tie.Need-returns-3
+unfolding from-22 from-10
+returns-3 c =
+    let both = passed _ _ _ (then-counters-refuse _ _ _) (c .before .before .before .before .before .before .before .before .before .before .before .before .before .counters-verdict .ensures) (c .before .before .before .before .before .before .before .before .before .before .before .before .is-safe .ensures) (not-false _ (c .before .before .before .before .before .before .before .before .before .before .before .if1 .left)) in
+    let all = all-counted _ _ _ (c .before .before .before .before .before .before .before .before .before .before .before .before .before .before .before .before .fill-codes .ensures .0) (counters-fit _ _ _ both) in
+    let form = passed _ _ _ (ceiling-refuses _ _ _) (ceiling-told _ _ _ _ (c .before .before .before .before .before .before .before .before .before .ceiling-check .ensures) (all .0)) (c .before .before .before .before .before .before .before .before .is-safe2 .ensures) (not-false _ (c .before .before .before .before .before .before .before .if2 .left)) in
+    (c .before .before .sets-verdict .ensures .0 ∙ sym (ap answer (goes-by _ _ _ (goes-by _ _ _ refl both) form)), c .before .before .sets-verdict .ensures .1)
 
 pub named-verdict-spec : {M : Type 1} → statement M
 named-verdict-spec =
-    tie.close (tie.spec fill-names-requires ceilings-verdict-requires is-safe-requires same-length returns listing-verdict-requires same-length-2 same-length-3 returns-2)
+    tie.close
+    (tie.spec
+    fill-names-requires
+    row-words16-requires
+    letter-codes-requires
+    slice-aggregate-fill-codes
+    slice-aggregate-fill-codes-2
+    fill-codes-requires
+    counters-verdict-requires
+    is-safe-requires
+    same-length
+    returns
+    add-n
+    ceiling-check-requires
+    is-safe-requires-2
+    same-length-2
+    returns-2
+    slice-aggregate-sets-verdict
+    slice-aggregate-sets-verdict-2
+    sets-verdict-requires
+    same-length-3
+    same-length-4
+    returns-3)

@@ -1,0 +1,43 @@
+use native.Mathlib.Omega.{arith}
+use mathlib.Core.Path.{sym, _∙_}
+use Rattle.model.specs.Words.{columns}
+use Rattle.model.specs.Rows.{program}
+use Rattle.matching.proofs.Subpatterns.{pattern-within}
+use Rattle.state_rules.proofs.Letters.{set-room}
+use borrow.Author.Needs.{needs}
+use Rattle.kept_letters.proofs.keep_branch.Statement.{statement}
+use Rattle.kept_letters.proofs.keep_branch.Tie as tie
+
+returns : tie.Need-returns
+returns c = (c .before .before .before .before .before .before .before .before .pre .1 .1 .1 .1 .1 .1 .0, c .before .before .before .before .before .before .before .before .pre .1 .1 .1 .1 .1 .1 .1)
+
+state-class-requires : tie.Need-state-class-requires
+state-class-requires c κs = c .before .before .before .before .before .before .before .before .pre .0 .ready
+
+returns-2 : tie.Need-returns-2
+returns-2 c = (c .before .before .before .before .before .before .before .before .before .before .pre .1 .1 .1 .1 .1 .1 .0, c .before .before .before .before .before .before .before .before .before .before .pre .1 .1 .1 .1 .1 .1 .1)
+
+slice-aggregate-read-letters : tie.Need-slice-aggregate-read-letters
+slice-aggregate-read-letters c = search needs
+
+slice-aggregate-read-letters-2 : tie.Need-slice-aggregate-read-letters-2
+slice-aggregate-read-letters-2 c = search needs
+
+read-letters-requires : tie.Need-read-letters-requires
+read-letters-requires c κs = (c .before .before .before .before .before .before .before .before .before .before .before .before .before .pre .0, (c .before .before .before .before .before .before .before .before .before .before .before .before .before .pre .1 .0, (c .before .before .before .before .before .before .before .before .before .before .before .before .before .pre .1 .1 .0, (c .before .before .before .before .before .before .before .before .before .before .before .before .before .pre .1 .1 .1 .1 .1 .1 .0, (c .before .before .before .before .before .before .before .before .before .before .before .before .before .pre .1 .1 .1 .1 .0, (c .before .before .before .before .before .before .before .before .before .before .before .before .before .pre .1 .1 .1 .1 .1 .0, (set-room (c .before .before .before .before .before .before .before .before .before .before .before .before .before .pre .0 .ready) _ (c .before .before .before .before .before .before .before .before .before .before .before .before .before .pre .1 .1 .1 .0) (search needs), set-room (c .before .before .before .before .before .before .before .before .before .before .before .before .before .pre .0 .ready) _ (c .before .before .before .before .before .before .before .before .before .before .before .before .before .pre .1 .1 .1 .0) (search needs))))))))
+
+slice-aggregate-keep-letters : tie.Need-slice-aggregate-keep-letters
+slice-aggregate-keep-letters c = search needs
+
+keep-letters-requires : tie.Need-keep-letters-requires
+unfolding program columns
+keep-letters-requires c κs = (c .before .before .before .before .before .before .before .before .before .before .before .before .before .before .before .before .before .before .pre .0 .ready, (c .before .before .before .before .before .before .before .before .before .before .before .before .before .before .before .before .before .before .pre .1 .1 .0, (c .before .before .before .before .before .before .before .before .before .before .before .before .before .before .before .before .before .before .pre .1 .1 .1 .1 .1 .1 .0, (c .before .before .before .before .before .before .before .before .before .before .before .before .before .before .before .before .before .before .pre .1 .1 .1 .1 .1 .1 .1, ((search needs, sym (c .before .before .before .before .before .before .before .before .before .state-class .ensures) ∙ c .before .before .before .before .before .before .before .before .if2 .left, pattern-within (c .before .before .before .before .before .before .before .before .before .before .before .before .before .before .before .before .before .before .pre .1 .1 .1 .1 .1 .0)), c .before .before .before .before .read-letters .ensures)))))
+
+same-length : tie.Need-same-length
+same-length c = search needs
+
+returns-3 : tie.Need-returns-3
+returns-3 c = c .before .before .keep-letters .ensures
+
+pub keep-branch-spec : {M : Type 1} → statement M
+keep-branch-spec = tie.close (tie.spec returns state-class-requires returns-2 slice-aggregate-read-letters slice-aggregate-read-letters-2 read-letters-requires slice-aggregate-keep-letters keep-letters-requires same-length returns-3)

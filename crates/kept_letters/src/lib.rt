@@ -1,0 +1,160 @@
+// The letters that the branches of receives read, derived once: for each branch of each state that receives they are
+// kept for the state that it leads to. What is kept is looked at before it is taken (`branch_letters`), so nothing is
+// promised of how much is.
+use lists::state_class;
+use lists::state_index;
+use lists::state_location;
+use lists::state_return;
+use lists::word;
+use model::MAX_COUNTERS;
+use model::Sizes;
+use model::TAG_RECEIVE;
+use pattern_letters::forget_letters;
+use pattern_letters::keep_letters;
+use pattern_letters::read_letters;
+use positions::branch_body;
+use program::rows::num;
+use program::rows::tag;
+ghost use mathlib.Core.Path.{_≡_};
+ghost use Prim.Native.Nat.{_+_, _≤_, _<_};
+ghost use Rattle.model.specs.Limits.{maxCounters, maxDepth};
+ghost use Rattle.model.specs.Rows.{program, tag};
+ghost use Rattle.model.specs.Tables.{tables};
+ghost use Rattle.model.specs.Counters.{counter-count};
+ghost use Rattle.positions.specs.Positions.{Ends};
+ghost use Rattle.matching.specs.Patterns.{Pattern};
+ghost use Rattle.system_letters.specs.Letters.{Class-letters, Letter-sets};
+ghost use Rattle.rules.specs.Derived.{Reads};
+ghost use Rattle.pattern_letters.specs.Picked.{Match-tables, Owners-room};
+
+// A set of letters has at most so many words: a bit for each letter, one word more where they fill all.
+const LETTER_WORDS: usize = MAX_COUNTERS / 64 + 1;
+
+// Keeps the letters of class c that the branch with its pattern at row q reads for state x, if that is of class c.
+fn keep_branch(
+    ws: &[u16],
+    s: Sizes,
+    afters: &[u16],
+    w: usize,
+    fitting: &[u64],
+    names: &[u64],
+    letter_at: &[u16],
+    c: usize,
+    q: usize,
+    x: usize,
+    letters: &mut [u64],
+)
+    requires { ⌜ Match-tables (now ws) s w (now fitting) (now names) ⌝ }
+    requires { ⌜ Ends (program (now ws) s) (now afters) ⌝ }
+    requires { ⌜ Class-letters (program (now ws) s) (tables (now ws) s) (now «letter_at») ⌝ }
+    requires { ⌜ counter-count (program (now ws) s) (tables (now ws) s) ≤ maxCounters ⌝ }
+    requires { ⌜ c ≤ s .rows ⌝ }
+    requires { ⌜ Pattern (program (now ws) s) maxDepth q ⌝ }
+    requires { ⌜ Letter-sets (program (now ws) s) (tables (now ws) s) (now letters) ⌝ }
+    requires { ⌜ Reads (program (now ws) s) (tables (now ws) s) (now letters) ⌝ }
+    ensures { λ _. ⌜ Letter-sets (program (now (ws .entry)) s) (tables (now (ws .entry)) s) (now (letters .exit)) ⌝ }
+    ensures { λ _. ⌜ Reads (program (now (ws .entry)) s) (tables (now (ws .entry)) s) (now (letters .exit)) ⌝ }
+{
+    if x >= s.states {
+        return;
+    }
+    if state_class(ws, s, x) != c {
+        return;
+    }
+    let mut part = [0u64; LETTER_WORDS];
+    let mut found = [0u64; LETTER_WORDS];
+    read_letters(
+        ws,
+        s,
+        afters,
+        w,
+        fitting,
+        names,
+        letter_at,
+        letters,
+        c,
+        q,
+        &mut part,
+        &mut found,
+    );
+    keep_letters(ws, s, letter_at, c, q, x, &found, letters);
+}
+
+// Keeps the letters that the branches of state i read, which receives at row r.
+fn keep_receive(
+    ws: &[u16],
+    s: Sizes,
+    afters: &[u16],
+    w: usize,
+    fitting: &[u64],
+    names: &[u64],
+    letter_at: &[u16],
+    i: usize,
+    r: usize,
+    letters: &mut [u64],
+)
+    requires { ⌜ Match-tables (now ws) s w (now fitting) (now names) ⌝ }
+    requires { ⌜ Ends (program (now ws) s) (now afters) ⌝ }
+    requires { ⌜ Class-letters (program (now ws) s) (tables (now ws) s) (now «letter_at») ⌝ }
+    requires { ⌜ counter-count (program (now ws) s) (tables (now ws) s) ≤ maxCounters ⌝ }
+    requires { ⌜ tag (program (now ws) s) r ≡ 9 ⌝ }
+    requires { ⌜ i < s .states ⌝ }
+    requires { ⌜ Letter-sets (program (now ws) s) (tables (now ws) s) (now letters) ⌝ }
+    requires { ⌜ Reads (program (now ws) s) (tables (now ws) s) (now letters) ⌝ }
+    ensures { λ _. ⌜ Letter-sets (program (now (ws .entry)) s) (tables (now (ws .entry)) s) (now (letters .exit)) ⌝ }
+    ensures { λ _. ⌜ Reads (program (now (ws .entry)) s) (tables (now (ws .entry)) s) (now (letters .exit)) ⌝ }
+{
+    let c = state_class(ws, s, i);
+    let back = state_return(ws, s, i);
+    let m = num(ws, s, r);
+    let mut q = r + 1;
+    for b in 0..m {
+        let row = q;
+        let e = branch_body(ws, s, afters, row);
+        q = word(afters, e);
+        let x = state_index(ws, s, c, e, back);
+        keep_branch(
+            ws,
+            s,
+            afters,
+            w,
+            fitting,
+            names,
+            letter_at,
+            c,
+            row,
+            x,
+            letters,
+        );
+    }
+}
+
+// Keeps the letters that all receives read.
+pub fn fill_reads(
+    ws: &[u16],
+    s: Sizes,
+    afters: &[u16],
+    w: usize,
+    fitting: &[u64],
+    names: &[u64],
+    letter_at: &[u16],
+    letters: &mut [u64],
+)
+    requires { ⌜ Match-tables (now ws) s w (now fitting) (now names) ⌝ }
+    requires { ⌜ Ends (program (now ws) s) (now afters) ⌝ }
+    requires { ⌜ Class-letters (program (now ws) s) (tables (now ws) s) (now «letter_at») ⌝ }
+    requires { ⌜ counter-count (program (now ws) s) (tables (now ws) s) ≤ maxCounters ⌝ }
+    requires { ⌜ Letter-sets (program (now ws) s) (tables (now ws) s) (now letters) ⌝ }
+    requires { ⌜ Owners-room (program (now ws) s) (tables (now ws) s) (now letters) ⌝ }
+    ensures { λ _. ⌜ Letter-sets (program (now (ws .entry)) s) (tables (now (ws .entry)) s) (now (letters .exit)) ⌝ }
+    ensures { λ _. ⌜ Reads (program (now (ws .entry)) s) (tables (now (ws .entry)) s) (now (letters .exit)) ⌝ }
+{
+    forget_letters(ws, s, letter_at, letters);
+    for i in 0..s.states {
+        let r = state_location(ws, s, i);
+        if tag(ws, s, r) != TAG_RECEIVE {
+            continue;
+        }
+        keep_receive(ws, s, afters, w, fitting, names, letter_at, i, r, letters);
+    }
+}

@@ -1,0 +1,103 @@
+use borrow.Author.Needs.{needs}
+use Prim.Native.Nat.{_+_, _-_, _≤_}
+use native.Mathlib.Omega.{arith}
+use mathlib.Core.Path.{_≡_, refl, _∙_}
+use lib.ListN.{length, length-set}
+use Rattle.model.specs.Rows.{program}
+use Rattle.model.specs.Tables.{tables}
+use Rattle.lists.specs.Lists.{range-from}
+use Rattle.lists.proofs.Facts.{mail-usable}
+use Rattle.letter_codes.proofs.Filling.{Filled, filled-none, filled-room, filled-next, filled-count, filled-starts, filled-codes}
+use Rattle.letter_codes.proofs.Filling.{end-told, entry-next, mail-ascends, class-entries, first-entry}
+use Rattle.letter_codes.proofs.fill_codes.Statement.{statement}
+use Rattle.letter_codes.proofs.fill_codes.Tie as tie
+
+abbrev Inv-loop : tie.InvT-loop
+Inv-loop ws s names most letter-at₀ codes₀ list e₀ n₀ c₀ c-end letter-at codes e n c =
+    Filled (program ws s) (tables ws s) most c n letter-at codes × (e ≡ range-from (tables ws s .mail) c) × (c ≤ s .rows + 1) × (length letter-at ≡ length letter-at₀) × (length codes ≡ length codes₀)
+
+abbrev μ-loop : tie.MeasureT-loop
+μ-loop ws s names most letter-at₀ codes₀ list e₀ n₀ c₀ c-end letter-at codes e n c = s .rows + 1 - c
+
+mail-requires : tie.Need-mail-requires Inv-loop μ-loop
+mail-requires c κs = search needs
+
+add-c-end : tie.Need-add-c-end Inv-loop μ-loop
+add-c-end c = search needs
+
+loop-holds : tie.Need-loop-holds Inv-loop μ-loop
+loop-holds c = (filled-none _ _ _ _ _, first-entry (c .before .before .before .before .before .before .pre .0), omega arith, refl, refl)
+
+cast-letter-at : tie.Need-cast-letter-at Inv-loop μ-loop
+cast-letter-at c = omega (arith, c .before .loop .inv .0 .upto, c .before .before .before .before .before .before .before .before .pre .1 .1 .0 .0)
+
+mul-letter-at : tie.Need-mul-letter-at Inv-loop μ-loop
+mul-letter-at c = search needs
+
+slice-write-letter-at : tie.Need-slice-write-letter-at Inv-loop μ-loop
+slice-write-letter-at c = omega (arith, c .before .loop .inv .3, c .before .before .before .before .before .before .before .before .pre .1 .1 .1)
+
+add-start-from : tie.Need-add-start-from Inv-loop μ-loop
+add-start-from c = search needs
+
+start-from-requires : tie.Need-start-from-requires Inv-loop μ-loop
+start-from-requires c κs = (mail-usable (c .before .before .before .before .before .before .before .before .pre .0) _ (c .before .before .before .mail .ensures) .0, (mail-ascends (c .before .before .before .before .before .before .before .before .pre .0) _ (c .before .before .before .mail .ensures), entry-next (c .before .before .before .before .before .before .before .before .pre .0) _ _ _ (c .before .before .before .mail .ensures) (c .before .loop .inv .1)))
+
+add-entries-requires : tie.Need-add-entries-requires Inv-loop μ-loop
+add-entries-requires c κs = (c .before .before .before .before .before .before .before .before .before .before .pre .0, (c .before .before .before .before .before .before .before .before .before .before .pre .1 .0, (class-entries (c .before .before .before .before .before .before .before .before .before .before .pre .0) _ _ _ (c .before .before .before .loop .inv .1) (end-told (c .before .before .before .before .before .before .before .before .before .before .pre .0) _ _ _ (c .before .before .before .before .before .mail .ensures) (c .before .start-from .ensures)), filled-room (c .before .before .before .loop .inv .0) (c .before .before .before .before .before .before .before .before .before .before .pre .1 .1 .0 .0) (omega (arith, c .before .before .before .loop .inv .4, c .before .before .before .before .before .before .before .before .before .before .pre .1 .1 .0 .1)))))
+
+add-c : tie.Need-add-c Inv-loop μ-loop
+add-c c = search needs
+
+loop-less : tie.Need-loop-less Inv-loop μ-loop
+loop-less c = search needs
+
+loop-again : tie.Need-loop-again Inv-loop μ-loop
+loop-again c = (filled-next (c .before .before .before .before .before .before .before .before .before .before .before .before .before .pre .0) _ (c .before .before .before .before .before .before .loop .inv .1) (end-told (c .before .before .before .before .before .before .before .before .before .before .before .before .before .pre .0) _ _ _ (c .before .before .before .before .before .before .before .before .mail .ensures) (c .before .before .before .before .start-from .ensures)) (c .before .before .add-entries .ensures) (c .before .before .before .before .before .before .loop .inv .0) (omega (arith, c .before .before .before .before .before .before .loop .inv .3, c .before .before .before .before .before .before .before .before .before .before .before .before .before .pre .1 .1 .1)), (end-told (c .before .before .before .before .before .before .before .before .before .before .before .before .before .pre .0) _ _ _ (c .before .before .before .before .before .before .before .before .mail .ensures) (c .before .before .before .before .start-from .ensures)), omega arith, length-set (c .before .before .before .before .before .before .loop .letter-at) _ _ ∙ c .before .before .before .before .before .before .loop .inv .3, c .before .before .add-entries .ensures .long ∙ c .before .before .before .before .before .before .loop .inv .4)
+
+cast-letter-at-2 : tie.Need-cast-letter-at-2 Inv-loop μ-loop
+cast-letter-at-2 c = omega (arith, c .before .loop .inv .0 .upto, c .before .before .before .before .before .before .before .before .pre .1 .1 .0 .0)
+
+add-letter-at : tie.Need-add-letter-at Inv-loop μ-loop
+add-letter-at c = search needs
+
+mul-letter-at-2 : tie.Need-mul-letter-at-2 Inv-loop μ-loop
+mul-letter-at-2 c = search needs
+
+slice-write-letter-at-2 : tie.Need-slice-write-letter-at-2 Inv-loop μ-loop
+slice-write-letter-at-2 c = omega (arith, c .before .before .loop .inv .3, c .before .before .before .before .before .before .before .before .before .pre .1 .1 .1)
+
+same-length : tie.Need-same-length Inv-loop μ-loop
+same-length c = search needs
+
+same-length-2 : tie.Need-same-length-2 Inv-loop μ-loop
+same-length-2 c = search needs
+
+returns : tie.Need-returns Inv-loop μ-loop
+returns c = (filled-count (c .before .before .before .before .before .before .before .before .before .pre .0) (c .before .before .loop .inv .0) (omega (arith, c .before .before .loop .inv .2, c .before .loop-test .left)), (filled-starts (c .before .before .before .before .before .before .before .before .before .pre .0) (c .before .before .loop .inv .0) (omega (arith, c .before .before .loop .inv .2, c .before .loop-test .left)) (omega (arith, c .before .before .loop .inv .3, c .before .before .before .before .before .before .before .before .before .pre .1 .1 .1)), filled-codes (c .before .before .before .before .before .before .before .before .before .pre .0) (c .before .before .loop .inv .0) (omega (arith, c .before .before .loop .inv .2, c .before .loop-test .left)) (omega (arith, c .before .before .loop .inv .4, c .before .before .before .before .before .before .before .before .before .pre .1 .1 .0 .1))))
+
+pub fill-codes-spec : {M : Type 1} → statement M
+fill-codes-spec =
+    tie.close
+    (tie.spec
+    Inv-loop
+    μ-loop
+    mail-requires
+    add-c-end
+    loop-holds
+    cast-letter-at
+    mul-letter-at
+    slice-write-letter-at
+    add-start-from
+    start-from-requires
+    add-entries-requires
+    add-c
+    loop-less
+    loop-again
+    cast-letter-at-2
+    add-letter-at
+    mul-letter-at-2
+    slice-write-letter-at-2
+    same-length
+    same-length-2
+    returns)

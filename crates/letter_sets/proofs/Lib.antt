@@ -1,0 +1,6 @@
+pub mod Putting
+pub mod Digits
+pub mod Allowed
+pub mod Told
+pub mod Filling
+pub mod Filled
