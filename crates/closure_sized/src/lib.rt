@@ -1,4 +1,5 @@
-// Refusal 8 over scratch by need: the sets of names, of mail and of patterns, what each head asks, and guesses of states.
+// Refusal 8 over scratch by need: the sets of names, of mail and of patterns, what each head asks, and guesses of
+// states.
 use closure::open_check;
 use model::Sizes;
 use model::Verdict;

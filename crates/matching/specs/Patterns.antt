@@ -98,8 +98,8 @@ pub record Fitting-before (p : Program) (t : Tables) (may fitting : List ℕ) (x
       member fitting (width (p .names)) q n ≡ some-of (t .flow) n (value-fits p may q)
   pub to-come : (q n : ℕ) → x ≤ q → n < 64 * width (p .names) → member fitting (width (p .names)) q n ≡ false
 
--- Set q has the names with a value that the constructor pattern at row q may match, where it has arguments; where a held
--- name stands there, those with a class that it may match.
+-- Set q has the names with a value that the constructor pattern at row q may match, where it has arguments; where a
+-- held name stands there, those with a class that it may match.
 pub record Fitting-sets (p : Program) (t : Tables) (fitting : List ℕ) : Type 0 where
   pub row : (q : ℕ) → q < size p → Row fitting (width (p .names)) q
   pub made : (d q n : ℕ) → q < size p → tag p q ≡ 31 → 0 < arity p (num p q) → Pattern p d q → n < p .names →

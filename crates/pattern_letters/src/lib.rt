@@ -243,7 +243,8 @@ fn leave_argument(
     }
 }
 
-// Takes the letters of the value v, with whose constructor the pattern at row q begins, from part that it does not leave.
+// Takes the letters of the value v, with whose constructor the pattern at row q begins, from part that it does not
+// leave.
 fn leave_letters(
     ws: &[u16],
     s: Sizes,

@@ -31,16 +31,16 @@ pub record Rule-room (ws : List ℕ) (s : Sizes) (tos others : List ℕ) : Type 
   pub counters : maxCounters ≤ length tos
   pub alike : length others ≡ length tos
 
--- Behind the sets of letters by digit and by mail entry there is one for each state, and behind all sets a word for each
--- state, which tells whose letters are kept there.
+-- Behind the sets of letters by digit and by mail entry there is one for each state, and behind all sets a word for
+-- each state, which tells whose letters are kept there.
 unfoldable pub read-set : Program → Tables → ℕ → ℕ
 read-set p t x = allowed-set p (t .mail .size) + x
 
 unfoldable pub owner-at : Program → Tables → ℕ → ℕ
 owner-at p t x = read-set p t (t .states .size) * letter-width p t + x
 
--- Where the word of state x is q + 1, its set has the letters of its class that the branch reads whose pattern stands at
--- row q. Nothing is said where the word is another: what is not kept is derived.
+-- Where the word of state x is q + 1, its set has the letters of its class that the branch reads whose pattern stands
+-- at row q. Nothing is said where the word is another: what is not kept is derived.
 pub record Reads (p : Program) (t : Tables) (letters : List ℕ) : Type 0 where
   pub room : owner-at p t (t .states .size) ≤ length letters
   pub has : (x q y : ℕ) → x < t .states .size → y < letter-count p t → getD letters (owner-at p t x) 0 ≡ q + 1 →
