@@ -21,6 +21,7 @@ use sets::clear;
 use sets::copy_into;
 use sets::holds;
 use sets::join_into;
+use sets::meets;
 use sets::take_from;
 use system_letters::letter_width;
 use system_letters::row_head;
@@ -283,7 +284,8 @@ fn leave_letters(
 }
 
 // The letters of class c that the branch whose pattern stands at row q reads: of each value of the class's mail that it
-// may match those that it leaves, so that arguments of different values are never mixed.
+// may match those that it leaves, so that arguments of different values are never mixed. A value without letters is
+// passed over before its arguments are looked at.
 pub fn read_letters(
     ws: &[u16],
     s: Sizes,
@@ -321,6 +323,9 @@ pub fn read_letters(
             continue;
         }
         let allowed = entry_set(s, j);
+        if !meets(letters, letters, words, allowed, allowed) {
+            continue;
+        }
         copy_into(part, letters, words, 0, allowed);
         leave_letters(ws, s, afters, w, fitting, names, letters, words, q, v, part);
         join_into(found, part, words, 0, 0);
