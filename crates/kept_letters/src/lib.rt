@@ -6,9 +6,9 @@ use lists::state_index;
 use lists::state_location;
 use lists::state_return;
 use lists::word;
-use model::MAX_COUNTERS;
 use model::Sizes;
 use model::TAG_RECEIVE;
+use pattern_letters::LETTER_WORDS;
 use pattern_letters::branch_letters;
 use pattern_letters::forget_letters;
 use pattern_letters::keep_letters;
@@ -26,9 +26,6 @@ ghost use Rattle.matching.specs.Patterns.{Pattern};
 ghost use Rattle.system_letters.specs.Letters.{Class-letters, Letter-sets};
 ghost use Rattle.rules.specs.Derived.{Reads};
 ghost use Rattle.pattern_letters.specs.Picked.{Match-tables, Owners-room};
-
-// A set of letters has at most so many words: a bit for each letter, one word more where they fill all.
-const LETTER_WORDS: usize = MAX_COUNTERS / 64 + 1;
 
 // The state before x, 0 where there is none.
 fn before(x: usize) -> usize

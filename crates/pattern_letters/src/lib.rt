@@ -9,6 +9,7 @@ use lists::place;
 use lists::state_class;
 use lists::word;
 use model::MAX_ARITY;
+use model::MAX_COUNTERS;
 use model::OTHER_HEADS;
 use model::Sizes;
 use model::TAG_BUILD;
@@ -48,6 +49,9 @@ ghost use Rattle.system_letters.specs.Letters.{Name-heads, Class-letters, lette
 ghost use Rattle.pattern_letters.specs.Picked.{begins, head-fits, has-head, leaves-argument, leaves, Left};
 ghost use Rattle.pattern_letters.specs.Picked.{Match-tables, Owners-room, Kept-for};
 ghost use Rattle.rules.specs.Derived.{owner-at, Reads};
+
+// A set of letters has at most so many words: a bit for each letter, one word more where they fill all.
+pub const LETTER_WORDS: usize = MAX_COUNTERS / 64 + 1;
 
 // The set of the letters whose argument i has the head h: digit 0 of a letter is its number.
 fn argument_set(s: Sizes, i: usize, h: usize) -> usize

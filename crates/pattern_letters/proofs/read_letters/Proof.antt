@@ -58,7 +58,7 @@ entry-set-requires c κs = (c .before .before .before .before .before .before .b
 
 meets-requires : tie.Need-meets-requires Inv-loop μ-loop
 unfolding tables entries columns
-meets-requires c κs = (entry-room _ _ _ _ (c .before .before .before .before .before .before .before .before .before .before .before .before .before .before .before .before .before .before .before .before .before .pre .1 .1 .1 .0) _ _ _ _ (c .before .before .before .before .before .before .before .before .before .before .before .before .letter-width .ensures) (entry-number _ _ _ _ (c .entry-set .ensures)) (omega (arith, (mail-order (c .before .before .before .before .before .before .before .before .before .before .before .before .before .before .before .before .before .before .before .before .before .pre .0 .ready) _ _ _ (c .before .before .before .before .before .before .before .mail-from .ensures) (c .before .before .before .before .before .before .mail-to .ensures)) .1)) (mail-class (c .before .before .before .before .before .before .before .before .before .before .before .before .before .before .before .before .before .before .before .before .before .pre .0 .ready) _ _ _ (c .before .before .before .before .before .before .before .mail-from .ensures) (c .before .before .before .before .before .before .mail-to .ensures) _ (c .before .before .before .before .before .loop .inv .0) (search needs)) refl, entry-room _ _ _ _ (c .before .before .before .before .before .before .before .before .before .before .before .before .before .before .before .before .before .before .before .before .before .pre .1 .1 .1 .0) _ _ _ _ (c .before .before .before .before .before .before .before .before .before .before .before .before .letter-width .ensures) (entry-number _ _ _ _ (c .entry-set .ensures)) (omega (arith, (mail-order (c .before .before .before .before .before .before .before .before .before .before .before .before .before .before .before .before .before .before .before .before .before .pre .0 .ready) _ _ _ (c .before .before .before .before .before .before .before .mail-from .ensures) (c .before .before .before .before .before .before .mail-to .ensures)) .1)) (mail-class (c .before .before .before .before .before .before .before .before .before .before .before .before .before .before .before .before .before .before .before .before .before .pre .0 .ready) _ _ _ (c .before .before .before .before .before .before .before .mail-from .ensures) (c .before .before .before .before .before .before .mail-to .ensures) _ (c .before .before .before .before .before .loop .inv .0) (search needs)) refl)
+meets-requires c κs = (entry-room _ _ _ _ (c .before .before .before .before .before .before .before .before .before .before .before .before .before .before .before .before .before .before .before .before .before .pre .1 .1 .1 .0) _ _ _ _ (c .before .before .before .before .before .before .before .before .before .before .before .before .letter-width .ensures) (entry-number _ _ _ _ (c .entry-set .ensures)) (omega (arith, (mail-order (c .before .before .before .before .before .before .before .before .before .before .before .before .before .before .before .before .before .before .before .before .before .pre .0 .ready) _ _ _ (c .before .before .before .before .before .before .before .mail-from .ensures) (c .before .before .before .before .before .before .mail-to .ensures)) .1)) (mail-class (c .before .before .before .before .before .before .before .before .before .before .before .before .before .before .before .before .before .before .before .before .before .pre .0 .ready) _ _ _ (c .before .before .before .before .before .before .before .mail-from .ensures) (c .before .before .before .before .before .before .mail-to .ensures) _ (omega (arith, c .before .before .before .before .before .loop .inv .0)) (omega (arith, c .before .before .before .before .before .loop .inv .0, c .before .before .before .before .loop-test .taken))) refl, entry-room _ _ _ _ (c .before .before .before .before .before .before .before .before .before .before .before .before .before .before .before .before .before .before .before .before .before .pre .1 .1 .1 .0) _ _ _ _ (c .before .before .before .before .before .before .before .before .before .before .before .before .letter-width .ensures) (entry-number _ _ _ _ (c .entry-set .ensures)) (omega (arith, (mail-order (c .before .before .before .before .before .before .before .before .before .before .before .before .before .before .before .before .before .before .before .before .before .pre .0 .ready) _ _ _ (c .before .before .before .before .before .before .before .mail-from .ensures) (c .before .before .before .before .before .before .mail-to .ensures)) .1)) (mail-class (c .before .before .before .before .before .before .before .before .before .before .before .before .before .before .before .before .before .before .before .before .before .pre .0 .ready) _ _ _ (c .before .before .before .before .before .before .before .mail-from .ensures) (c .before .before .before .before .before .before .mail-to .ensures) _ (omega (arith, c .before .before .before .before .before .loop .inv .0)) (omega (arith, c .before .before .before .before .before .loop .inv .0, c .before .before .before .before .loop-test .taken))) refl)
 
 add-j-2 : tie.Need-add-j-2 Inv-loop μ-loop
 add-j-2 c = omega (arith, (mail-order (c .before .before .before .before .before .before .before .before .before .before .before .before .before .before .before .before .before .before .before .before .before .before .before .pre .0 .ready) _ _ _ (c .before .before .before .before .before .before .before .before .before .mail-from .ensures) (c .before .before .before .before .before .before .before .before .mail-to .ensures)) .1, c .before .before .before .before .before .before .before .before .before .before .before .before .before .before .before .before .before .before .before .before .before .before .before .pre .0 .ready .limits .mails)
@@ -72,7 +72,7 @@ loop-again-2 c = (search needs, search needs, c .before .before .before .before 
 
 copy-into-requires : tie.Need-copy-into-requires Inv-loop μ-loop
 unfolding tables entries columns
-copy-into-requires c κs = (wide-row _ _ _ (c .before .before .before .before .before .before .before .before .before .before .before .before .before .before .before .letter-width .ensures) (row-kept _ _ _ _ (c .before .before .before .before .before .before .before .before .before .before .before .before .before .before .before .before .before .before .before .before .before .before .before .before .pre .1 .1 .1 .1 .1 .1 .0) (c .before .before .before .before .before .before .before .before .loop .inv .3)), entry-room _ _ _ _ (c .before .before .before .before .before .before .before .before .before .before .before .before .before .before .before .before .before .before .before .before .before .before .before .before .pre .1 .1 .1 .0) _ _ _ _ (c .before .before .before .before .before .before .before .before .before .before .before .before .before .before .before .letter-width .ensures) (entry-number _ _ _ _ (c .before .before .before .entry-set .ensures)) (omega (arith, (mail-order (c .before .before .before .before .before .before .before .before .before .before .before .before .before .before .before .before .before .before .before .before .before .before .before .before .pre .0 .ready) _ _ _ (c .before .before .before .before .before .before .before .before .before .before .mail-from .ensures) (c .before .before .before .before .before .before .before .before .before .mail-to .ensures)) .1)) (mail-class (c .before .before .before .before .before .before .before .before .before .before .before .before .before .before .before .before .before .before .before .before .before .before .before .before .pre .0 .ready) _ _ _ (c .before .before .before .before .before .before .before .before .before .before .mail-from .ensures) (c .before .before .before .before .before .before .before .before .before .mail-to .ensures) _ (c .before .before .before .before .before .before .before .before .loop .inv .0) (search needs)) refl)
+copy-into-requires c κs = (wide-row _ _ _ (c .before .before .before .before .before .before .before .before .before .before .before .before .before .before .before .letter-width .ensures) (row-kept _ _ _ _ (c .before .before .before .before .before .before .before .before .before .before .before .before .before .before .before .before .before .before .before .before .before .before .before .before .pre .1 .1 .1 .1 .1 .1 .0) (c .before .before .before .before .before .before .before .before .loop .inv .3)), entry-room _ _ _ _ (c .before .before .before .before .before .before .before .before .before .before .before .before .before .before .before .before .before .before .before .before .before .before .before .before .pre .1 .1 .1 .0) _ _ _ _ (c .before .before .before .before .before .before .before .before .before .before .before .before .before .before .before .letter-width .ensures) (entry-number _ _ _ _ (c .before .before .before .entry-set .ensures)) (omega (arith, (mail-order (c .before .before .before .before .before .before .before .before .before .before .before .before .before .before .before .before .before .before .before .before .before .before .before .before .pre .0 .ready) _ _ _ (c .before .before .before .before .before .before .before .before .before .before .mail-from .ensures) (c .before .before .before .before .before .before .before .before .before .mail-to .ensures)) .1)) (mail-class (c .before .before .before .before .before .before .before .before .before .before .before .before .before .before .before .before .before .before .before .before .before .before .before .before .pre .0 .ready) _ _ _ (c .before .before .before .before .before .before .before .before .before .before .mail-from .ensures) (c .before .before .before .before .before .before .before .before .before .mail-to .ensures) _ (omega (arith, c .before .before .before .before .before .before .before .before .loop .inv .0)) (omega (arith, c .before .before .before .before .before .before .before .before .loop .inv .0, c .before .before .before .before .before .before .before .loop-test .taken))) refl)
 
 leave-letters-requires : tie.Need-leave-letters-requires Inv-loop μ-loop
 leave-letters-requires c κs = (c .before .before .before .before .before .before .before .before .before .before .before .before .before .before .before .before .before .before .before .before .before .before .before .before .before .before .before .before .pre .0, (c .before .before .before .before .before .before .before .before .before .before .before .before .before .before .before .before .before .before .before .before .before .before .before .before .before .before .before .before .pre .1 .0, ((c .before .before .before .before .before .before .before .before .before .before .before .before .before .before .before .before .before .before .before .before .before .before .before .before .before .before .before .before .pre .1 .1 .1 .0), ((c .before .before .before .before .before .before .before .before .before .before .before .before .before .before .before .before .before .before .before .letter-width .ensures), (c .before .before .before .before .before .before .before .before .before .before .before .before .before .before .before .before .before .before .before .before .before .before .before .before .before .before .before .before .pre .1 .1 .1 .1 .1 .0, (sym (c .before .before .before .before .before .before .before .before .before .begins .ensures) ∙ not-false _ (c .before .before .before .before .before .before .before .before .if1 .left), wide-row _ _ _ (c .before .before .before .before .before .before .before .before .before .before .before .before .before .before .before .before .before .before .before .letter-width .ensures) (row-kept _ _ _ _ (c .before .before .before .before .before .before .before .before .before .before .before .before .before .before .before .before .before .before .before .before .before .before .before .before .before .before .before .before .pre .1 .1 .1 .1 .1 .1 .0) (c .before .before .before .copy-into .ensures .long ∙ c .before .before .before .before .before .before .before .before .before .before .before .before .loop .inv .3))))))))
