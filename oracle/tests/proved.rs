@@ -36,6 +36,23 @@ fn each_stored_message_gets_the_same() {
     });
 }
 
+/// What the proved code keeps while it checks, no contract promises: kept too little, some of these take many seconds.
+#[test]
+fn no_stored_message_takes_a_second() {
+    on_stack(|| {
+        for file in [files("examples", "msg"), files("examples/hostile", "msg")].concat() {
+            let message = std::fs::read(&file).unwrap();
+            let time = |_| {
+                let began = std::time::Instant::now();
+                proved::verify(&message, &mut vec![0; LENT[1]]);
+                began.elapsed()
+            };
+            let least = (0..3).map(time).min().unwrap();
+            assert!(least.as_secs() < 1, "{}: {least:?}", file.display());
+        }
+    });
+}
+
 #[test]
 fn bench_overwrites_no_page_that_it_did_not_make() {
     let page = common::path("docs/PERFORMANCE.md");

@@ -3,26 +3,26 @@ use Prim.Native.Nat.{ℕ, _+_, _*_, _≤_, _<_}
 use native.Mathlib.Decide.{ℕ-discrete}
 use native.Mathlib.Omega.{arith}
 use mathlib.Core.Path.{_≡_, refl, sym, _∙_, ap, subst}
+use mathlib.Core.Logic.{⊎-elim}
 use mathlib.Core.Bool.{Bool, true, false, not, _&&_, _||_}
 use mathlib.Core.List.{List, [], _∷_, List·Memᴰ, List·Memᴰ·eq-of-singleton}
 use lib.ListN.{length, getD}
-use lib.Dec.{eqb, leb}
-use borrow.Author.Tests.{eq-eqb, ne-eqb, lt-leb}
+use borrow.Author.Tests.{eq-eqb, ne-eqb}
 use Rattle.model.specs.Limits.{omega-limit}
 use Rattle.model.specs.declared.Sizes.{Sizes}
 use Rattle.model.specs.declared.Verdict.the-variants.{Safe, Leak}
 use Rattle.model.specs.Index.{any, first}
-use Rattle.model.specs.Words.{Columns, left, right, columns}
+use Rattle.model.specs.Words.{left, right, columns}
 use Rattle.model.specs.Message.{ceilings-at}
 use Rattle.model.specs.Rows.{Program, program, tag, Kind, kind}
 use Rattle.model.specs.Tables.{Tables, tables, entries, state-at}
 use Rattle.model.specs.Counters.{counter-count}
 use Rattle.model.specs.Rules.{Rule, state-rules, rules}
-use Rattle.model.specs.Markings.{Marking, usable, fire}
+use Rattle.model.specs.Markings.{Marking, usable}
 use Rattle.model.specs.Verdict.{unless}
-use Rattle.model.specs.Ceilings.{Ceilings, ceilings-of, ceiling-entries, ceiling-entry, highest, under, under-some, leads-out, leak-check}
+use Rattle.model.specs.Ceilings.{Ceilings, ceilings-of, ceiling-entries, highest, under-some, leads-out, leak-check}
 use Rattle.model.specs.Verify.{answer}
-use Rattle.model.proofs.Logic.{test, true-false, and-left, and-right, and-intro}
+use Rattle.model.proofs.Logic.{test, and-left, and-right, and-intro}
 use Rattle.model.proofs.Index.{any-end, any-hit, any-miss, any-elim, any-intro, none-any, first-is, first-hit, first-miss, first-end, first-unique, gather-intro, gather-elim}
 use Rattle.model.proofs.Bounded.Fire.{Shaped, Apart}
 use Rattle.model.proofs.Bounded.Shaped.{rules-shaped}
@@ -33,8 +33,7 @@ use Rattle.masks.specs.Masks.{has}
 use Rattle.steps.specs.declared.Step.{Step}
 use Rattle.steps.specs.Steps.{effect-of, rule-of-step, effect-kind}
 use Rattle.rules.specs.Listed.{State-rules, listed-rule, listed-rules}
-use Rattle.rules.specs.Derived.{Rule-room}
-use Rattle.kept_rules.specs.Kept.{Rules-at}
+use Rattle.kept_rules.specs.Kept.{Rules-asked}
 use Rattle.ceilings_form.specs.Parts.{Whole}
 use Rattle.ceilings_form.specs.Limits.{Starts-table}
 use Rattle.ceilings_form.proofs.Limited.{highest-limit}
@@ -46,7 +45,8 @@ use Rattle.ceilings_covers.specs.Covers.{Beside, covers, passes, named, Candida
 use Rattle.ceilings_covers.proofs.Covering.{covers-pass, pass-covers}
 use Rattle.ceilings_groups.specs.Groups.{table-ceilings, escapes, Open-step, Open-to, Groups-upto, Group-put, step}
 use Rattle.ceilings_groups.proofs.Settling.{step-open}
-use Rattle.bits.specs.Bits.{member, Set-is}
+use Rattle.bits.specs.Bits.{member}
+use Rattle.ceilings_leaks.proofs.Holding.{is-held, leads-held, held-member}
 use Rattle.ceilings_groups.proofs.Leading.{any-skip, leads-none, leads-states, leads-listed, leads-same, listed-step, listed-member}
 
 and-none : (b : Bool) → (b && false) ≡ false
@@ -169,13 +169,13 @@ module _ (ws : List ℕ) (s : Sizes) (n : ℕ) (limits : List ℕ) where
         walk-settled z = walk-next (walk-here ∙ any-miss i (s .states) (by-state k) h z)
 
         -- its rules, one by one
-        module _ (a m kd : ℕ) (tos others : List ℕ) (r : Rules-at p t i tos others a m) (is-kind : kd ≡ effect-kind (tag p (right (t .states) i))) where
+        module _ (a m kd : ℕ) (tos others : List ℕ) (r : Rules-asked p t (is-held limits (s .ceilings) k) i tos others a m) (is-kind : kd ≡ effect-kind (tag p (right (t .states) i))) where
           abbrev out : ℕ → Bool
           out j = by-step k (step-at i kd tos others j)
 
           by-rules : by-state k i ≡ any a m out
           unfolding by-state by-step
-          by-rules = ap (λ ρs. leads-out tb ρs (counts k)) (sym (r .rules)) ∙ (leads-listed tb (counts k) (tag p (right (t .states) i)) i tos others a m ∙ rw is-kind)
+          by-rules = ⊎-elim (λ e. ap (λ ρs. leads-out tb ρs (counts k)) (sym e)) (λ e. sym (leads-held limits (s .ceilings) k tb _) ∙ ap (λ ρs. leads-out tb ρs (counts k)) (sym e)) (r .rules) ∙ (leads-listed tb (counts k) (tag p (right (t .states) i)) i tos others a m ∙ rw is-kind)
 
           pub rules-start : leaks k ≡ (any a m out || any (i + 1) (s .states) (by-state k))
           rules-start = walk-here ∙ test (by-state k i)
@@ -282,11 +282,12 @@ module _ (ws : List ℕ) (s : Sizes) (n : ℕ) (limits : List ℕ) where
         })
 
     -- the rules of a state are of the message's, so what their steps take from are counters, and not one twice
-    pub step-shape : (i a m kd : ℕ) (tos others : List ℕ) (j : ℕ) → i < s .states → Rules-at p t i tos others a m → kd ≡ effect-kind (tag p (right (t .states) i)) → kd ≤ 3 → a ≤ j → j < m → Step-apart n (step-at i kd tos others j)
+    pub step-shape : (k i a m kd : ℕ) (tos others : List ℕ) (j : ℕ) → i < s .states → Rules-asked p t (is-held limits (s .ceilings) k) i tos others a m → kd ≡ effect-kind (tag p (right (t .states) i)) → kd ≤ 3 → a ≤ j → j < m → Step-apart n (step-at i kd tos others j)
     unfolding rules tables entries columns
-    step-shape i a m kd tos others j h r is small low below =
+    step-shape k i a m kd tos others j h r is small low below =
         let tg : ℕ = tag p (right (t .states) i) in
-        let there : List·Memᴰ (listed-rule (kind tg) i tos others j) (state-rules p t i (state-at t i)) = subst (λ ρs. List·Memᴰ (listed-rule (kind tg) i tos others j) ρs) (r .rules) (listed-member (kind tg) i tos others a m j low below) in
+        let here = listed-member (kind tg) i tos others a m j low below in
+        let there : List·Memᴰ (listed-rule (kind tg) i tos others j) (state-rules p t i (state-at t i)) = ⊎-elim (λ e. subst (λ ρs. List·Memᴰ (listed-rule (kind tg) i tos others j) ρs) e here) (λ e. held-member limits (s .ceilings) k _ _ (subst (λ ρs. List·Memᴰ (listed-rule (kind tg) i tos others j) ρs) e here)) (r .rules) in
         let shape : Shaped n (listed-rule (kind tg) i tos others j) = rw counted (shaped-all _ (gather-intro 0 (t .states .size) i (λ x. state-rules p t x (state-at t x)) _ (omega arith) h there)) in
         let same : listed-rule (kind tg) i tos others j ≡ rule-of-step (step-at i kd tos others j) = rw is (listed-step tg i tos others j) in
         shaped-step n (step-at i kd tos others j) small (subst (λ ρ. Shaped n ρ) same shape)

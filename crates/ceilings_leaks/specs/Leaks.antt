@@ -1,8 +1,10 @@
 -- What the leak test is handed.
-use Prim.Native.Nat.{ℕ, _*_, _≤_}
+use Prim.Native.Nat.{ℕ, _+_, _*_, _≤_, _<_}
 use mathlib.Core.Path.{_≡_}
 use mathlib.Core.List.{List}
 use lib.ListN.{length}
+use Rattle.bits.specs.Bits.{Row}
+use Rattle.model.specs.Limits.{maxCounters}
 use Rattle.model.specs.declared.Sizes.{Sizes}
 use Rattle.model.specs.Rows.{program}
 use Rattle.model.specs.Tables.{tables}
@@ -26,3 +28,11 @@ pub record Rooms (ws : List ℕ) (s : Sizes) (n : ℕ) (tos others short more : 
   pub rules : Rule-room ws s tos others
   pub short-room : n * 4 ≤ length short
   pub more-room : n * 4 ≤ length more
+
+-- what the letters of ceiling k are looked up in, and the set for them: a bit for each counter behind the states
+pub record Letters-room (s : Sizes) (n k words : ℕ) (limits within : List ℕ) : Type 0 where
+  pub ceiling : k < s .ceilings
+  pub table : n * s .ceilings ≤ length limits
+  pub few : n ≤ maxCounters
+  pub bits : n ≤ s .states + 64 * words
+  pub row : Row within words 0

@@ -1,4 +1,5 @@
 // Refusal 13: from counts under a ceiling, a rule leads out of all ceilings.
+use ceilings::limit;
 use ceilings_covers::NAMED;
 use ceilings_covers::candidates;
 use ceilings_covers::is_usable;
@@ -23,16 +24,22 @@ use masks::next_in;
 use model::Sizes;
 use model::Verdict;
 use onward::guess_class;
+use pattern_letters::LETTER_WORDS;
 use program::rows::tag;
+use sets::clear;
+use sets::put;
 use steps::Step;
 use steps::effect_kind;
+use system_letters::letter_width;
 use system_totals::Totals;
 use system_totals::row_total;
 use system_totals::state_head;
 ghost use mathlib.Core.Path.{_≡_};
-ghost use Prim.Native.Nat.{_*_, _≤_, _<_};
+ghost use mathlib.Core.Bool.{true, not};
+ghost use Prim.Native.Nat.{ℕ, _+_, _*_, _≤_, _<_};
 ghost use lib.ListN.{length};
-ghost use Rattle.model.specs.Limits.{maxCounters};
+ghost use lib.Dec.{eqb};
+ghost use Rattle.bits.specs.Bits.{member};
 ghost use Rattle.model.specs.Words.{right};
 ghost use Rattle.model.specs.Rows.{program, tag};
 ghost use Rattle.model.specs.Tables.{tables};
@@ -43,9 +50,10 @@ ghost use Rattle.lists.specs.Ready.{Ready};
 ghost use Rattle.rules.specs.Derived.{Rule-tables};
 ghost use Rattle.kept_rules.specs.Kept.{Room-from, Kept-rules};
 ghost use Rattle.steps.specs.Steps.{effect-kind};
+ghost use Rattle.ceilings.specs.Table.{held};
 ghost use Rattle.system_totals.specs.Lines.{Totalled};
 ghost use Rattle.ceilings_groups.specs.Groups.{Groups-upto};
-ghost use Rattle.ceilings_leaks.specs.Leaks.{Ceilings-ready, Rooms};
+ghost use Rattle.ceilings_leaks.specs.Leaks.{Ceilings-ready, Rooms, Letters-room};
 
 // The kind of the rules of state i.
 fn kind_at(ws: &[u16], s: Sizes, i: usize) -> usize
@@ -148,9 +156,37 @@ pub fn fill_groups(
     Gathered { totals, kept }
 }
 
+// The letters that ceiling k holds, as a set, where they are asked for.
+fn held_letters(
+    asked: bool,
+    s: Sizes,
+    n: usize,
+    limits: &[u16],
+    k: usize,
+    words: usize,
+    within: &mut [u64],
+)
+    requires { ⌜ Letters-room s n k words (now limits) (now within) ⌝ }
+    ensures { λ _. ⌜ (asked ≡ true → (y : ℕ) → s .states + y < n →
+        member (now (within .exit)) words 0 y ≡
+        not (eqb (held (now (limits .entry)) (s .ceilings) k (s .states + y)) 0)) ⌝ }
+{
+    if !asked {
+        return;
+    }
+    clear(within, words, 0);
+    for x in s.states..n {
+        if limit(limits, s.ceilings, k, x) == 0 {
+            continue;
+        }
+        put(within, words, 0, x - s.states);
+    }
+}
+
 // Refusal 13: the first ceiling that leaks, at its first entry. Loops over the ceilings, over each one's states, over
 // the rules of a state, and over the ceilings that may cover the counts after a rule; left from inside at the first
-// limit exceeded, the first ceiling that covers, the first that leaks.
+// limit exceeded, the first ceiling that covers, the first that leaks. A rule of a receive that reads a letter that the
+// ceiling does not hold can't be used under it, so where rules are derived again these are left out.
 pub fn leak_check(
     ws: &[u16],
     s: Sizes,
@@ -189,9 +225,12 @@ pub fn leak_check(
         answer (leak-check (now (ws .entry)) s (ceilings-of (now (ws .entry)) s n)
         (rules (program (now (ws .entry)) s) (tables (now (ws .entry)) s))) ⌝ }
 {
+    let words = letter_width(ws, s, letter_at);
+    let mut within = [0u64; LETTER_WORDS];
     'ceilings: for k in 0..s.ceilings {
         let first = starts[k] as usize;
         let over = compare(ws, s, n, limits, holders, unbounded, k, first, short, more);
+        held_letters(!kept.all, s, n, limits, k, words, &mut within);
         let mut e = first;
         'states: loop {
             let i = counter_at(ws, s, e);
@@ -229,6 +268,7 @@ pub fn leak_check(
                 first_at,
                 at,
                 i,
+                &within,
                 tos,
                 others,
             );

@@ -6,17 +6,17 @@ use lists::state_index;
 use lists::state_location;
 use lists::state_return;
 use lists::word;
-use model::MAX_COUNTERS;
 use model::Sizes;
 use model::TAG_RECEIVE;
+use pattern_letters::LETTER_WORDS;
+use pattern_letters::branch_letters;
 use pattern_letters::forget_letters;
 use pattern_letters::keep_letters;
-use pattern_letters::read_letters;
 use positions::branch_body;
 use program::rows::num;
 use program::rows::tag;
 ghost use mathlib.Core.Path.{_≡_};
-ghost use Prim.Native.Nat.{_+_, _≤_, _<_};
+ghost use Prim.Native.Nat.{_+_, _-_, _≤_, _<_};
 ghost use Rattle.model.specs.Limits.{maxCounters, maxDepth};
 ghost use Rattle.model.specs.Rows.{program, tag};
 ghost use Rattle.model.specs.Tables.{tables};
@@ -27,8 +27,12 @@ ghost use Rattle.system_letters.specs.Letters.{Class-letters, Letter-sets};
 ghost use Rattle.rules.specs.Derived.{Reads};
 ghost use Rattle.pattern_letters.specs.Picked.{Match-tables, Owners-room};
 
-// A set of letters has at most so many words: a bit for each letter, one word more where they fill all.
-const LETTER_WORDS: usize = MAX_COUNTERS / 64 + 1;
+// The state before x, 0 where there is none.
+fn before(x: usize) -> usize
+    ensures { λ n. ⌜ n ≡ x - 1 ⌝ }
+{
+    if x == 0 { 0 } else { x - 1 }
+}
 
 // Keeps the letters of class c that the branch with its pattern at row q reads for state x, if that is of class c.
 fn keep_branch(
@@ -63,7 +67,9 @@ fn keep_branch(
     }
     let mut part = [0u64; LETTER_WORDS];
     let mut found = [0u64; LETTER_WORDS];
-    read_letters(
+    // The state before may be the same body with the return before, for which the same letters are kept.
+    let earlier = before(x);
+    branch_letters(
         ws,
         s,
         afters,
@@ -74,6 +80,7 @@ fn keep_branch(
         letters,
         c,
         q,
+        earlier,
         &mut part,
         &mut found,
     );

@@ -2,8 +2,9 @@
 use Prim.Native.Nat.{ℕ, zero, suc, _+_, _-_, _≤_, _<_}
 use native.Mathlib.Decide.{ℕ-discrete}
 use native.Mathlib.Omega.{arith}
-use mathlib.Core.Path.{_≡_, refl, sym, _∙_, ap, ap₂, subst}
-use mathlib.Core.Bool.{true}
+use mathlib.Core.Path.{_≡_, refl, sym, _∙_, ap, ap₂}
+use mathlib.Core.Bool.{Bool, true}
+use mathlib.Core.Logic.{inl, inr}
 use mathlib.Core.List.{List, [], _∷_, _++_, append-nil}
 use lib.ListN.{length, getD, take, drop, set, length-drop, length-set, drop-of-length-le}
 use lib.Seq.{getD-take, getD-drop, getD-set-same, getD-set-other, length-take-le, take-at, drop-at}
@@ -17,7 +18,8 @@ use Rattle.rules.specs.Listed.{State-rules, listed-rule, listed-rules}
 use Rattle.rules.specs.Derived.{Rule-room}
 use Rattle.rules.proofs.Gather.{gather-same}
 use Rattle.kept_rules.specs.declared.Kept.{Kept}
-use Rattle.kept_rules.specs.Kept.{Same-below, Room-from, Rules-from, Rules-at, Kept-upto, Kept-rules}
+use Rattle.state_rules.specs.Within.{Rules-within}
+use Rattle.kept_rules.specs.Kept.{Same-below, Room-from, Rules-from, Rules-at, Rules-asked, Kept-upto, Kept-rules}
 
 -- a list whose rest behind a was lent and came back as ys
 pub put-rest : (a : ℕ) (xs ys : List ℕ) → a ≤ length xs → drop a (take a xs ++ (ys ++ drop (length xs - a) (drop a xs))) ≡ ys
@@ -105,14 +107,18 @@ module _ (p : Program) (t : Tables) where
         rules = gather-moved a m (λ j. listed-rule (kind (tag p (right (t .states) i))) i tos others j ∷ []) (λ j. listed-rule (kind (tag p (right (t .states) i))) i (drop a tos) (drop a others) j ∷ []) (λ x y l u e. rw (e, getD-drop a tos y 0, getD-drop a others y 0)) ∙ r .rules .rules;
       }
 
-  pub rules-front : (i m : ℕ) (tos others : List ℕ) → Rules-from p t i 0 tos others m → Rules-at p t i tos others 0 m
+  pub rules-front : (f : ℕ → Bool) (i m : ℕ) (tos others : List ℕ) → Rules-within p t f i tos others m → Rules-asked p t f i tos others 0 m
   unfolding listed-rules
-  rules-front i m tos others r =
-      record { order = omega arith; tos-room = r .rules .tos-room; others-room = r .rules .others-room; rules = r .rules .rules }
+  rules-front f i m tos others r =
+      record { order = omega arith; tos-room = r .tos-room; others-room = r .others-room; rules = inr (r .rules) }
+
+  rules-all : (f : ℕ → Bool) (i first end : ℕ) (tos others : List ℕ) → Rules-at p t i tos others first end → Rules-asked p t f i tos others first end
+  rules-all f i first end tos others r =
+      record { order = r .order; tos-room = r .tos-room; others-room = r .others-room; rules = inl (r .rules) }
 
   -- those kept of state i, by the code's values
-  pub rules-found : (i e used first end : ℕ) (first-at tos others : List ℕ) → Kept-upto p t e used first-at tos others → i < e → first ≡ getD first-at i 0 → end ≡ getD first-at (i + 1) 0 → Rules-at p t i tos others first end
-  rules-found i e used first end first-at tos others k l f g = rw (f, g) (k .each i l .0)
+  pub rules-found : (f : ℕ → Bool) (i e used first end : ℕ) (first-at tos others : List ℕ) → Kept-upto p t e used first-at tos others → i < e → first ≡ getD first-at i 0 → end ≡ getD first-at (i + 1) 0 → Rules-asked p t f i tos others first end
+  rules-found f i e used first end first-at tos others k l u v = rw (u, v) (rules-all f i _ _ tos others (k .each i l .0))
 
   pub rules-stay : (i a e b : ℕ) (tos others tos′ others′ : List ℕ) → Rules-at p t i tos others a e → e ≤ b → Same-below b tos tos′ → Same-below b others others′ → length tos′ ≡ length tos → length others′ ≡ length others → Rules-at p t i tos′ others′ a e
   unfolding listed-rule

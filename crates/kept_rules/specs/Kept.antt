@@ -1,7 +1,8 @@
 -- Where the rules of a state stand in two lists that hold those of several.
 use Prim.Native.Nat.{ℕ, _+_, _≤_, _<_}
 use mathlib.Core.Path.{_≡_}
-use mathlib.Core.Bool.{true}
+use mathlib.Core.Bool.{Bool, true}
+use mathlib.Core.Logic.{_⊎_}
 use mathlib.Core.List.{List, [], _∷_}
 use lib.ListN.{length, getD, drop}
 use Rattle.model.specs.declared.Sizes.{Sizes}
@@ -12,6 +13,7 @@ use Rattle.model.specs.Tables.{Tables, state-at}
 use Rattle.model.specs.Rules.{state-rules}
 use Rattle.rules.specs.Listed.{State-rules, listed-rule}
 use Rattle.rules.specs.Derived.{Rule-room}
+use Rattle.state_rules.specs.Within.{only-reads}
 use Rattle.kept_rules.specs.declared.Kept.{Kept}
 
 -- the first n words are the same
@@ -34,6 +36,18 @@ pub record Rules-at (p : Program) (t : Tables) (i : ℕ) (tos others : List ℕ)
   pub rules :
       gather first end (λ j. listed-rule (kind (tag p (right (t .states) i))) i tos others j ∷ []) ≡
       state-rules p t i (state-at t i)
+
+-- the same of all rules of state i, or of those that read nothing or a counter that passes
+pub record Rules-asked (p : Program) (t : Tables) (f : ℕ → Bool) (i : ℕ) (tos others : List ℕ)
+    (first end : ℕ) : Type 0 where
+  pub order : first ≤ end
+  pub tos-room : end ≤ length tos
+  pub others-room : end ≤ length others
+  pub rules :
+      (gather first end (λ j. listed-rule (kind (tag p (right (t .states) i))) i tos others j ∷ []) ≡
+      state-rules p t i (state-at t i)) ⊎
+      (gather first end (λ j. listed-rule (kind (tag p (right (t .states) i))) i tos others j ∷ []) ≡
+      only-reads f (state-rules p t i (state-at t i)))
 
 -- the rules of the states below e are kept: those of state i from word i of `first-at` up to the next, and those of
 -- state e will begin at `used`

@@ -2,15 +2,19 @@
 // once. One state's stand behind another's, in the two lists that hold the rules of one state.
 use lists::word;
 use model::Sizes;
+use state_rules::rules_within;
 use state_rules::state_rules;
 ghost use mathlib.Core.Path.{_≡_};
-ghost use mathlib.Core.Bool.{true};
-ghost use Prim.Native.Nat.{_+_, _≤_, _<_};
+ghost use mathlib.Core.Bool.{Bool, true, false};
+ghost use Prim.Native.Nat.{ℕ, _+_, _≤_, _<_};
 ghost use lib.ListN.{length, getD, set};
 ghost use Rattle.model.specs.Rows.{program};
 ghost use Rattle.model.specs.Tables.{tables};
 ghost use Rattle.rules.specs.Derived.{Rule-tables, Rule-room};
-ghost use Rattle.kept_rules.specs.Kept.{Same-below, Room-from, Rules-from, Rules-at, Kept-rules};
+ghost use Rattle.bits.specs.Bits.{Row};
+ghost use Rattle.system_letters.specs.Letters.{letter-width};
+ghost use Rattle.state_rules.specs.Within.{Held-letters};
+ghost use Rattle.kept_rules.specs.Kept.{Same-below, Room-from, Rules-from, Rules-asked, Kept-rules};
 
 // Whether the rules of all states so far are kept, and up to where in the lists.
 pub struct Kept {
@@ -114,7 +118,9 @@ pub fn rules_from(
     )
 }
 
-// The rules of state i, where they are kept; else derived into the lists from the front on.
+// The rules of state i, where they are kept; else derived into the lists from the front on, but of those of a receive
+// only the ones that read a letter of the set `within`: they are asked for once for each ceiling that has not settled
+// the state, and a ceiling may hold few of a thousand letters.
 pub fn rules_again(
     ws: &[u16],
     s: Sizes,
@@ -130,6 +136,7 @@ pub fn rules_again(
     first_at: &[u16],
     at: &[u16],
     i: usize,
+    within: &[u64],
     tos: &mut [u16],
     others: &mut [u16],
 ) -> Found
@@ -138,9 +145,12 @@ pub fn rules_again(
     requires { ⌜ Kept-rules (program (now ws) s) (tables (now ws) s) (s .states) kept (now «first_at») (now tos)
         (now others) ⌝ }
     requires { ⌜ i < s .states ⌝ }
+    requires { ⌜ Row (now within) (letter-width (program (now ws) s) (tables (now ws) s)) 0 ⌝ }
     requires { ⌜ Rule-room (now ws) s (now tos) (now others) ⌝ }
-    ensures { λ f. ⌜ Rules-at (program (now (ws .entry)) s) (tables (now (ws .entry)) s) i (now (tos .exit))
-        (now (others .exit)) (f .first) (f .end) ⌝ }
+    ensures { λ r. ⌜ ((f : ℕ → Bool) → (kept .all ≡ false →
+        Held-letters (program (now (ws .entry)) s) (tables (now (ws .entry)) s) true (now (within .entry)) f) →
+        Rules-asked (program (now (ws .entry)) s) (tables (now (ws .entry)) s) f i (now (tos .exit))
+        (now (others .exit)) (r .first) (r .end)) ⌝ }
     ensures { λ _. ⌜ Kept-rules (program (now (ws .entry)) s) (tables (now (ws .entry)) s) (s .states) kept
         (now («first_at» .entry)) (now (tos .exit)) (now (others .exit)) ⌝ }
 {
@@ -151,7 +161,7 @@ pub fn rules_again(
             end: word(first_at, next),
         };
     }
-    let end = rules_from(
+    let end = rules_within(
         ws,
         s,
         afters,
@@ -164,7 +174,7 @@ pub fn rules_again(
         branches,
         at,
         i,
-        0,
+        within,
         tos,
         others,
     );

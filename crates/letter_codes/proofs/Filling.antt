@@ -9,6 +9,7 @@ use mathlib.Core.Logic.{_⊎_, ⊎-elim}
 use lib.ListN.{length, getD, set, length-set}
 use lib.Seq.{getD-set-same, getD-set-other}
 use Rattle.model.specs.declared.Sizes.{Sizes}
+use Rattle.model.specs.Limits.{maxMails}
 use Rattle.model.specs.Words.{left, right, columns}
 use Rattle.model.specs.Rows.{Program, program, size}
 use Rattle.model.specs.Tables.{Tables, tables, entries}
@@ -166,6 +167,11 @@ module _ {ws : List ℕ} {s : Sizes} (h : Ready ws s) where
   pub class-entries : (c e to : ℕ) → e ≡ range-from (t .mail) c → to ≡ range-from (t .mail) (c + 1) → (e ≤ to) × (to ≤ s .mails)
   unfolding range-from tables entries columns
   class-entries c e to a b = (omega (arith, start-next (t .mail) (mail-rises h) c e a), omega (arith, place-upto (t .mail) [] ((c + 1) ∷ 0 ∷ 0 ∷ [])))
+
+  -- an entry's number is a word
+  pub entries-few : (c : ℕ) → range-from (t .mail) c ≤ maxMails
+  unfolding range-from tables entries columns
+  entries-few c = omega (arith, place-upto (t .mail) [] (c ∷ 0 ∷ 0 ∷ []), h .limits .mails)
 
   pub first-entry : 0 ≡ range-from (t .mail) 0
   unfolding range-from key-at

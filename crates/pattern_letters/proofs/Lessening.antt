@@ -14,7 +14,7 @@ use Rattle.bits.specs.Bits.{member, Row, Set-is}
 use Rattle.bits.proofs.Loops.{both}
 use Rattle.model.specs.declared.Sizes.{Sizes}
 use Rattle.model.specs.Limits.{maxArity, maxDepth}
-use Rattle.model.specs.Index.{gather, all, implies}
+use Rattle.model.specs.Index.{gather, any, all, implies}
 use Rattle.model.specs.Words.{Columns, left, right}
 use Rattle.model.specs.Rows.{Program, program, tag, num, arity}
 use Rattle.model.specs.Letters.{Letter, head-count, row-head}
@@ -25,7 +25,7 @@ use Rattle.model.specs.Rules.{from-each, argument-fits, letters-read}
 use Rattle.model.specs.Wanted.{Member}
 use Rattle.model.specs.TwoDeep.{Letter-of, with-heads, alone}
 use Rattle.model.proofs.Logic.{test, true-false, and-left, and-right, and-intro, or-cases, or-left, or-right, implies-elim, implies-intro}
-use Rattle.model.proofs.Index.{all-intro, all-elim, all-end, gather-end}
+use Rattle.model.proofs.Index.{any-intro, all-intro, all-elim, all-end, gather-end}
 use Rattle.model.proofs.Exact.Members.{some-of-iff}
 use Rattle.model.proofs.Numbering.Choices.{where-allowed}
 use Rattle.model.proofs.TwoDeep.{letter-told, letter-listed}
@@ -90,6 +90,14 @@ below-lost f h d e = elim (decLt d h) [
 below-all : (f : ℕ → Bool) (h d : ℕ) → (h ≤ d → f d ≡ true) → implies (ltb d h) (f d) ≡ f d
 unfolding implies
 below-all f h d e = elim (decLt d h) [ yes a ↦ rw (lt-ltb d h a) | no a ↦ rw (le-ltb d h (omega arith)) (sym (e (omega arith))) ]
+
+-- what a branch reads of a value, the value allows
+pub read-allowed : (p : Program) (t : Tables) (q v : ℕ) (l : Letter) → List·Memᴰ l (letters-read p t q v) → List·Memᴰ l (letters-allowed p t v)
+unfolding letters-read
+read-allowed p t q v l m =
+    test (may-take p t q v)
+    (λ e. where-allowed p t (argument-fits p t q) v l (rw (e, letters-read) at m))
+    (λ e. absurd (List·Memᴰ·not-nil (rw (e, letters-read) at m)))
 
 module _ (p : Program) (t : Tables) where
   -- a letter has its bit
@@ -289,6 +297,20 @@ module _ (p : Program) (t : Tables) where
         rw (turned, none, append-nil (gather from j Turn)) f
 
     module _ (letters : List ℕ) (sets : Letter-sets p t letters) (w set : ℕ) (e : w ≡ letter-width p t) (at : set ≡ allowed-set p j) (there : j < t .mail .size) (class : left (t .mail) j ≡ c) where
+      -- the value has no letter
+      pub found-hollow : (b : Bool) (u : List ℕ) → b ≡ any 0 (64 * w) (λ y. member letters w set y && member letters w set y) → not b ≡ true → Found p t c (gather from j Turn) u → Found p t c (gather from (j + 1) Turn) u
+      found-hollow b u e′ n f = rw turned (record {
+        row = f .row;
+        has = λ y l. (
+          λ h. let (x, m) = f .has y l .0 h in (x, Memᴰ·append-left (letters-read p t q v) m),
+          λ h. ⊎-elim
+              (λ m. f .has y l .1 (h .0, m))
+              (λ m. let in-set = entry-has c letters sets w set j v e at there class (sym value) y l .1 (h .0, read-allowed p t q v (letter-at p t y) m) in
+              true-false (any-intro 0 (64 * w) y (λ k. member letters w set k && member letters w set k) (omega arith) (rw e (letter-inside y l)) (and-intro (member letters w set y) _ in-set in-set)) (sym e′ ∙ not-true b n))
+              (List·Memᴰ·append-cases (gather from j Turn) (h .1)),
+        );
+      })
+
       pub found-read : (b : Bool) (u u′ part part₁ part₂ : List ℕ) → b ≡ begins p t q v → not b ≡ false → Found p t c (gather from j Turn) u → Set-is w 0 (member letters w set) part part₁ → Left p t (leaves p t q v) part₁ part₂ → Set-is w 0 (λ y. member u w 0 y || member part₂ w 0 y) u u′ → Found p t c (gather from (j + 1) Turn) u′
       found-read b u u′ part part₁ part₂ e′ n f copied less is =
           let begun : begins p t q v ≡ true = sym e′ ∙ not-false b n in
@@ -412,11 +434,3 @@ head-below ws s h l = l
 pub heads-above : (ws : List ℕ) (s : Sizes) (h : ℕ) → s .constructors + 2 ≤ h → head-count (program ws s) ≤ h
 unfolding head-count program
 heads-above ws s h l = l
-
--- what a branch reads of a value, the value allows
-pub read-allowed : (p : Program) (t : Tables) (q v : ℕ) (l : Letter) → List·Memᴰ l (letters-read p t q v) → List·Memᴰ l (letters-allowed p t v)
-unfolding letters-read
-read-allowed p t q v l m =
-    test (may-take p t q v)
-    (λ e. where-allowed p t (argument-fits p t q) v l (rw (e, letters-read) at m))
-    (λ e. absurd (List·Memᴰ·not-nil (rw (e, letters-read) at m)))

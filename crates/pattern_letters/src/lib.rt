@@ -9,6 +9,7 @@ use lists::place;
 use lists::state_class;
 use lists::word;
 use model::MAX_ARITY;
+use model::MAX_COUNTERS;
 use model::OTHER_HEADS;
 use model::Sizes;
 use model::TAG_BUILD;
@@ -21,6 +22,7 @@ use sets::clear;
 use sets::copy_into;
 use sets::holds;
 use sets::join_into;
+use sets::meets;
 use sets::take_from;
 use system_letters::letter_width;
 use system_letters::row_head;
@@ -47,6 +49,9 @@ ghost use Rattle.system_letters.specs.Letters.{Name-heads, Class-letters, lette
 ghost use Rattle.pattern_letters.specs.Picked.{begins, head-fits, has-head, leaves-argument, leaves, Left};
 ghost use Rattle.pattern_letters.specs.Picked.{Match-tables, Owners-room, Kept-for};
 ghost use Rattle.rules.specs.Derived.{owner-at, Reads};
+
+// A set of letters has at most so many words: a bit for each letter, one word more where they fill all.
+pub const LETTER_WORDS: usize = MAX_COUNTERS / 64 + 1;
 
 // The set of the letters whose argument i has the head h: digit 0 of a letter is its number.
 fn argument_set(s: Sizes, i: usize, h: usize) -> usize
@@ -283,7 +288,8 @@ fn leave_letters(
 }
 
 // The letters of class c that the branch whose pattern stands at row q reads: of each value of the class's mail that it
-// may match those that it leaves, so that arguments of different values are never mixed.
+// may match those that it leaves, so that arguments of different values are never mixed. A value without letters is
+// passed over before its arguments are looked at.
 pub fn read_letters(
     ws: &[u16],
     s: Sizes,
@@ -321,6 +327,9 @@ pub fn read_letters(
             continue;
         }
         let allowed = entry_set(s, j);
+        if !meets(letters, letters, words, allowed, allowed) {
+            continue;
+        }
         copy_into(part, letters, words, 0, allowed);
         leave_letters(ws, s, afters, w, fitting, names, letters, words, q, v, part);
         join_into(found, part, words, 0, 0);

@@ -21,7 +21,8 @@ use Rattle.positions.specs.Positions.{Ends}
 use Rattle.positions.specs.Branches.{Branch-bits}
 use Rattle.values.specs.Values.{width}
 use Rattle.matching.specs.Patterns.{Fitting-sets}
-use Rattle.system_letters.specs.Letters.{Name-heads, Class-letters, Letter-sets, letter-width, allowed-set, class-at, letter-at}
+use Rattle.system_letters.specs.Letters.{Name-heads, Class-letters, Letter-sets, letter-width, allowed-set}
+use Rattle.system_letters.specs.Letters.{class-at, letter-at}
 
 -- No state has more rules: a give back has one for each state at most, a call or spawn one for each value of a name, a
 -- send one for each letter counter, a receive one for each branch and letter.

@@ -1,5 +1,6 @@
 pub mod Heads
 pub mod Letters
 pub mod Branches
+pub mod Within
 mod Sends
 mod Done

@@ -7,7 +7,6 @@ use lists::state_index;
 use lists::state_location;
 use lists::state_return;
 use lists::word;
-use model::MAX_COUNTERS;
 use model::Sizes;
 use model::TAG_CALL;
 use model::TAG_CASE;
@@ -17,6 +16,7 @@ use model::TAG_SEND;
 use model::TAG_SPAWN;
 use onward::called;
 use onward::onward;
+use pattern_letters::LETTER_WORDS;
 use pattern_letters::branch_letters;
 use pattern_letters::sent_letters;
 use positions::body;
@@ -26,14 +26,17 @@ use positions::rest;
 use positions::takes;
 use program::rows::num;
 use program::rows::tag;
+use sets::copy_into;
 use sets::holds;
+use sets::meets;
+use sets::take_from;
 use system_letters::letter_width;
 ghost use mathlib.Core.Path.{_≡_};
-ghost use mathlib.Core.Bool.{true};
+ghost use mathlib.Core.Bool.{Bool, true, not, _&&_, _||_};
 ghost use mathlib.Core.List.{[]};
-ghost use Prim.Native.Nat.{_+_, _≤_, _<_};
+ghost use Prim.Native.Nat.{ℕ, _+_, _*_, _≤_, _<_};
 ghost use lib.ListN.{length, getD};
-ghost use Rattle.bits.specs.Bits.{bit};
+ghost use Rattle.bits.specs.Bits.{bit, member, Row};
 ghost use Rattle.model.specs.Words.{left, right};
 ghost use Rattle.model.specs.Rows.{program, tag, is-head, Kind, give, call, send, spawn, self};
 ghost use Rattle.model.specs.Rows.{case, receive};
@@ -49,13 +52,11 @@ ghost use Rattle.rules.specs.Listed.{kind-effect, State-rules};
 ghost use Rattle.rules.specs.Added.{Added};
 ghost use Rattle.rules.specs.Derived.{Rule-room, Reads, Rule-tables};
 ghost use Rattle.lists.specs.Lists.{Starts};
-ghost use Rattle.system_letters.specs.Letters.{Class-letters, Letter-sets};
+ghost use Rattle.system_letters.specs.Letters.{Class-letters, Letter-sets, letter-width};
 ghost use Rattle.lists.specs.Ready.{Ready};
 ghost use Rattle.state_rules.specs.Heads.{Plain, Letter-room, class-turn};
+ghost use Rattle.state_rules.specs.Within.{only-reads, Held-letters, Rules-within};
 ghost use Rattle.pattern_letters.specs.Picked.{Match-tables};
-
-// A set of letters has at most so many words: a bit for each letter, one word more where they fill all.
-const LETTER_WORDS: usize = MAX_COUNTERS / 64 + 1;
 
 // The state at row r with the class and the return of state i.
 fn onto(ws: &[u16], s: Sizes, at: &[u16], i: usize, r: usize) -> u16
@@ -351,7 +352,24 @@ fn case_rules(
     n
 }
 
-// A receive: each branch that may match, by the letters that it takes.
+// Takes from set 0 what the set `within` does not have, where only letters of that set are asked for.
+fn keep_within(narrow: bool, within: &[u64], words: usize, part: &mut [u64], found: &mut [u64])
+    requires { ⌜ Row (now within) words 0 ⌝ }
+    requires { ⌜ Row (now part) words 0 ⌝ }
+    requires { ⌜ Row (now found) words 0 ⌝ }
+    ensures { λ _. ⌜ ((y : ℕ) → y < 64 * words → member (now (found .exit)) words 0 y ≡
+        (member (now (found .entry)) words 0 y && (not narrow || member (now (within .entry)) words 0 y))) ⌝ }
+{
+    if !narrow {
+        return;
+    }
+    copy_into(part, found, words, 0, 0);
+    take_from(part, within, words, 0, 0);
+    take_from(found, part, words, 0, 0);
+}
+
+// A receive: each branch that may match, by the letters that it takes; where that is asked for, of the set `within`
+// only.
 fn receive_rules(
     ws: &[u16],
     s: Sizes,
@@ -365,6 +383,8 @@ fn receive_rules(
     at: &[u16],
     i: usize,
     r: usize,
+    narrow: bool,
+    within: &[u64],
     tos: &mut [u16],
     others: &mut [u16],
 ) -> usize
@@ -378,10 +398,13 @@ fn receive_rules(
     requires { ⌜ (i < s .states) × (r ≡ right (tables (now ws) s .states) i) ⌝ }
     requires { ⌜ Rule-room (now ws) s (now tos) (now others) ⌝ }
     requires { ⌜ counter-count (program (now ws) s) (tables (now ws) s) ≤ maxCounters ⌝ }
+    requires { ⌜ Row (now within) (letter-width (program (now ws) s) (tables (now ws) s)) 0 ⌝ }
     requires { ⌜ Match-tables (now ws) s w (now fitting) (now names) ⌝ }
-    ensures { λ n. ⌜ Added receive (now (tos .entry)) (now (others .entry)) 0 (now (tos .exit)) (now (others .exit)) n
-        (λ e. state-rules (program (now (ws .entry)) s) (tables (now (ws .entry)) s) e
-        (state-at (tables (now (ws .entry)) s) i)) ⌝ }
+    ensures { λ n. ⌜ ((f : ℕ → Bool) →
+        Held-letters (program (now (ws .entry)) s) (tables (now (ws .entry)) s) narrow (now (within .entry)) f →
+        Added receive (now (tos .entry)) (now (others .entry)) 0 (now (tos .exit)) (now (others .exit)) n
+        (λ e. only-reads f (state-rules (program (now (ws .entry)) s) (tables (now (ws .entry)) s) e
+        (state-at (tables (now (ws .entry)) s) i)))) ⌝ }
 {
     let c = state_class(ws, s, i);
     let m = num(ws, s, r);
@@ -413,6 +436,11 @@ fn receive_rules(
             &mut part,
             &mut found,
         );
+        keep_within(narrow, within, words, &mut part, &mut found);
+        // Most ceilings hold no letter that a branch reads, and a class may have a thousand.
+        if !meets(&found, &found, words, 0, 0) {
+            continue;
+        }
         n = letter_rules(s, letter_at, &found, words, c, here, n, tos, others);
     }
     n
@@ -475,10 +503,79 @@ pub fn state_rules(
             at,
             i,
             r,
+            false,
+            letters,
             tos,
             others,
         ),
         // build, function and self
         _ => rest_rules(ws, s, afters, at, i, r, tos),
     }
+}
+
+// The rules of state i, but of those of a receive only the ones that read a letter of the set `within`.
+pub fn rules_within(
+    ws: &[u16],
+    s: Sizes,
+    afters: &[u16],
+    flow_at: &[u16],
+    w: usize,
+    fitting: &[u64],
+    names: &[u64],
+    letter_at: &[u16],
+    letters: &[u64],
+    branches: &[u16],
+    at: &[u16],
+    i: usize,
+    within: &[u64],
+    tos: &mut [u16],
+    others: &mut [u16],
+) -> usize
+    requires { ⌜ Rule-tables (now ws) s (now afters) (now «flow_at») w (now fitting) (now names) (now «letter_at»)
+        (now letters) (now branches) ⌝ }
+    requires { ⌜ i < s .states ⌝ }
+    requires { ⌜ Row (now within) (letter-width (program (now ws) s) (tables (now ws) s)) 0 ⌝ }
+    requires { ⌜ Rule-room (now ws) s (now tos) (now others) ⌝ }
+    ensures { λ n. ⌜ ((f : ℕ → Bool) →
+        Held-letters (program (now (ws .entry)) s) (tables (now (ws .entry)) s) true (now (within .entry)) f →
+        Rules-within (program (now (ws .entry)) s) (tables (now (ws .entry)) s) f i (now (tos .exit))
+        (now (others .exit)) n) ⌝ }
+{
+    let r = state_location(ws, s, i);
+    if tag(ws, s, r) != TAG_RECEIVE {
+        return state_rules(
+            ws,
+            s,
+            afters,
+            flow_at,
+            w,
+            fitting,
+            names,
+            letter_at,
+            letters,
+            branches,
+            at,
+            i,
+            tos,
+            others,
+        );
+    }
+    receive_rules(
+        ws,
+        s,
+        afters,
+        w,
+        fitting,
+        names,
+        letter_at,
+        letters,
+        branches,
+        at,
+        i,
+        r,
+        true,
+        within,
+        tos,
+        others,
+    )
 }

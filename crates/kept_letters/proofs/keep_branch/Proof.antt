@@ -17,21 +17,24 @@ state-class-requires c κs = c .before .before .before .before .before .before .
 returns-2 : tie.Need-returns-2
 returns-2 c = (c .before .before .before .before .before .before .before .before .before .before .pre .1 .1 .1 .1 .1 .1 .0, c .before .before .before .before .before .before .before .before .before .before .pre .1 .1 .1 .1 .1 .1 .1)
 
-slice-aggregate-read-letters : tie.Need-slice-aggregate-read-letters
-slice-aggregate-read-letters c = search needs
+before-requires : tie.Need-before-requires
+before-requires c κs = search needs
 
-slice-aggregate-read-letters-2 : tie.Need-slice-aggregate-read-letters-2
-slice-aggregate-read-letters-2 c = search needs
+slice-aggregate-branch-letters : tie.Need-slice-aggregate-branch-letters
+slice-aggregate-branch-letters c = search needs
 
-read-letters-requires : tie.Need-read-letters-requires
-read-letters-requires c κs = (c .before .before .before .before .before .before .before .before .before .before .before .before .before .pre .0, (c .before .before .before .before .before .before .before .before .before .before .before .before .before .pre .1 .0, (c .before .before .before .before .before .before .before .before .before .before .before .before .before .pre .1 .1 .0, (c .before .before .before .before .before .before .before .before .before .before .before .before .before .pre .1 .1 .1 .1 .1 .1 .0, (c .before .before .before .before .before .before .before .before .before .before .before .before .before .pre .1 .1 .1 .1 .0, (c .before .before .before .before .before .before .before .before .before .before .before .before .before .pre .1 .1 .1 .1 .1 .0, (set-room (c .before .before .before .before .before .before .before .before .before .before .before .before .before .pre .0 .ready) _ (c .before .before .before .before .before .before .before .before .before .before .before .before .before .pre .1 .1 .1 .0) (search needs), set-room (c .before .before .before .before .before .before .before .before .before .before .before .before .before .pre .0 .ready) _ (c .before .before .before .before .before .before .before .before .before .before .before .before .before .pre .1 .1 .1 .0) (search needs))))))))
+slice-aggregate-branch-letters-2 : tie.Need-slice-aggregate-branch-letters-2
+slice-aggregate-branch-letters-2 c = search needs
+
+branch-letters-requires : tie.Need-branch-letters-requires
+branch-letters-requires c κs = (c .before .before .before .before .before .before .before .before .before .before .before .before .before .before .pre .0, (c .before .before .before .before .before .before .before .before .before .before .before .before .before .before .pre .1 .0, (c .before .before .before .before .before .before .before .before .before .before .before .before .before .before .pre .1 .1 .0, (c .before .before .before .before .before .before .before .before .before .before .before .before .before .before .pre .1 .1 .1 .1 .1 .1 .0, (c .before .before .before .before .before .before .before .before .before .before .before .before .before .before .pre .1 .1 .1 .1 .1 .1 .1, (c .before .before .before .before .before .before .before .before .before .before .before .before .before .before .pre .1 .1 .1 .1 .0, (c .before .before .before .before .before .before .before .before .before .before .before .before .before .before .pre .1 .1 .1 .1 .1 .0, (set-room (c .before .before .before .before .before .before .before .before .before .before .before .before .before .before .pre .0 .ready) _ (c .before .before .before .before .before .before .before .before .before .before .before .before .before .before .pre .1 .1 .1 .0) (search needs), set-room (c .before .before .before .before .before .before .before .before .before .before .before .before .before .before .pre .0 .ready) _ (c .before .before .before .before .before .before .before .before .before .before .before .before .before .before .pre .1 .1 .1 .0) (search needs)))))))))
 
 slice-aggregate-keep-letters : tie.Need-slice-aggregate-keep-letters
 slice-aggregate-keep-letters c = search needs
 
 keep-letters-requires : tie.Need-keep-letters-requires
 unfolding program columns
-keep-letters-requires c κs = (c .before .before .before .before .before .before .before .before .before .before .before .before .before .before .before .before .before .before .pre .0 .ready, (c .before .before .before .before .before .before .before .before .before .before .before .before .before .before .before .before .before .before .pre .1 .1 .0, (c .before .before .before .before .before .before .before .before .before .before .before .before .before .before .before .before .before .before .pre .1 .1 .1 .1 .1 .1 .0, (c .before .before .before .before .before .before .before .before .before .before .before .before .before .before .before .before .before .before .pre .1 .1 .1 .1 .1 .1 .1, ((search needs, sym (c .before .before .before .before .before .before .before .before .before .state-class .ensures) ∙ c .before .before .before .before .before .before .before .before .if2 .left, pattern-within (c .before .before .before .before .before .before .before .before .before .before .before .before .before .before .before .before .before .before .pre .1 .1 .1 .1 .1 .0)), c .before .before .before .before .read-letters .ensures)))))
+keep-letters-requires c κs = (c .before .before .before .before .before .before .before .before .before .before .before .before .before .before .before .before .before .before .before .pre .0 .ready, (c .before .before .before .before .before .before .before .before .before .before .before .before .before .before .before .before .before .before .before .pre .1 .1 .0, (c .before .before .before .before .before .before .before .before .before .before .before .before .before .before .before .before .before .before .before .pre .1 .1 .1 .1 .1 .1 .0, (c .before .before .before .before .before .before .before .before .before .before .before .before .before .before .before .before .before .before .before .pre .1 .1 .1 .1 .1 .1 .1, ((search needs, sym (c .before .before .before .before .before .before .before .before .before .before .state-class .ensures) ∙ c .before .before .before .before .before .before .before .before .before .if2 .left, pattern-within (c .before .before .before .before .before .before .before .before .before .before .before .before .before .before .before .before .before .before .before .pre .1 .1 .1 .1 .1 .0)), c .before .before .before .before .branch-letters .ensures)))))
 
 same-length : tie.Need-same-length
 same-length c = search needs
@@ -40,4 +43,4 @@ returns-3 : tie.Need-returns-3
 returns-3 c = c .before .before .keep-letters .ensures
 
 pub keep-branch-spec : {M : Type 1} → statement M
-keep-branch-spec = tie.close (tie.spec returns state-class-requires returns-2 slice-aggregate-read-letters slice-aggregate-read-letters-2 read-letters-requires slice-aggregate-keep-letters keep-letters-requires same-length returns-3)
+keep-branch-spec = tie.close (tie.spec returns state-class-requires returns-2 before-requires slice-aggregate-branch-letters slice-aggregate-branch-letters-2 branch-letters-requires slice-aggregate-keep-letters keep-letters-requires same-length returns-3)

@@ -62,7 +62,7 @@ extend-mul-longer : (t : ℕ) → extend-lts.Need-mul-longer (extend-claims t) (
 extend-mul-longer t c = record { fits = omega (arith, longer-fits _ _ (within-arity (c .before .before .before .before .before .pre .1 .1 .1 .1 .0 .1) (c .if2 .left)) (c .before .before .before .before .before .pre .1 .1 .1 .1 .0 .2)) }
 
 extend-extend-requires : (t : ℕ) → extend-lts.Need-extend-requires (extend-claims t) (extend-at t) extend.Post extend-Inv-loop extend-μ-loop
-extend-extend-requires t c κs = (omega (arith, c .before .before .before .before .before .before .before .pre .0, (within-arity (c .before .before .before .before .before .before .before .pre .1 .1 .1 .1 .0 .1) (c .before .before .if2 .left))), ((c .before .before .before .before .before .before .before .pre .1 .0), ((c .before .before .before .before .before .before .before .pre .1 .1 .0), ((c .before .before .before .before .before .before .before .pre .1 .1 .1 .0), ((c .before .before .before .before .before .before .before .pre .1 .1 .1 .1 .0 .0, omega (arith, (within-arity (c .before .before .before .before .before .before .before .pre .1 .1 .1 .1 .0 .1) (c .before .before .if2 .left))), longer-none _ _ (c .before .before .before .before .before .before .before .pre .1 .1 .1 .1 .0 .2)), (c .before .before .before .before .before .before .before .pre .1 .1 .1 .1 .1))))))
+extend-extend-requires t c κs = (omega (arith, c .before .before .before .before .before .before .before .pre .0, (within-arity (c .before .before .before .before .before .before .before .pre .1 .1 .1 .1 .0 .1) (c .before .before .if2 .left))), ((c .before .before .before .before .before .before .before .pre .1 .0), ((c .before .before .before .before .before .before .before .pre .1 .1 .0), ((c .before .before .before .before .before .before .before .pre .1 .1 .1 .0), ((c .before .before .before .before .before .before .before .pre .1 .1 .1 .1 .0 .0, omega (arith, (within-arity (c .before .before .before .before .before .before .before .pre .1 .1 .1 .1 .0 .1) (c .before .before .if2 .left))), omega (arith, longer-none _ _ (c .before .before .before .before .before .before .before .pre .1 .1 .1 .1 .0 .2))), (c .before .before .before .before .before .before .before .pre .1 .1 .1 .1 .1))))))
 
 extend-same-length-2 : (t : ℕ) → extend-lts.Need-same-length-2 (extend-claims t) (extend-at t) extend.Post extend-Inv-loop extend-μ-loop
 extend-same-length-2 t c = search needs
@@ -95,7 +95,7 @@ extend-add-extend : (t : ℕ) → extend-lts.Need-add-extend (extend-claims t) (
 extend-add-extend t c = record { fits = omega (arith, c .before .before .before .before .before .before .before .before .before .before .before .before .pre .1 .0 .limits .constructors, longer-fits _ _ (within-arity (c .before .before .before .before .before .before .before .before .before .before .before .before .pre .1 .1 .1 .1 .0 .1) (c .before .before .before .before .before .before .before .if2 .left)) (c .before .before .before .before .before .before .before .before .before .before .before .before .pre .1 .1 .1 .1 .0 .2)) }
 
 extend-extend-requires-2 : (t : ℕ) → extend-lts.Need-extend-requires-2 (extend-claims t) (extend-at t) extend.Post extend-Inv-loop extend-μ-loop
-extend-extend-requires-2 t c κs = (omega (arith, c .before .before .before .before .before .before .before .before .before .before .before .before .before .pre .0, (within-arity (c .before .before .before .before .before .before .before .before .before .before .before .before .before .pre .1 .1 .1 .1 .0 .1) (c .before .before .before .before .before .before .before .before .if2 .left))), ((c .before .before .before .before .before .before .before .before .before .before .before .before .before .pre .1 .0), ((c .before .before .before .before .before .before .before .before .before .before .before .before .before .pre .1 .1 .0), ((c .before .before .before .before .before .before .before .before .before .before .before .before .before .pre .1 .1 .1 .0), ((c .before .before .before .before .before .before .before .before .before .before .before .before .before .pre .1 .1 .1 .1 .0 .0, omega (arith, (within-arity (c .before .before .before .before .before .before .before .before .before .before .before .before .before .pre .1 .1 .1 .1 .0 .1) (c .before .before .before .before .before .before .before .before .if2 .left))), longer-low _ _ _ (omega (arith, c .before .before .before .before .before .before .before .before .before .before .before .before .before .pre .1 .0 .limits .constructors)) (c .before .before .before .before .before .before .before .before .before .before .before .before .before .pre .1 .1 .1 .1 .0 .2)), added-room (c .before .before .before .before .before .before .before .before .before .before .before .before .before .pre .1 .1 .1 .1 .1) (c .before .before .loop .inv .0))))))
+extend-extend-requires-2 t c κs = (omega (arith, c .before .before .before .before .before .before .before .before .before .before .before .before .before .pre .0, (within-arity (c .before .before .before .before .before .before .before .before .before .before .before .before .before .pre .1 .1 .1 .1 .0 .1) (c .before .before .before .before .before .before .before .before .if2 .left))), ((c .before .before .before .before .before .before .before .before .before .before .before .before .before .pre .1 .0), ((c .before .before .before .before .before .before .before .before .before .before .before .before .before .pre .1 .1 .0), ((c .before .before .before .before .before .before .before .before .before .before .before .before .before .pre .1 .1 .1 .0), ((c .before .before .before .before .before .before .before .before .before .before .before .before .before .pre .1 .1 .1 .1 .0 .0, omega (arith, (within-arity (c .before .before .before .before .before .before .before .before .before .before .before .before .before .pre .1 .1 .1 .1 .0 .1) (c .before .before .before .before .before .before .before .before .if2 .left))), omega (arith, longer-low _ _ 127 (omega arith) (c .before .before .before .before .before .before .before .before .before .before .before .before .before .pre .1 .1 .1 .1 .0 .2), c .before .before .before .before .before .before .before .before .before .before .before .before .before .pre .1 .0 .limits .constructors)), added-room (c .before .before .before .before .before .before .before .before .before .before .before .before .before .pre .1 .1 .1 .1 .1) (c .before .before .loop .inv .0))))))
 
 extend-add-next-in : (t : ℕ) → extend-lts.Need-add-next-in (extend-claims t) (extend-at t) extend.Post extend-Inv-loop extend-μ-loop
 extend-add-next-in t c = record { fits = omega (arith, c .before .before .before .before .before .before .before .before .before .before .before .before .before .before .before .before .pre .1 .0 .limits .constructors) }

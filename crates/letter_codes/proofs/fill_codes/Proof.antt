@@ -8,7 +8,7 @@ use Rattle.model.specs.Tables.{tables}
 use Rattle.lists.specs.Lists.{range-from}
 use Rattle.lists.proofs.Facts.{mail-usable}
 use Rattle.letter_codes.proofs.Filling.{Filled, filled-none, filled-room, filled-next, filled-count, filled-starts, filled-codes}
-use Rattle.letter_codes.proofs.Filling.{end-told, entry-next, mail-ascends, class-entries, first-entry}
+use Rattle.letter_codes.proofs.Filling.{end-told, entry-next, mail-ascends, class-entries, first-entry, entries-few}
 use Rattle.letter_codes.proofs.fill_codes.Statement.{statement}
 use Rattle.letter_codes.proofs.fill_codes.Tie as tie
 
@@ -29,7 +29,7 @@ loop-holds : tie.Need-loop-holds Inv-loop μ-loop
 loop-holds c = (filled-none _ _ _ _ _, first-entry (c .before .before .before .before .before .before .pre .0), omega arith, refl, refl)
 
 cast-letter-at : tie.Need-cast-letter-at Inv-loop μ-loop
-cast-letter-at c = omega (arith, c .before .loop .inv .0 .upto, c .before .before .before .before .before .before .before .before .pre .1 .1 .0 .0)
+cast-letter-at c = omega (arith, c .before .loop .inv .0 .upto, c .before .before .before .before .before .before .before .before .pre .1 .1 .0 .0, c .before .loop .inv .1, entries-few (c .before .before .before .before .before .before .before .before .pre .0) (c .before .loop .c))
 
 mul-letter-at : tie.Need-mul-letter-at Inv-loop μ-loop
 mul-letter-at c = search needs

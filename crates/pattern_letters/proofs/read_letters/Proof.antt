@@ -12,7 +12,7 @@ use Rattle.lists.proofs.Facts.{mail-rises}
 use Rattle.system_letters.specs.Letters.{Found}
 use Rattle.system_letters.proofs.Tables.{head-low}
 use Rattle.pattern_letters.proofs.Entries.{mail-order, mail-low, mail-class}
-use Rattle.pattern_letters.proofs.Lessening.{row-kept, wide-row, found-start, found-passed, found-read, found-end, entry-room, entry-number}
+use Rattle.pattern_letters.proofs.Lessening.{row-kept, wide-row, found-start, found-passed, found-hollow, found-read, found-end, entry-room, entry-number}
 use borrow.Author.Needs.{needs}
 use Rattle.pattern_letters.proofs.read_letters.Statement.{statement}
 use Rattle.pattern_letters.proofs.read_letters.Tie as tie
@@ -56,25 +56,39 @@ loop-again c = (search needs, search needs, c .before .before .before .before .l
 entry-set-requires : tie.Need-entry-set-requires Inv-loop μ-loop
 entry-set-requires c κs = (c .before .before .before .before .before .before .before .before .before .before .before .before .before .before .before .before .before .before .before .before .pre .0 .ready .limits, (omega (arith, (mail-order (c .before .before .before .before .before .before .before .before .before .before .before .before .before .before .before .before .before .before .before .before .pre .0 .ready) _ _ _ (c .before .before .before .before .before .before .mail-from .ensures) (c .before .before .before .before .before .mail-to .ensures)) .1)))
 
-copy-into-requires : tie.Need-copy-into-requires Inv-loop μ-loop
+meets-requires : tie.Need-meets-requires Inv-loop μ-loop
 unfolding tables entries columns
-copy-into-requires c κs = (wide-row _ _ _ (c .before .before .before .before .before .before .before .before .before .before .before .before .before .letter-width .ensures) (row-kept _ _ _ _ (c .before .before .before .before .before .before .before .before .before .before .before .before .before .before .before .before .before .before .before .before .before .before .pre .1 .1 .1 .1 .1 .1 .0) (c .before .before .before .before .before .before .loop .inv .3)), entry-room _ _ _ _ (c .before .before .before .before .before .before .before .before .before .before .before .before .before .before .before .before .before .before .before .before .before .before .pre .1 .1 .1 .0) _ _ _ _ (c .before .before .before .before .before .before .before .before .before .before .before .before .before .letter-width .ensures) (entry-number _ _ _ _ (c .before .entry-set .ensures)) (omega (arith, (mail-order (c .before .before .before .before .before .before .before .before .before .before .before .before .before .before .before .before .before .before .before .before .before .before .pre .0 .ready) _ _ _ (c .before .before .before .before .before .before .before .before .mail-from .ensures) (c .before .before .before .before .before .before .before .mail-to .ensures)) .1)) (mail-class (c .before .before .before .before .before .before .before .before .before .before .before .before .before .before .before .before .before .before .before .before .before .before .pre .0 .ready) _ _ _ (c .before .before .before .before .before .before .before .before .mail-from .ensures) (c .before .before .before .before .before .before .before .mail-to .ensures) _ (c .before .before .before .before .before .before .loop .inv .0) (search needs)) refl)
-
-leave-letters-requires : tie.Need-leave-letters-requires Inv-loop μ-loop
-leave-letters-requires c κs = (c .before .before .before .before .before .before .before .before .before .before .before .before .before .before .before .before .before .before .before .before .before .before .before .before .before .before .pre .0, (c .before .before .before .before .before .before .before .before .before .before .before .before .before .before .before .before .before .before .before .before .before .before .before .before .before .before .pre .1 .0, ((c .before .before .before .before .before .before .before .before .before .before .before .before .before .before .before .before .before .before .before .before .before .before .before .before .before .before .pre .1 .1 .1 .0), ((c .before .before .before .before .before .before .before .before .before .before .before .before .before .before .before .before .before .letter-width .ensures), (c .before .before .before .before .before .before .before .before .before .before .before .before .before .before .before .before .before .before .before .before .before .before .before .before .before .before .pre .1 .1 .1 .1 .1 .0, (sym (c .before .before .before .before .before .before .before .begins .ensures) ∙ not-false _ (c .before .before .before .before .before .before .if1 .left), wide-row _ _ _ (c .before .before .before .before .before .before .before .before .before .before .before .before .before .before .before .before .before .letter-width .ensures) (row-kept _ _ _ _ (c .before .before .before .before .before .before .before .before .before .before .before .before .before .before .before .before .before .before .before .before .before .before .before .before .before .before .pre .1 .1 .1 .1 .1 .1 .0) (c .before .before .before .copy-into .ensures .long ∙ c .before .before .before .before .before .before .before .before .before .before .loop .inv .3))))))))
-
-join-into-requires : tie.Need-join-into-requires Inv-loop μ-loop
-join-into-requires c κs = (wide-row _ _ _ (c .before .before .before .before .before .before .before .before .before .before .before .before .before .before .before .before .before .before .before .before .before .before .letter-width .ensures) (c .before .before .before .before .before .before .before .before .before .before .before .before .before .before .before .loop .inv .4 .row), wide-row _ _ _ (c .before .before .before .before .before .before .before .before .before .before .before .before .before .before .before .before .before .before .before .before .before .before .letter-width .ensures) (c .before .before .before .before .leave-letters .ensures .row))
+meets-requires c κs = (entry-room _ _ _ _ (c .before .before .before .before .before .before .before .before .before .before .before .before .before .before .before .before .before .before .before .before .before .pre .1 .1 .1 .0) _ _ _ _ (c .before .before .before .before .before .before .before .before .before .before .before .before .letter-width .ensures) (entry-number _ _ _ _ (c .entry-set .ensures)) (omega (arith, (mail-order (c .before .before .before .before .before .before .before .before .before .before .before .before .before .before .before .before .before .before .before .before .before .pre .0 .ready) _ _ _ (c .before .before .before .before .before .before .before .mail-from .ensures) (c .before .before .before .before .before .before .mail-to .ensures)) .1)) (mail-class (c .before .before .before .before .before .before .before .before .before .before .before .before .before .before .before .before .before .before .before .before .before .pre .0 .ready) _ _ _ (c .before .before .before .before .before .before .before .mail-from .ensures) (c .before .before .before .before .before .before .mail-to .ensures) _ (omega (arith, c .before .before .before .before .before .loop .inv .0)) (omega (arith, c .before .before .before .before .before .loop .inv .0, c .before .before .before .before .loop-test .taken))) refl, entry-room _ _ _ _ (c .before .before .before .before .before .before .before .before .before .before .before .before .before .before .before .before .before .before .before .before .before .pre .1 .1 .1 .0) _ _ _ _ (c .before .before .before .before .before .before .before .before .before .before .before .before .letter-width .ensures) (entry-number _ _ _ _ (c .entry-set .ensures)) (omega (arith, (mail-order (c .before .before .before .before .before .before .before .before .before .before .before .before .before .before .before .before .before .before .before .before .before .pre .0 .ready) _ _ _ (c .before .before .before .before .before .before .before .mail-from .ensures) (c .before .before .before .before .before .before .mail-to .ensures)) .1)) (mail-class (c .before .before .before .before .before .before .before .before .before .before .before .before .before .before .before .before .before .before .before .before .before .pre .0 .ready) _ _ _ (c .before .before .before .before .before .before .before .mail-from .ensures) (c .before .before .before .before .before .before .mail-to .ensures) _ (omega (arith, c .before .before .before .before .before .loop .inv .0)) (omega (arith, c .before .before .before .before .before .loop .inv .0, c .before .before .before .before .loop-test .taken))) refl)
 
 add-j-2 : tie.Need-add-j-2 Inv-loop μ-loop
-add-j-2 c = omega (arith, (mail-order (c .before .before .before .before .before .before .before .before .before .before .before .before .before .before .before .before .before .before .before .before .before .before .before .before .before .before .before .before .before .before .before .before .before .before .pre .0 .ready) _ _ _ (c .before .before .before .before .before .before .before .before .before .before .before .before .before .before .before .before .before .before .before .before .mail-from .ensures) (c .before .before .before .before .before .before .before .before .before .before .before .before .before .before .before .before .before .before .before .mail-to .ensures)) .1, c .before .before .before .before .before .before .before .before .before .before .before .before .before .before .before .before .before .before .before .before .before .before .before .before .before .before .before .before .before .before .before .before .before .before .pre .0 .ready .limits .mails)
+add-j-2 c = omega (arith, (mail-order (c .before .before .before .before .before .before .before .before .before .before .before .before .before .before .before .before .before .before .before .before .before .before .before .pre .0 .ready) _ _ _ (c .before .before .before .before .before .before .before .before .before .mail-from .ensures) (c .before .before .before .before .before .before .before .before .mail-to .ensures)) .1, c .before .before .before .before .before .before .before .before .before .before .before .before .before .before .before .before .before .before .before .before .before .before .before .pre .0 .ready .limits .mails)
 
 loop-less-2 : tie.Need-loop-less-2 Inv-loop μ-loop
 loop-less-2 c = search needs
 
 loop-again-2 : tie.Need-loop-again-2 Inv-loop μ-loop
 unfolding tables entries columns
-loop-again-2 c = (search needs, search needs, c .before .before .join-into .ensures .long ∙ c .before .before .before .before .before .before .before .before .before .before .before .before .before .before .before .before .before .before .loop .inv .2, c .before .before .before .before .before .before .before .leave-letters .ensures .long ∙ (c .before .before .before .before .before .before .before .before .before .before .before .copy-into .ensures .long ∙ c .before .before .before .before .before .before .before .before .before .before .before .before .before .before .before .before .before .before .loop .inv .3), found-read _ _ (head-low (c .before .before .before .before .before .before .before .before .before .before .before .before .before .before .before .before .before .before .before .before .before .before .before .before .before .before .before .before .before .before .before .before .before .before .pre .0 .ready)) _ _ _ _ _ (c .before .before .before .before .before .before .before .before .before .before .before .before .before .before .before .before .before .before .loop .inv .0) (c .before .before .before .before .before .before .before .before .before .before .before .before .before .before .before .before .mail-value .ensures) _ (c .before .before .before .before .before .before .before .before .before .before .before .before .before .before .before .before .before .before .before .before .before .before .before .before .before .before .before .before .before .before .before .before .before .before .pre .1 .1 .1 .0) _ _ (c .before .before .before .before .before .before .before .before .before .before .before .before .before .before .before .before .before .before .before .before .before .before .before .before .before .letter-width .ensures) (entry-number _ _ _ _ (c .before .before .before .before .before .before .before .before .before .before .before .before .before .entry-set .ensures)) (omega (arith, (mail-order (c .before .before .before .before .before .before .before .before .before .before .before .before .before .before .before .before .before .before .before .before .before .before .before .before .before .before .before .before .before .before .before .before .before .before .pre .0 .ready) _ _ _ (c .before .before .before .before .before .before .before .before .before .before .before .before .before .before .before .before .before .before .before .before .mail-from .ensures) (c .before .before .before .before .before .before .before .before .before .before .before .before .before .before .before .before .before .before .before .mail-to .ensures)) .1)) (mail-class (c .before .before .before .before .before .before .before .before .before .before .before .before .before .before .before .before .before .before .before .before .before .before .before .before .before .before .before .before .before .before .before .before .before .before .pre .0 .ready) _ _ _ (c .before .before .before .before .before .before .before .before .before .before .before .before .before .before .before .before .before .before .before .before .mail-from .ensures) (c .before .before .before .before .before .before .before .before .before .before .before .before .before .before .before .before .before .before .before .mail-to .ensures) _ (c .before .before .before .before .before .before .before .before .before .before .before .before .before .before .before .before .before .before .loop .inv .0) (search needs)) _ _ _ _ _ _ (c .before .before .before .before .before .before .before .before .before .before .before .before .before .before .before .begins .ensures) (c .before .before .before .before .before .before .before .before .before .before .before .before .before .before .if1 .left) (c .before .before .before .before .before .before .before .before .before .before .before .before .before .before .before .before .before .before .loop .inv .4) (c .before .before .before .before .before .before .before .before .before .before .before .copy-into .ensures) (c .before .before .before .before .before .before .before .leave-letters .ensures) (c .before .before .join-into .ensures))
+loop-again-2 c = (search needs, search needs, c .before .before .before .before .before .before .before .loop .inv .2, c .before .before .before .before .before .before .before .loop .inv .3, found-hollow _ _ (head-low (c .before .before .before .before .before .before .before .before .before .before .before .before .before .before .before .before .before .before .before .before .before .before .before .pre .0 .ready)) _ _ _ _ _ (c .before .before .before .before .before .before .before .loop .inv .0) (c .before .before .before .before .before .mail-value .ensures) _ (c .before .before .before .before .before .before .before .before .before .before .before .before .before .before .before .before .before .before .before .before .before .before .before .pre .1 .1 .1 .0) _ _ (c .before .before .before .before .before .before .before .before .before .before .before .before .before .before .letter-width .ensures) (entry-number _ _ _ _ (c .before .before .entry-set .ensures)) (omega (arith, (mail-order (c .before .before .before .before .before .before .before .before .before .before .before .before .before .before .before .before .before .before .before .before .before .before .before .pre .0 .ready) _ _ _ (c .before .before .before .before .before .before .before .before .before .mail-from .ensures) (c .before .before .before .before .before .before .before .before .mail-to .ensures)) .1)) (mail-class (c .before .before .before .before .before .before .before .before .before .before .before .before .before .before .before .before .before .before .before .before .before .before .before .pre .0 .ready) _ _ _ (c .before .before .before .before .before .before .before .before .before .mail-from .ensures) (c .before .before .before .before .before .before .before .before .mail-to .ensures) _ (c .before .before .before .before .before .before .before .loop .inv .0) (search needs)) _ _ (c .before .meets .ensures) (c .if2 .taken) (c .before .before .before .before .before .before .before .loop .inv .4))
+
+copy-into-requires : tie.Need-copy-into-requires Inv-loop μ-loop
+unfolding tables entries columns
+copy-into-requires c κs = (wide-row _ _ _ (c .before .before .before .before .before .before .before .before .before .before .before .before .before .before .before .letter-width .ensures) (row-kept _ _ _ _ (c .before .before .before .before .before .before .before .before .before .before .before .before .before .before .before .before .before .before .before .before .before .before .before .before .pre .1 .1 .1 .1 .1 .1 .0) (c .before .before .before .before .before .before .before .before .loop .inv .3)), entry-room _ _ _ _ (c .before .before .before .before .before .before .before .before .before .before .before .before .before .before .before .before .before .before .before .before .before .before .before .before .pre .1 .1 .1 .0) _ _ _ _ (c .before .before .before .before .before .before .before .before .before .before .before .before .before .before .before .letter-width .ensures) (entry-number _ _ _ _ (c .before .before .before .entry-set .ensures)) (omega (arith, (mail-order (c .before .before .before .before .before .before .before .before .before .before .before .before .before .before .before .before .before .before .before .before .before .before .before .before .pre .0 .ready) _ _ _ (c .before .before .before .before .before .before .before .before .before .before .mail-from .ensures) (c .before .before .before .before .before .before .before .before .before .mail-to .ensures)) .1)) (mail-class (c .before .before .before .before .before .before .before .before .before .before .before .before .before .before .before .before .before .before .before .before .before .before .before .before .pre .0 .ready) _ _ _ (c .before .before .before .before .before .before .before .before .before .before .mail-from .ensures) (c .before .before .before .before .before .before .before .before .before .mail-to .ensures) _ (omega (arith, c .before .before .before .before .before .before .before .before .loop .inv .0)) (omega (arith, c .before .before .before .before .before .before .before .before .loop .inv .0, c .before .before .before .before .before .before .before .loop-test .taken))) refl)
+
+leave-letters-requires : tie.Need-leave-letters-requires Inv-loop μ-loop
+leave-letters-requires c κs = (c .before .before .before .before .before .before .before .before .before .before .before .before .before .before .before .before .before .before .before .before .before .before .before .before .before .before .before .before .pre .0, (c .before .before .before .before .before .before .before .before .before .before .before .before .before .before .before .before .before .before .before .before .before .before .before .before .before .before .before .before .pre .1 .0, ((c .before .before .before .before .before .before .before .before .before .before .before .before .before .before .before .before .before .before .before .before .before .before .before .before .before .before .before .before .pre .1 .1 .1 .0), ((c .before .before .before .before .before .before .before .before .before .before .before .before .before .before .before .before .before .before .before .letter-width .ensures), (c .before .before .before .before .before .before .before .before .before .before .before .before .before .before .before .before .before .before .before .before .before .before .before .before .before .before .before .before .pre .1 .1 .1 .1 .1 .0, (sym (c .before .before .before .before .before .before .before .before .before .begins .ensures) ∙ not-false _ (c .before .before .before .before .before .before .before .before .if1 .left), wide-row _ _ _ (c .before .before .before .before .before .before .before .before .before .before .before .before .before .before .before .before .before .before .before .letter-width .ensures) (row-kept _ _ _ _ (c .before .before .before .before .before .before .before .before .before .before .before .before .before .before .before .before .before .before .before .before .before .before .before .before .before .before .before .before .pre .1 .1 .1 .1 .1 .1 .0) (c .before .before .before .copy-into .ensures .long ∙ c .before .before .before .before .before .before .before .before .before .before .before .before .loop .inv .3))))))))
+
+join-into-requires : tie.Need-join-into-requires Inv-loop μ-loop
+join-into-requires c κs = (wide-row _ _ _ (c .before .before .before .before .before .before .before .before .before .before .before .before .before .before .before .before .before .before .before .before .before .before .before .before .letter-width .ensures) (c .before .before .before .before .before .before .before .before .before .before .before .before .before .before .before .before .before .loop .inv .4 .row), wide-row _ _ _ (c .before .before .before .before .before .before .before .before .before .before .before .before .before .before .before .before .before .before .before .before .before .before .before .before .letter-width .ensures) (c .before .before .before .before .leave-letters .ensures .row))
+
+add-j-3 : tie.Need-add-j-3 Inv-loop μ-loop
+add-j-3 c = omega (arith, (mail-order (c .before .before .before .before .before .before .before .before .before .before .before .before .before .before .before .before .before .before .before .before .before .before .before .before .before .before .before .before .before .before .before .before .before .before .before .before .pre .0 .ready) _ _ _ (c .before .before .before .before .before .before .before .before .before .before .before .before .before .before .before .before .before .before .before .before .before .before .mail-from .ensures) (c .before .before .before .before .before .before .before .before .before .before .before .before .before .before .before .before .before .before .before .before .before .mail-to .ensures)) .1, c .before .before .before .before .before .before .before .before .before .before .before .before .before .before .before .before .before .before .before .before .before .before .before .before .before .before .before .before .before .before .before .before .before .before .before .before .pre .0 .ready .limits .mails)
+
+loop-less-3 : tie.Need-loop-less-3 Inv-loop μ-loop
+loop-less-3 c = search needs
+
+loop-again-3 : tie.Need-loop-again-3 Inv-loop μ-loop
+unfolding tables entries columns
+loop-again-3 c = (omega (arith, c .before .before .before .before .before .before .before .before .before .before .before .before .before .before .before .before .before .before .before .before .loop .inv .0), search needs, c .before .before .join-into .ensures .long ∙ c .before .before .before .before .before .before .before .before .before .before .before .before .before .before .before .before .before .before .before .before .loop .inv .2, c .before .before .before .before .before .before .before .leave-letters .ensures .long ∙ (c .before .before .before .before .before .before .before .before .before .before .before .copy-into .ensures .long ∙ c .before .before .before .before .before .before .before .before .before .before .before .before .before .before .before .before .before .before .before .before .loop .inv .3), found-read _ _ (head-low (c .before .before .before .before .before .before .before .before .before .before .before .before .before .before .before .before .before .before .before .before .before .before .before .before .before .before .before .before .before .before .before .before .before .before .before .before .pre .0 .ready)) _ _ _ _ _ (c .before .before .before .before .before .before .before .before .before .before .before .before .before .before .before .before .before .before .before .before .loop .inv .0) (c .before .before .before .before .before .before .before .before .before .before .before .before .before .before .before .before .before .before .mail-value .ensures) _ (c .before .before .before .before .before .before .before .before .before .before .before .before .before .before .before .before .before .before .before .before .before .before .before .before .before .before .before .before .before .before .before .before .before .before .before .before .pre .1 .1 .1 .0) _ _ (c .before .before .before .before .before .before .before .before .before .before .before .before .before .before .before .before .before .before .before .before .before .before .before .before .before .before .before .letter-width .ensures) (entry-number _ _ _ _ (c .before .before .before .before .before .before .before .before .before .before .before .before .before .before .before .entry-set .ensures)) (omega (arith, (mail-order (c .before .before .before .before .before .before .before .before .before .before .before .before .before .before .before .before .before .before .before .before .before .before .before .before .before .before .before .before .before .before .before .before .before .before .before .before .pre .0 .ready) _ _ _ (c .before .before .before .before .before .before .before .before .before .before .before .before .before .before .before .before .before .before .before .before .before .before .mail-from .ensures) (c .before .before .before .before .before .before .before .before .before .before .before .before .before .before .before .before .before .before .before .before .before .mail-to .ensures)) .1)) (mail-class (c .before .before .before .before .before .before .before .before .before .before .before .before .before .before .before .before .before .before .before .before .before .before .before .before .before .before .before .before .before .before .before .before .before .before .before .before .pre .0 .ready) _ _ _ (c .before .before .before .before .before .before .before .before .before .before .before .before .before .before .before .before .before .before .before .before .before .before .mail-from .ensures) (c .before .before .before .before .before .before .before .before .before .before .before .before .before .before .before .before .before .before .before .before .before .mail-to .ensures) _ (c .before .before .before .before .before .before .before .before .before .before .before .before .before .before .before .before .before .before .before .before .loop .inv .0) (search needs)) _ _ _ _ _ _ (c .before .before .before .before .before .before .before .before .before .before .before .before .before .before .before .before .before .begins .ensures) (c .before .before .before .before .before .before .before .before .before .before .before .before .before .before .before .before .if1 .left) (c .before .before .before .before .before .before .before .before .before .before .before .before .before .before .before .before .before .before .before .before .loop .inv .4) (c .before .before .before .before .before .before .before .before .before .before .before .copy-into .ensures) (c .before .before .before .before .before .before .before .leave-letters .ensures) (c .before .before .join-into .ensures))
 
 same-length : tie.Need-same-length Inv-loop μ-loop
 same-length c = c .before .loop .inv .3
@@ -102,12 +116,16 @@ read-letters-spec =
     loop-less
     loop-again
     entry-set-requires
-    copy-into-requires
-    leave-letters-requires
-    join-into-requires
+    meets-requires
     add-j-2
     loop-less-2
     loop-again-2
+    copy-into-requires
+    leave-letters-requires
+    join-into-requires
+    add-j-3
+    loop-less-3
+    loop-again-3
     same-length
     same-length-2
     returns)

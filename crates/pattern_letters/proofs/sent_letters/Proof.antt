@@ -50,11 +50,11 @@ place-requires : tie.Need-place-requires Inv-loop μ-loop
 place-requires c κs = mail-usable (c .before .before .before .before .before .before .before .before .before .before .before .before .before .before .before .before .pre .0) (c .mail .result) (c .mail .ensures)
 
 entry-set-requires : tie.Need-entry-set-requires Inv-loop μ-loop
-entry-set-requires c κs = (c .before .before .before .before .before .before .before .before .before .before .before .before .before .before .before .before .before .pre .0 .limits, (mailed-at (c .before .before .before .before .before .before .before .before .before .before .before .before .before .before .before .before .before .pre .0) _ _ _ _ _ _ _ (c .before .before .before .before .before .before .before .before .before .before .before .before .before .before .before .before .before .pre .1 .1 .1 .1 .1 .0) ((name-starts (c .before .before .before .before .before .before .before .before .before .before .before .before .before .before .before .before .before .pre .0) _ _ _ _ (c .before .before .before .before .before .before .before .before .before .before .before .before .before .before .before .before .before .pre .1 .0) (c .before .before .before .before .before .before .before .before .before .before .before .before .before .before .before .before .before .pre .1 .1 .1 .1 .0) (c .before .before .before .before .before .before .word .ensures .0) (c .before .before .before .before .before .word2 .ensures .0)) .0) ((name-starts (c .before .before .before .before .before .before .before .before .before .before .before .before .before .before .before .before .before .pre .0) _ _ _ _ (c .before .before .before .before .before .before .before .before .before .before .before .before .before .before .before .before .before .pre .1 .0) (c .before .before .before .before .before .before .before .before .before .before .before .before .before .before .before .before .before .pre .1 .1 .1 .1 .0) (c .before .before .before .before .before .before .word .ensures .0) (c .before .before .before .before .before .word2 .ensures .0)) .1) (c .before .before .before .before .loop .inv .0) (search needs) (c .before .before .flow-value .ensures) (mail-placed _ _ _ _ _ (c .place .ensures) (c .before .mail .ensures))) .0)
+entry-set-requires c κs = (c .before .before .before .before .before .before .before .before .before .before .before .before .before .before .before .before .before .pre .0 .limits, (mailed-at (c .before .before .before .before .before .before .before .before .before .before .before .before .before .before .before .before .before .pre .0) _ _ _ _ _ _ _ (c .before .before .before .before .before .before .before .before .before .before .before .before .before .before .before .before .before .pre .1 .1 .1 .1 .1 .0) ((name-starts (c .before .before .before .before .before .before .before .before .before .before .before .before .before .before .before .before .before .pre .0) _ _ _ _ (c .before .before .before .before .before .before .before .before .before .before .before .before .before .before .before .before .before .pre .1 .0) (c .before .before .before .before .before .before .before .before .before .before .before .before .before .before .before .before .before .pre .1 .1 .1 .1 .0) (c .before .before .before .before .before .before .word .ensures .0) (c .before .before .before .before .before .word2 .ensures .0)) .0) ((name-starts (c .before .before .before .before .before .before .before .before .before .before .before .before .before .before .before .before .before .pre .0) _ _ _ _ (c .before .before .before .before .before .before .before .before .before .before .before .before .before .before .before .before .before .pre .1 .0) (c .before .before .before .before .before .before .before .before .before .before .before .before .before .before .before .before .before .pre .1 .1 .1 .1 .0) (c .before .before .before .before .before .before .word .ensures .0) (c .before .before .before .before .before .word2 .ensures .0)) .1) (omega (arith, c .before .before .before .before .loop .inv .0)) (omega (arith, c .before .before .before .before .loop .inv .0, c .before .before .before .loop-test .taken)) (c .before .before .flow-value .ensures) (mail-placed _ _ _ _ _ (c .place .ensures) (c .before .mail .ensures))) .0)
 
 join-into-requires : tie.Need-join-into-requires Inv-loop μ-loop
 unfolding tables entries columns
-join-into-requires c κs = let (l, e, f) = (mailed-at (c .before .before .before .before .before .before .before .before .before .before .before .before .before .before .before .before .before .before .before .pre .0) _ _ _ _ _ _ _ (c .before .before .before .before .before .before .before .before .before .before .before .before .before .before .before .before .before .before .before .pre .1 .1 .1 .1 .1 .0) ((name-starts (c .before .before .before .before .before .before .before .before .before .before .before .before .before .before .before .before .before .before .before .pre .0) _ _ _ _ (c .before .before .before .before .before .before .before .before .before .before .before .before .before .before .before .before .before .before .before .pre .1 .0) (c .before .before .before .before .before .before .before .before .before .before .before .before .before .before .before .before .before .before .before .pre .1 .1 .1 .1 .0) (c .before .before .before .before .before .before .before .before .word .ensures .0) (c .before .before .before .before .before .before .before .word2 .ensures .0)) .0) ((name-starts (c .before .before .before .before .before .before .before .before .before .before .before .before .before .before .before .before .before .before .before .pre .0) _ _ _ _ (c .before .before .before .before .before .before .before .before .before .before .before .before .before .before .before .before .before .before .before .pre .1 .0) (c .before .before .before .before .before .before .before .before .before .before .before .before .before .before .before .before .before .before .before .pre .1 .1 .1 .1 .0) (c .before .before .before .before .before .before .before .before .word .ensures .0) (c .before .before .before .before .before .before .before .word2 .ensures .0)) .1) (c .before .before .before .before .before .before .loop .inv .0) (search needs) (c .before .before .before .before .flow-value .ensures) (mail-placed _ _ _ _ _ (c .before .before .place .ensures) (c .before .before .before .mail .ensures))) in (wide-row _ _ _ (c .before .before .before .before .before .before .before .before .before .before .before .before .before .letter-width .ensures) (c .before .before .before .before .before .before .loop .inv .3 .row), entry-room _ _ _ _ (c .before .before .before .before .before .before .before .before .before .before .before .before .before .before .before .before .before .before .before .pre .1 .1 .1 .0) _ _ _ _ (c .before .before .before .before .before .before .before .before .before .before .before .before .before .letter-width .ensures) (entry-number _ _ _ _ (c .before .entry-set .ensures)) l e f)
+join-into-requires c κs = let (l, e, f) = (mailed-at (c .before .before .before .before .before .before .before .before .before .before .before .before .before .before .before .before .before .before .before .pre .0) _ _ _ _ _ _ _ (c .before .before .before .before .before .before .before .before .before .before .before .before .before .before .before .before .before .before .before .pre .1 .1 .1 .1 .1 .0) ((name-starts (c .before .before .before .before .before .before .before .before .before .before .before .before .before .before .before .before .before .before .before .pre .0) _ _ _ _ (c .before .before .before .before .before .before .before .before .before .before .before .before .before .before .before .before .before .before .before .pre .1 .0) (c .before .before .before .before .before .before .before .before .before .before .before .before .before .before .before .before .before .before .before .pre .1 .1 .1 .1 .0) (c .before .before .before .before .before .before .before .before .word .ensures .0) (c .before .before .before .before .before .before .before .word2 .ensures .0)) .0) ((name-starts (c .before .before .before .before .before .before .before .before .before .before .before .before .before .before .before .before .before .before .before .pre .0) _ _ _ _ (c .before .before .before .before .before .before .before .before .before .before .before .before .before .before .before .before .before .before .before .pre .1 .0) (c .before .before .before .before .before .before .before .before .before .before .before .before .before .before .before .before .before .before .before .pre .1 .1 .1 .1 .0) (c .before .before .before .before .before .before .before .before .word .ensures .0) (c .before .before .before .before .before .before .before .word2 .ensures .0)) .1) (omega (arith, c .before .before .before .before .before .before .loop .inv .0)) (omega (arith, c .before .before .before .before .before .before .loop .inv .0, c .before .before .before .before .before .loop-test .taken)) (c .before .before .before .before .flow-value .ensures) (mail-placed _ _ _ _ _ (c .before .before .place .ensures) (c .before .before .before .mail .ensures))) in (wide-row _ _ _ (c .before .before .before .before .before .before .before .before .before .before .before .before .before .letter-width .ensures) (c .before .before .before .before .before .before .loop .inv .3 .row), entry-room _ _ _ _ (c .before .before .before .before .before .before .before .before .before .before .before .before .before .before .before .before .before .before .before .pre .1 .1 .1 .0) _ _ _ _ (c .before .before .before .before .before .before .before .before .before .before .before .before .before .letter-width .ensures) (entry-number _ _ _ _ (c .before .entry-set .ensures)) l e f)
 
 add-i : tie.Need-add-i Inv-loop μ-loop
 add-i c = search needs

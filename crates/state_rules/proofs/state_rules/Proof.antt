@@ -1,5 +1,6 @@
 use native.Mathlib.Omega.{arith}
 use mathlib.Core.Path.{refl, sym, _∙_}
+use mathlib.Core.Bool.{true}
 use borrow.Author.Needs.{needs}
 use Rattle.model.specs.Rows.{program, tag, give, call, send, spawn, case, receive, kind}
 use Rattle.rules.specs.Listed.{kind-effect}
@@ -7,6 +8,8 @@ use Rattle.rules.proofs.States.{state-head}
 use Rattle.model.specs.Rows.{tag}
 use Rattle.state_rules.proofs.Done.{state-open, quiet-done, loud-done, plain-done}
 use Rattle.state_rules.specs.Heads.{Plain}
+use Rattle.rules.proofs.Adding.{added-same}
+use Rattle.state_rules.proofs.Within.{all-pass, letters-row}
 use Rattle.state_rules.proofs.state_rules.Statement.{statement}
 use Rattle.state_rules.proofs.state_rules.Tie as tie
 
@@ -36,7 +39,7 @@ case-rules-requires : tie.Need-case-rules-requires
 case-rules-requires c κs = (c .before .before .before .before .before .before .before .before .before .before .before .before .before .before .before .pre .0 .ready, (c .before .before .before .before .before .before .before .before .before .before .before .before .before .before .before .pre .0 .ends, (c .before .before .before .before .before .before .before .before .before .before .before .before .before .before .before .pre .0 .branch-bits, ((sym (c .before .before .tag .ensures) ∙ c .before .match .keys5), ((c .before .before .before .before .before .before .before .before .before .before .before .before .before .before .before .pre .1 .0, c .before .before .before .state-location .ensures), omega (arith, c .before .before .before .before .before .before .before .before .before .before .before .before .before .before .before .pre .1 .1 .letters))))))
 
 receive-rules-requires : tie.Need-receive-rules-requires
-receive-rules-requires c κs = (c .before .before .before .before .before .before .before .before .before .before .before .before .before .before .before .before .pre .0 .ready, (c .before .before .before .before .before .before .before .before .before .before .before .before .before .before .before .before .pre .0 .ends, (c .before .before .before .before .before .before .before .before .before .before .before .before .before .before .before .before .pre .0 .class-letters, (c .before .before .before .before .before .before .before .before .before .before .before .before .before .before .before .before .pre .0 .letter-sets, (c .before .before .before .before .before .before .before .before .before .before .before .before .before .before .before .before .pre .0 .reads, (c .before .before .before .before .before .before .before .before .before .before .before .before .before .before .before .before .pre .0 .branch-bits, ((sym (c .before .before .before .tag .ensures) ∙ c .before .before .match .keys6), ((c .before .before .before .before .before .before .before .before .before .before .before .before .before .before .before .before .pre .1 .0, c .before .before .before .before .state-location .ensures), (c .before .before .before .before .before .before .before .before .before .before .before .before .before .before .before .before .pre .1 .1, (c .before .before .before .before .before .before .before .before .before .before .before .before .before .before .before .before .pre .0 .few, record { ready = c .before .before .before .before .before .before .before .before .before .before .before .before .before .before .before .before .pre .0 .ready; name-width = c .before .before .before .before .before .before .before .before .before .before .before .before .before .before .before .before .pre .0 .name-width; fitting-sets = c .before .before .before .before .before .before .before .before .before .before .before .before .before .before .before .before .pre .0 .fitting-sets; name-heads = c .before .before .before .before .before .before .before .before .before .before .before .before .before .before .before .before .pre .0 .name-heads }))))))))))
+receive-rules-requires c κs = (c .before .before .before .before .before .before .before .before .before .before .before .before .before .before .before .before .pre .0 .ready, (c .before .before .before .before .before .before .before .before .before .before .before .before .before .before .before .before .pre .0 .ends, (c .before .before .before .before .before .before .before .before .before .before .before .before .before .before .before .before .pre .0 .class-letters, (c .before .before .before .before .before .before .before .before .before .before .before .before .before .before .before .before .pre .0 .letter-sets, (c .before .before .before .before .before .before .before .before .before .before .before .before .before .before .before .before .pre .0 .reads, (c .before .before .before .before .before .before .before .before .before .before .before .before .before .before .before .before .pre .0 .branch-bits, ((sym (c .before .before .before .tag .ensures) ∙ c .before .before .match .keys6), ((c .before .before .before .before .before .before .before .before .before .before .before .before .before .before .before .before .pre .1 .0, c .before .before .before .before .state-location .ensures), (c .before .before .before .before .before .before .before .before .before .before .before .before .before .before .before .before .pre .1 .1, (c .before .before .before .before .before .before .before .before .before .before .before .before .before .before .before .before .pre .0 .few, (letters-row (c .before .before .before .before .before .before .before .before .before .before .before .before .before .before .before .before .pre .0 .letter-sets), record { ready = c .before .before .before .before .before .before .before .before .before .before .before .before .before .before .before .before .pre .0 .ready; name-width = c .before .before .before .before .before .before .before .before .before .before .before .before .before .before .before .before .pre .0 .name-width; fitting-sets = c .before .before .before .before .before .before .before .before .before .before .before .before .before .before .before .before .pre .0 .fitting-sets; name-heads = c .before .before .before .before .before .before .before .before .before .before .before .before .before .before .before .before .pre .0 .name-heads })))))))))))
 
 rest-rules-requires : tie.Need-rest-rules-requires
 rest-rules-requires c κs = (c .before .before .before .before .before .before .before .before .before .before .before .before .before .before .before .pre .0 .ready, (c .before .before .before .before .before .before .before .before .before .before .before .before .before .before .before .pre .0 .ends, ((c .before .before .before .before .before .before .before .before .before .before .before .before .before .before .before .pre .1 .0, c .before .before .before .state-location .ensures), (plain (c .before), omega (arith, c .before .before .before .before .before .before .before .before .before .before .before .before .before .before .before .pre .1 .1 .values)))))
@@ -90,7 +93,7 @@ same-length-9 c = search needs
 
 returns-6 : tie.Need-returns-6
 unfolding kind
-returns-6 c = loud-done (c .before .before .before .before .before .before .before .before .before .before .before .before .before .before .before .before .before .before .before .before .before .pre .0 .ready) (c .before .before .before .before .before .before .before .before .before .before .before .before .before .before .before .before .before .before .before .before .before .args .i) _ _ (c .before .before .before .before .before .before .before .before .before .state-location .ensures) _ (c .before .before .before .before .before .before .before .before .before .before .before .before .before .before .before .before .before .before .before .before .before .args .others .now) _ _ (c .before .before .before .before .before .before .before .before .before .before .before .before .before .before .before .before .before .before .before .before .before .pre .1 .1 .alike) receive (rw (sym (c .before .before .before .before .before .before .before .before .tag .ensures) ∙ c .before .before .before .before .before .before .before .match .keys6)) (c .before .before .before .before .receive-rules .ensures)
+returns-6 c = loud-done (c .before .before .before .before .before .before .before .before .before .before .before .before .before .before .before .before .before .before .before .before .before .pre .0 .ready) (c .before .before .before .before .before .before .before .before .before .before .before .before .before .before .before .before .before .before .before .before .before .args .i) _ _ (c .before .before .before .before .before .before .before .before .before .state-location .ensures) _ (c .before .before .before .before .before .before .before .before .before .before .before .before .before .before .before .before .before .before .before .before .before .args .others .now) _ _ (c .before .before .before .before .before .before .before .before .before .before .before .before .before .before .before .before .before .before .before .before .before .pre .1 .1 .alike) receive (rw (sym (c .before .before .before .before .before .before .before .before .tag .ensures) ∙ c .before .before .before .before .before .before .before .match .keys6)) (added-same receive _ _ 0 _ _ _ _ _ (c .before .before .before .before .receive-rules .ensures (λ x. true) (record { has = λ y l. refl })) (λ e. all-pass _))
 
 same-length-10 : tie.Need-same-length-10
 same-length-10 c = search needs
