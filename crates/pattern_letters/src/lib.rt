@@ -290,7 +290,7 @@ fn leave_letters(
 // The letters of class c that the branch whose pattern stands at row q reads: of each value of the class's mail that it
 // may match those that it leaves, so that arguments of different values are never mixed. A value without letters is
 // passed over before its arguments are looked at.
-pub fn read_letters(
+fn read_letters(
     ws: &[u16],
     s: Sizes,
     afters: &[u16],

@@ -541,8 +541,8 @@ pub fn rules_within(
         Rules-within (program (now (ws .entry)) s) (tables (now (ws .entry)) s) f i (now (tos .exit))
         (now (others .exit)) n) ⌝ }
 {
-    let r = state_location(ws, s, i);
-    if tag(ws, s, r) != TAG_RECEIVE {
+    let row = state_location(ws, s, i);
+    if tag(ws, s, row) != TAG_RECEIVE {
         return state_rules(
             ws,
             s,
@@ -572,7 +572,7 @@ pub fn rules_within(
         branches,
         at,
         i,
-        r,
+        row,
         true,
         within,
         tos,

@@ -93,6 +93,13 @@ pub fn leaking(system: &System) -> Vec<Limits> {
     bounds
 }
 
+/// As `leaking`, with a limit at the first counter in every bound that holds it.
+pub fn limited(system: &System) -> Vec<Limits> {
+    let mut bounds = leaking(system);
+    bounds.iter_mut().filter(|limits| limits[0] > 0).for_each(|limits| limits[0] = 5);
+    bounds
+}
+
 /// As many entries as may be: wide bounds, each below the next in one counter.
 pub fn wide(system: &System) -> Vec<Limits> {
     let n = system.counters();

@@ -86,6 +86,12 @@ pub fn hostile() -> Result<Vec<Sample>, String> {
             13,
             counters(bounds::leaking),
         )?,
+        sample(
+            "long-counters-limited",
+            "the same as long-counters-leak, with a limit at the start in every ceiling, so that no test settles a state",
+            13,
+            counters(bounds::limited),
+        )?,
         sample("long-counters-wide", "seven ceilings of all 1,024 counters", 0, counters(bounds::wide))?,
     ])
 }

@@ -5,7 +5,6 @@ use borrow.Author.Needs.{needs}
 use Rattle.model.specs.Rows.{program, tag, give, call, send, spawn, case, receive, kind}
 use Rattle.rules.specs.Listed.{kind-effect}
 use Rattle.rules.proofs.States.{state-head}
-use Rattle.model.specs.Rows.{tag}
 use Rattle.state_rules.proofs.Done.{state-open, quiet-done, loud-done, plain-done}
 use Rattle.state_rules.specs.Heads.{Plain}
 use Rattle.rules.proofs.Adding.{added-same}
