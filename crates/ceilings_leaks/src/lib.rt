@@ -156,7 +156,8 @@ pub fn fill_groups(
     Gathered { totals, kept }
 }
 
-// The letters that ceiling k holds, as a set, where they are asked for.
+// The letters that ceiling k holds, as a set, where they are asked for. Else nothing is promised of the set, nor ever
+// of bits behind the last letter: no one reads them.
 fn held_letters(
     asked: bool,
     s: Sizes,

@@ -352,7 +352,8 @@ fn case_rules(
     n
 }
 
-// Takes from set 0 what the set `within` does not have, where only letters of that set are asked for.
+// Takes from set 0 what the set `within` does not have, where only letters of that set are asked for. `part` is
+// scratch, of which nothing is promised afterwards.
 fn keep_within(narrow: bool, within: &[u64], words: usize, part: &mut [u64], found: &mut [u64])
     requires { ⌜ Row (now within) words 0 ⌝ }
     requires { ⌜ Row (now part) words 0 ⌝ }
