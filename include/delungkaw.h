@@ -11,7 +11,8 @@ extern "C" {
 #endif
 
 /* The numbers of the verdict, by their words in documents 01 and 02. The refusals are checked in this order, each over the whole message; lengths
- * and sizes go together, part by part. The place of a refusal is a word of the message, 16 bits each, counted from 0. */
+ * and sizes go together, part by part. A message has lines of weights in its ceilings' place or not: 16 to 18 are checked in place of 10 to 13.
+ * The place of a refusal is a word of the message, 16 bits each, counted from 0. */
 enum delungkaw_verdict {
     DELUNGKAW_SAFE = 0,             /* The message is sound. The place is 0. */
     DELUNGKAW_LENGTH = 1,           /* A part is not whole, or bytes remain. */
@@ -28,6 +29,9 @@ enum delungkaw_verdict {
     DELUNGKAW_START = 11,           /* No ceiling holds the start. */
     DELUNGKAW_MET = 12,             /* A ceiling allows a bad. */
     DELUNGKAW_LEAK = 13,            /* From counts under a ceiling a rule leads out of all ceilings. */
+    DELUNGKAW_WEIGHTS = 16,         /* The lines of weights do not fit. */
+    DELUNGKAW_RISE = 17,            /* A rule raises a line's weighed sum. */
+    DELUNGKAW_LIGHT = 18,           /* No line weighs a bad above the start. */
     DELUNGKAW_SPACE = 14            /* The system needs more words than were lent. The place is how many it needs. */
 };
 

@@ -8,6 +8,8 @@ use crate::program::Program;
 use crate::store::ValueId;
 use crate::system::{Effect, Rule, System};
 use crate::tables::Tables;
+use crate::verify::Read;
+use crate::weights::Weights;
 
 /// A whole number without limit for each counter (64 bits outlast any run here).
 #[derive(Clone, Debug, PartialEq, Eq)]
@@ -39,6 +41,11 @@ impl Counts {
 
     pub fn under_one(&self, bounds: &Bounds) -> bool {
         bounds.limits.iter().any(|limits| self.under(limits))
+    }
+
+    /// Their sum in a line.
+    pub fn weighed(&self, line: &[u16]) -> u64 {
+        self.0.iter().zip(line).map(|(&count, &weight)| count * weight as u64).sum()
     }
 
     /// True if every item is met.
@@ -97,13 +104,29 @@ pub fn meets(machine: &Machine, bad: &Bad) -> bool {
     bad.items.iter().all(|item| count(item) >= item.minimum as usize)
 }
 
-/// A station beside its counters, and the bounds where it is safe.
+/// The evidence of a safe message.
+#[derive(Clone, Copy)]
+pub enum Safe<'a> {
+    Bounds(&'a Bounds),
+    Weights(&'a Weights),
+}
+
+impl<'a> Safe<'a> {
+    /// That of a message that was found safe.
+    pub fn of(read: &'a Read) -> Option<Safe<'a>> {
+        let weights = read.weights.as_ref().map(Safe::Weights);
+        weights.or_else(|| read.bounds.as_ref().map(Safe::Bounds))
+    }
+}
+
+/// A station beside its counters, and the evidence where it is safe.
 pub struct Beside<'a> {
     pub machine: Machine<'a>,
     pub counts: Counts,
     pub tables: &'a Tables,
     pub system: &'a System,
-    bounds: Option<&'a Bounds>,
+    safe: Option<Safe<'a>>,
+    start: Counts,
     bads: Vec<Sums>,
 }
 
@@ -112,7 +135,7 @@ impl<'a> Beside<'a> {
         program: &'a Program,
         tables: &'a Tables,
         system: &'a System,
-        bounds: Option<&'a Bounds>,
+        safe: Option<Safe<'a>>,
         bads: &[Bad],
     ) -> Option<Beside<'a>> {
         let start = tables.state(program.opening())?;
@@ -121,7 +144,8 @@ impl<'a> Beside<'a> {
             counts: Counts::start(system, start),
             tables,
             system,
-            bounds,
+            safe,
+            start: Counts::start(system, start),
             bads: bads.iter().map(|bad| bounds::bad_sums(tables, system, bad)).collect(),
         })
     }
@@ -137,25 +161,45 @@ impl<'a> Beside<'a> {
     /// The counters use the rule of a step that the station took; gives the rule.
     pub fn follow(&mut self, step: &Step) -> Result<usize, String> {
         let rule = rule_of(step, self.tables, self.system).ok_or_else(|| format!("no rule for {step:?}"))?;
-        match self.counts.apply(&self.system.rules[rule]) {
-            true => Ok(rule),
-            false => Err(format!("rule {rule} can't be used in its turn")),
+        let before = self.weighed(&self.counts);
+        if !self.counts.apply(&self.system.rules[rule]) {
+            return Err(format!("rule {rule} can't be used in its turn"));
         }
+        let after = self.weighed(&self.counts);
+        match after.iter().zip(&before).position(|(after, before)| after > before) {
+            Some(line) => Err(format!("rule {rule} raises line {line}")),
+            None => Ok(rule),
+        }
+    }
+
+    /// The sums that the lines weigh, where the evidence is weights.
+    pub fn weighed(&self, counts: &Counts) -> Vec<u64> {
+        let Some(Safe::Weights(weights)) = self.safe else { return Vec::new() };
+        weights.lines.iter().map(|line| counts.weighed(line)).collect()
     }
 
     /// Demand 3 for the counts as they stand, and that no mailbox directly holds a function ((x) of 02); of a station
     /// that is not safe, that the counts are equal.
     pub fn check(&self) -> Result<(), String> {
-        if self.bounds.is_some() && holds_function(&self.machine) {
+        if self.safe.is_some() && holds_function(&self.machine) {
             return Err("a mailbox directly holds a function".to_string());
         }
         let station = station_counts(&self.machine, self.tables, self.system);
         if station.as_ref() != Some(&self.counts) {
             return Err(format!("the station counts {station:?}, the counters {:?}", self.counts));
         }
-        let Some(bounds) = self.bounds else { return Ok(()) };
-        if !self.counts.under_one(bounds) {
-            return Err(format!("counts {:?} lie under no ceiling", self.counts));
+        match self.safe {
+            None => return Ok(()),
+            Some(Safe::Bounds(bounds)) if !self.counts.under_one(bounds) => {
+                return Err(format!("counts {:?} lie under no ceiling", self.counts));
+            }
+            Some(Safe::Bounds(_)) => {}
+            Some(Safe::Weights(_)) => {
+                let (now, start) = (self.weighed(&self.counts), self.weighed(&self.start));
+                if now.iter().zip(&start).any(|(now, start)| now > start) {
+                    return Err(format!("counts {:?} weigh more than the start", self.counts));
+                }
+            }
         }
         match self.bads.iter().flatten().position(|items| self.counts.meet(items)) {
             Some(bad) => Err(format!("counts {:?} meet bad {bad}", self.counts)),
@@ -180,9 +224,9 @@ impl<'a> Beside<'a> {
 pub fn check_demand_3(message: &[u8], numbers: &[usize]) -> Result<Vec<usize>, String> {
     let mut read = crate::verify::Read::default();
     crate::verify::inspect(message, &mut read).map_err(|r| format!("refused {} at {}", r.number, r.position))?;
-    match (&read.program, &read.tables, &read.system, &read.bounds, &read.bads) {
-        (Some(program), Some(tables), Some(system), Some(bounds), Some(bads)) => {
-            let beside = Beside::new(program, tables, system, Some(bounds), bads);
+    match (&read.program, &read.tables, &read.system, Safe::of(&read), &read.bads) {
+        (Some(program), Some(tables), Some(system), Some(safe), Some(bads)) => {
+            let beside = Beside::new(program, tables, system, Some(safe), bads);
             beside.ok_or("no starting state")?.run(numbers)
         }
         _ => Err("not all parts were read".to_string()),

@@ -1,4 +1,4 @@
-//! Puts evidence behind a program: tables, then bounds (01: ceilings).
+//! Puts evidence behind a program: tables, then bounds (01: ceilings) or weights.
 
 use crate::analysis::Analysis;
 use crate::bads::{self, Bad};
@@ -12,6 +12,7 @@ use crate::reader;
 use crate::refusal::Refusal;
 use crate::system::{self, System};
 use crate::tables::Tables;
+use crate::weights::Line;
 
 fn columns(pairs: &[(usize, usize)]) -> Columns {
     Columns {
@@ -31,6 +32,8 @@ pub fn lay_out(m: &mut Message) {
     m.tables.at = m.tables_at + 3;
     m.bounds_at = m.tables.at + 2 * m.tables.len() + m.returns.len();
     m.entries.at = m.bounds_at + 2;
+    m.weights_at = m.entries.at + 2 * m.entries.len();
+    m.weights.at = m.weights_at + 2;
 }
 
 /// A message of rows and bad rows, without tables and bounds.
@@ -103,7 +106,27 @@ pub fn put_bounds(m: &mut Message, limits: &[Limits]) {
         entries.extend(held.map(|(counter, &limit)| (counter, limit as usize)));
         entries.push((bound.len(), 0));
     }
+    (m.weighed, m.lines, m.weights) = (false, 0, Columns::default());
     m.bounds = limits.len();
     m.entries = columns(&entries);
+    lay_out(m);
+}
+
+/// Entries of lines of weights, each closed by the count of all counters.
+pub fn weight_entries(lines: &[Line]) -> Vec<(usize, usize)> {
+    let mut entries = Vec::new();
+    for line in lines {
+        let held = line.iter().enumerate().filter(|&(_, &weight)| weight > 0);
+        entries.extend(held.map(|(counter, &weight)| (counter, weight as usize)));
+        entries.push((line.len(), 0));
+    }
+    entries
+}
+
+/// Puts weights into a message, in place of bounds.
+pub fn put_weights(m: &mut Message, lines: &[Line]) {
+    (m.bounds, m.entries) = (0, Columns::default());
+    (m.weighed, m.lines) = (true, lines.len());
+    m.weights = columns(&weight_entries(lines));
     lay_out(m);
 }

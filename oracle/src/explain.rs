@@ -2,7 +2,7 @@
 
 use crate::analysis::Analysis;
 use crate::bads::Bad;
-use crate::bounds::{Bounds, item_counters};
+use crate::bounds::{Bounds, bad_sums, item_counters};
 use crate::letters;
 use crate::limits;
 use crate::message::{Columns, Message};
@@ -13,6 +13,7 @@ use crate::symbols::Symbols;
 use crate::system::Rule;
 use crate::text::words::Words;
 use crate::verify::{Read, verify_in_detail};
+use crate::weights::least_weight;
 use crate::wrap::wrapped;
 
 /// The verdict of a message for a person, with so many words lent, and its number. Lines are under 100 characters.
@@ -37,17 +38,17 @@ fn safe(read: &Read, symbols: Option<&Symbols>, part: usize) -> String {
     let (states, letters) = system.map_or((0, 0), |s| (s.states, s.letters.len()));
     let rules = system.map_or(0, |s| s.rules.len());
     let bounds = read.bounds.as_ref().map_or(0, |b| b.limits.len());
+    let held = match read.weights.as_ref().map(|weights| weights.lines.len()) {
+        Some(1) => "the weighed sum of 1 line never rises, and every bad weighs more than the start.".to_string(),
+        Some(n) => format!("the weighed sums of {n} lines never rise, and every bad weighs more than the start."),
+        None if bounds == 1 => "1 ceiling holds every count a run can reach.".to_string(),
+        None => format!("{bounds} ceilings hold every count a run can reach."),
+    };
     let bads = (0..read.bads.as_ref().map_or(0, Vec::len)).filter_map(|bad| symbols.map(|s| s.bad(bad)));
     let bads: Vec<String> = bads.collect();
     wrapped("", &format!("0 (safe): no run of this station meets {}.", bads.join(" or ")))
         + &wrapped("", &format!("The loader gets the program's {part} bytes."))
-        + &wrapped(
-            "",
-            &format!(
-                "The system has {states} states, {letters} letters and {rules} rules; {} every count a run can reach.",
-                if bounds == 1 { "1 ceiling holds".to_string() } else { format!("{bounds} ceilings hold") }
-            ),
-        )
+        + &wrapped("", &format!("The system has {states} states, {letters} letters and {rules} rules; {held}"))
 }
 
 struct Explainer<'a> {
@@ -64,6 +65,9 @@ pub fn trade_word(number: u32) -> &'static str {
         "met", "leak", "space",
     ];
     match number {
+        refusal::WEIGHTS => "weights",
+        refusal::RISE => "rise",
+        refusal::LIGHT => "light",
         refusal::FUNCTION_MAILED => "function mailed",
         _ => WORDS.get(number as usize).copied().unwrap_or("unknown"),
     }
@@ -87,6 +91,9 @@ impl Explainer<'_> {
             refusal::START => self.start(),
             refusal::MET => self.met(),
             refusal::LEAK => self.leak(),
+            refusal::WEIGHTS => self.weights(),
+            refusal::RISE => self.rise(),
+            refusal::LIGHT => self.light(),
             _ => self.space(),
         };
         let word = trade_word(r.number);
@@ -116,7 +123,7 @@ impl Explainer<'_> {
     fn length(&self) -> (String, String, String) {
         let place = format!("word {} of a message of {} bytes", self.refusal.position, self.bytes.len());
         let what = match self.refusal.detail {
-            Detail::Wanted("the end of the message") => format!("{place}: the ceilings end here, but bytes follow"),
+            Detail::Wanted("the end of the message") => format!("{place}: the last part ends here, but bytes follow"),
             _ => format!("{place}: the part that begins here is not whole"),
         };
         (
@@ -335,6 +342,55 @@ impl Explainer<'_> {
         (what, wanted, to_do.to_string())
     }
 
+    fn weights(&self) -> (String, String, String) {
+        let what = self.message().map_or(String::new(), |m| self.entry_words("weight entry", &m.weights));
+        let count = self.read.system.as_ref().map_or(0, |s| s.counters());
+        let to_do = format!("within a line counters rise and weights lie from 1 to 1,000; ({count}, 0) closes it");
+        (what, self.wanted(), to_do)
+    }
+
+    fn rise(&self) -> (String, String, String) {
+        let Detail::Rise { line, rule } = self.refusal.detail else { return Default::default() };
+        let Read { tables: Some(tables), system: Some(system), weights: Some(weights), .. } = self.read else {
+            return Default::default();
+        };
+        let Some(symbols) = self.symbols else { return Default::default() };
+        let used = &system.rules[rule];
+        let weight = |counter: usize| {
+            format!("{} weighs {}", symbols.counter(tables, system, counter), weights.lines[line][counter])
+        };
+        let counters = [Some(used.from), used.read(), Some(used.to), used.adds()].into_iter().flatten();
+        let words: Vec<String> = counters.map(weight).collect();
+        let rule_words = symbols.rule(tables, system, used);
+        (
+            format!("line {line}: rule {rule}, {rule_words}, raises its sum: {}", words.join(", ")),
+            "no rule that puts more weight than it takes".to_string(),
+            "weigh what is put less, or what is taken more; every line must hold, used or not".to_string(),
+        )
+    }
+
+    fn light(&self) -> (String, String, String) {
+        let Detail::Light { bad } = self.refusal.detail else { return Default::default() };
+        let Read { tables: Some(tables), system: Some(system), weights: Some(weights), .. } = self.read else {
+            return Default::default();
+        };
+        let (Some(symbols), Some(bads), Some(program)) = (self.symbols, &self.read.bads, &self.read.program) else {
+            return Default::default();
+        };
+        let start = tables.state(program.opening()).unwrap_or(0);
+        let items = bad_sums(tables, system, &bads[bad]).unwrap_or_default();
+        let weighed = weights.lines.iter().enumerate();
+        let weighed = weighed.map(|(i, line)| {
+            format!("line {i} weighs it {} and the start {}", least_weight(line, &items), line[start])
+        });
+        let words: Vec<String> = bads[bad].items.iter().map(|item| symbols.item(item)).collect();
+        (
+            format!("{}, {}: {}", symbols.bad(bad), words.join(" and "), weighed.collect::<Vec<_>>().join(", ")),
+            "a line that weighs the bad above the start".to_string(),
+            "add such a line; where there is none, use ceilings, or the bad can be met".to_string(),
+        )
+    }
+
     fn space(&self) -> (String, String, String) {
         let lent = match self.refusal.detail {
             Detail::Counted(lent) => lent,
@@ -442,6 +498,8 @@ fn limits_in_words() -> String {
         size("S", STATES),
         size("K", BOUNDS),
         size("ceiling entries", BOUND_ENTRIES),
+        size("W", LINES),
+        size("weight entries", WEIGHT_ENTRIES),
     ];
     sizes.join(", ")
 }

@@ -38,4 +38,5 @@ pub mod system;
 pub mod tables;
 pub mod text;
 pub mod verify;
+pub mod weights;
 pub mod wrap;

@@ -27,6 +27,10 @@ pub const MAIL: Limit = (0, 512);
 pub const STATES: Limit = PRESENT.states;
 pub const BOUNDS: Limit = (0, 256);
 pub const BOUND_ENTRIES: Limit = (0, 8192);
+/// Lines of weights and their entries, and a weight.
+pub const LINES: Limit = (1, 16);
+pub const WEIGHT_ENTRIES: Limit = (0, 8192);
+pub const WEIGHT: Limit = (1, 1000);
 pub const BRANCHES: Limit = (1, 16);
 
 /// Most counters of a derived system.
@@ -41,7 +45,7 @@ pub const UNBOUNDED: u16 = 65_535;
 pub const LENT: usize = 16_384;
 /// More words than the largest system here needs.
 pub const PLENTY: usize = 1 << 21;
-/// Bytes of the longest legal message: the four parts at their largest.
+/// Bytes of the longest legal message: four parts at their largest, the ceilings' sizes 0, and weights at their largest.
 pub const LONGEST: usize = 2
     * (4 + 2 * most(ROWS)
         + 2
@@ -50,7 +54,8 @@ pub const LONGEST: usize = 2
         + 2 * (most(FLOW) + most(MAIL) + most(STATES))
         + most(STATES)
         + 2
-        + 2 * most(BOUND_ENTRIES));
+        + 2
+        + 2 * most(WEIGHT_ENTRIES));
 
 const fn most(limit: Limit) -> usize {
     limit.1 as usize

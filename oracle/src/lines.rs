@@ -4,120 +4,124 @@
 //! then no run meets it. What is looked for are weights whose sum is 1 and for which the bad weighs as much as may be above
 //! the start, by the simplex method, in floating numbers; what is found is made whole and checked exactly.
 
-use crate::bounds::{Sum, Sums};
+use crate::bounds::Sum;
 use crate::explore::{Limits, Net};
-use crate::limits::UNBOUNDED;
-use crate::system::Rule;
+use crate::limits::{self, UNBOUNDED};
+use crate::weights::{Line, Needed, change, least_weight, needed};
 use std::collections::{BTreeMap, BTreeSet};
 
-/// A weight for each counter.
-pub type Line = Vec<u16>;
-
-/// The greatest weight.
-pub const HEAVIEST: u16 = 1000;
 /// Constraints times unknowns that are tried at most, for each unit of the budget.
 const CELLS_EACH: usize = 30;
 /// Steps of the simplex method that are tried at most, for each unknown and each constraint.
 const STEPS_EACH: usize = 4;
+/// Steps times cells of the table.
+const MOST_WORK: usize = 4_000_000_000;
+/// How often all weights are gone through to make them lighter.
+const LIGHTENED: usize = 20;
 /// What a floating number must differ from 0 by.
 const TINY: f64 = 1e-9;
 /// How weights are made whole: the least one that is not 0 becomes one of 1 to this.
 const MOST_LEAST: usize = 60;
 
-/// What a rule adds to a weighed sum.
-pub fn change(line: &[u16], rule: &Rule) -> i32 {
-    let weight = |counter: usize| line[counter] as i32;
-    let put = weight(rule.to) + rule.adds().map_or(0, weight);
-    put - weight(rule.from) - rule.read().map_or(0, weight)
-}
-
-/// The least weight of counts that meet every item: the greatest minimum on each single counter, and for each group of
-/// counters what is still missing, at its lightest one.
-pub fn least_weight(line: &[u16], items: &[Sum]) -> u64 {
-    let Needed { singles, groups } = needed(items);
-    let single = singles.iter().map(|(&counter, &minimum)| line[counter] as u64 * minimum);
-    let lightest = |counters: &[usize]| counters.iter().map(|&c| line[c] as u64).min().unwrap_or(0);
-    let group = groups.iter().map(|(counters, missing)| lightest(counters) * missing);
-    single.chain(group).sum()
-}
-
-/// What the items of a bad come to.
-struct Needed {
-    /// The greatest minimum on each single counter.
-    singles: BTreeMap<usize, u64>,
-    /// Groups of counters, and what is missing of them beside the single ones.
-    groups: Vec<(Vec<usize>, u64)>,
-}
-
-/// Of two items either one lies in the other or they are apart.
-fn needed(items: &[Sum]) -> Needed {
-    let (mut singles, mut wide) = (BTreeMap::new(), BTreeMap::new());
-    for item in items {
-        let minimum = item.minimum as u64;
-        let least: &mut u64 = match item.counters.len() {
-            1 => singles.entry(item.counters.start).or_default(),
-            _ => wide.entry((item.counters.start, item.counters.end)).or_default(),
-        };
-        *least = minimum.max(*least);
-    }
-    let missing = |((start, end), minimum): ((usize, usize), u64)| {
-        let held: u64 = singles.range(start..end).map(|(_, &single)| single).sum();
-        ((start..end).collect(), minimum.saturating_sub(held))
-    };
-    let groups = wide.into_iter().map(missing).collect();
-    Needed { singles, groups }
-}
-
 /// True if no rule raises the line's sum.
-pub fn never_rises(net: &Net, line: &[u16]) -> bool {
+fn never_rises(net: &Net, line: &[u16]) -> bool {
     net.system.rules.iter().all(|rule| change(line, rule) <= 0)
 }
 
-/// True if the line settles a bad: it weighs more than the start, or has an item that is never met.
-pub fn settles(net: &Net, line: &[u16], bad: &Sums) -> bool {
-    bad.as_ref().is_none_or(|items| least_weight(line, items) > line[net.start] as u64)
-}
-
 /// Lines that settle every bad between them: one for all of them if there is one, else one for each that the others do
-/// not settle. Or a word on what was tried.
-pub fn find(net: &Net, budget: usize) -> Result<Vec<Line>, String> {
+/// not settle. Or what was tried for the first bad without one.
+pub fn find(net: &Net, budget: usize) -> Result<Vec<Line>, Tried> {
     let all: Vec<&[Sum]> = net.bads.iter().flatten().map(Vec::as_slice).collect();
-    if let Some(line) = find_for(net, &all, budget)? {
+    if all.is_empty() {
+        return Ok(vec![vec![0; net.system.counters()]]);
+    }
+    if let Ok(line) = find_for(net, &all, budget) {
         return Ok(vec![line]);
     }
     let mut lines: Vec<Line> = Vec::new();
-    for (i, bad) in net.bads.iter().enumerate() {
-        if lines.iter().any(|line| settles(net, line, bad)) {
+    for (bad, items) in net.bads.iter().enumerate().filter_map(|(i, bad)| Some((i, bad.as_ref()?))) {
+        if lines.iter().any(|line| least_weight(line, items) > line[net.start] as u64) {
             continue;
         }
-        let found = find_for(net, &bad.iter().map(Vec::as_slice).collect::<Vec<_>>(), budget)?;
-        lines.push(found.ok_or_else(|| format!("no weights at all settle bad {i}"))?);
+        lines.push(find_for(net, &[items], budget).map_err(|why| Tried { bad, why })?);
     }
     Ok(lines)
 }
 
-/// One line that settles all these bads, if there is one; a word if that is too much to try.
-fn find_for(net: &Net, bads: &[&[Sum]], budget: usize) -> Result<Option<Line>, String> {
+/// The bad that no line was found for, and why.
+#[derive(Clone, Debug, PartialEq, Eq)]
+pub struct Tried {
+    pub bad: usize,
+    pub why: Why,
+}
+
+#[derive(Clone, Copy, Debug, PartialEq, Eq)]
+pub enum Why {
+    /// As far as the simplex method tells, no weights at all that no rule raises weigh it above the start.
+    NoSum,
+    /// There are such weights, but none was found that are whole and no more than 1,000.
+    NotWhole,
+    /// So many constraints on so many weights are more than the budget allows.
+    TooMany(usize, usize),
+    /// The simplex method was not done after so many steps.
+    TooLong(usize),
+    /// With a line for it all lines have so many entries, more than a message holds.
+    ManyEntries(usize),
+}
+
+/// One line that settles all these bads, or why none was found.
+fn find_for(net: &Net, bads: &[&[Sum]], budget: usize) -> Result<Line, Why> {
     let problem = Problem::new(net, bads);
     let cells = problem.rows.len() * problem.unknowns;
     if cells > CELLS_EACH * budget {
-        return Err(format!("{} constraints on {} weights are too many to try", problem.rows.len(), problem.unknowns));
+        return Err(Why::TooMany(problem.rows.len(), problem.unknowns));
     }
-    let Some(found) = problem.solve() else { return Ok(None) };
+    let found = problem.solve()?;
     let weights = &found[..net.system.counters()];
     let whole = (1..=MOST_LEAST).filter_map(|least| made_whole(weights, least));
-    let fits = |line: &Line| {
-        never_rises(net, line) && bads.iter().all(|items| least_weight(line, items) > line[net.start] as u64)
-    };
-    Ok(whole.into_iter().find(fits))
+    let line = whole.into_iter().find(|line| never_rises(net, line) && settles_all(net, line, bads));
+    line.map(|line| lightened(net, line, bads)).ok_or(Why::NotWhole)
+}
+
+fn settles_all(net: &Net, line: &[u16], bads: &[&[Sum]]) -> bool {
+    bads.iter().all(|items| least_weight(line, items) > line[net.start] as u64)
+}
+
+/// The same line with less weight where it needs none: every weight in turn as low as the rules that take from its
+/// counter allow, while all the bads stay settled.
+fn lightened(net: &Net, mut line: Line, bads: &[&[Sum]]) -> Line {
+    let mut taking: Vec<Vec<usize>> = vec![Vec::new(); line.len()];
+    for (i, rule) in net.system.rules.iter().enumerate() {
+        [Some(rule.from), rule.read()].into_iter().flatten().for_each(|counter| taking[counter].push(i));
+    }
+    for _ in 0..LIGHTENED {
+        let mut still = true;
+        for counter in 0..line.len() {
+            let weight = line[counter];
+            let room = |&i: &usize| -change(&line, &net.system.rules[i]);
+            let spare = taking[counter].iter().map(room).min().unwrap_or(weight as i32).min(weight as i32);
+            for less in [spare, 1] {
+                line[counter] = weight - less.min(spare).max(0) as u16;
+                if line[counter] < weight && settles_all(net, &line, bads) {
+                    still = false;
+                    break;
+                }
+                line[counter] = weight;
+            }
+        }
+        if still {
+            break;
+        }
+    }
+    line
 }
 
 /// Weights in proportion, the least that is not 0 as this number.
 fn made_whole(weights: &[f64], least: usize) -> Option<Line> {
-    let smallest = weights.iter().copied().filter(|&w| w > 1e-6).fold(f64::INFINITY, f64::min);
+    let smallest = weights.iter().copied().filter(|&w| w > TINY).fold(f64::INFINITY, f64::min);
     let whole = |&weight: &f64| (weight * least as f64 / smallest).round();
     let line: Vec<f64> = weights.iter().map(whole).collect();
-    line.iter().all(|&w| w <= HEAVIEST as f64).then(|| line.iter().map(|&w| w as u16).collect())
+    line.iter().all(|&w| w <= limits::WEIGHT.1 as f64).then(|| line.iter().map(|&w| w as u16).collect())
 }
 
 /// Most of an unknown under constraints `row . x <= limit`, limits not below 0, all unknowns from 0: the counters'
@@ -162,20 +166,30 @@ impl Problem {
     }
 
     /// The unknowns where the last one is greatest, if that is above 0. The limits are made a little wider, each by
-    /// another bit, so that no step stands still.
-    fn solve(&self) -> Option<Vec<f64>> {
+    /// another bit, so that no step stands still; what is found is told by the limits as they are.
+    fn solve(&self) -> Result<Vec<f64>, Why> {
         let mut table = Table::new(self);
-        for _ in 0..STEPS_EACH * (self.unknowns + self.rows.len()) {
-            let Some(column) = table.entering() else { break };
-            let row = table.leaving(column)?;
+        let steps = STEPS_EACH * (self.unknowns + self.rows.len());
+        let steps = steps.min(MOST_WORK / (self.unknowns * self.rows.len()));
+        let mut done = false;
+        for _ in 0..steps {
+            let Some(column) = table.entering() else {
+                done = true;
+                break;
+            };
+            let row = table.leaving(column).ok_or(Why::NoSum)?;
             table.pivot(row, column);
         }
         let found = table.unknowns(self.unknowns);
-        (found[self.unknowns - 1] > 1e-6).then_some(found)
+        match found[self.unknowns - 1] > TINY {
+            true => Ok(found),
+            false => Err(if done { Why::NoSum } else { Why::TooLong(steps) }),
+        }
     }
 }
 
-/// The constraints solved for the unknowns in `basis`, as in Dantzig's tableau; the last row is what shall grow.
+/// The constraints solved for the unknowns in `basis`, as in Dantzig's tableau; the last row is what shall grow, the last
+/// two columns are the limits as they are and a little wider.
 struct Table {
     width: usize,
     cells: Vec<f64>,
@@ -187,12 +201,13 @@ struct Table {
 impl Table {
     fn new(problem: &Problem) -> Table {
         let (n, m) = (problem.unknowns, problem.rows.len());
-        let width = n + 1;
+        let width = n + 2;
         let mut cells = vec![0.0; (m + 1) * width];
         for (i, (row, limit)) in problem.rows.iter().enumerate() {
             row.iter().for_each(|&(c, value)| cells[i * width + c] = value);
             let bit = ((i as u64 + 1).wrapping_mul(0x9E37_79B9_7F4A_7C15) >> 40) as f64 / (1u64 << 24) as f64;
-            cells[i * width + n] = limit + 1e-7 * (0.5 + bit);
+            cells[i * width + n] = *limit;
+            cells[i * width + n + 1] = limit + 1e-7 * (0.5 + bit);
         }
         cells[m * width + n - 1] = -1.0;
         Table { width, cells, basis: (n..n + m).collect(), others: (0..n).collect() }
@@ -204,7 +219,7 @@ impl Table {
 
     /// The column that makes the last row grow most.
     fn entering(&self) -> Option<usize> {
-        let last = &self.cells[self.basis.len() * self.width..][..self.width - 1];
+        let last = &self.cells[self.basis.len() * self.width..][..self.width - 2];
         let (column, value) = last.iter().enumerate().min_by(|a, b| a.1.total_cmp(b.1))?;
         (*value < -TINY).then_some(column)
     }
@@ -234,7 +249,7 @@ impl Table {
     fn unknowns(&self, count: usize) -> Vec<f64> {
         let mut found = vec![0.0; count];
         let held = self.basis.iter().enumerate().filter(|&(_, &unknown)| unknown < count);
-        held.for_each(|(row, &unknown)| found[unknown] = self.cell(row, self.width - 1));
+        held.for_each(|(row, &unknown)| found[unknown] = self.cell(row, self.width - 2));
         found
     }
 }

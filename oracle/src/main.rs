@@ -16,7 +16,7 @@ oracle explain [--lend N] [--station FILE] FILE
 oracle run [--station FILE] [--random N] [--seed S] FILE [NUMBERS...]
     a station run step by step beside its counters (N*K is K times process N). Status 1 where a bad is met
 oracle assemble [--budget N] FILE [OUT]
-    text to message, with tables and ceilings; what was found goes to standard error. Status as verify
+    text to message, with tables and weights or ceilings; what was found goes to standard error. Status as verify
 oracle disassemble FILE                message to text
 oracle fuzz SEED COUNT                 random messages through the proved code and `verify` (feature `proved`)
 oracle fuzz-naive SEED COUNT           the same messages through `verify` and a second, naive reading

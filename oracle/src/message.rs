@@ -1,4 +1,5 @@
-//! The four parts of a message: sizes and two parallel columns each (refusals 1 and 2).
+//! The parts of a message: sizes and two parallel columns each (refusals 1 and 2). There are four, or five where weights
+//! stand in place of the ceilings.
 
 use crate::limits::{self, Limit, Limits};
 use crate::refusal::{self, Refusal};
@@ -47,6 +48,11 @@ pub struct Message {
     pub bounds_at: usize,
     pub bounds: usize,
     pub entries: Columns,
+    /// True if a fifth part follows: weights in place of ceilings.
+    pub weighed: bool,
+    pub weights_at: usize,
+    pub lines: usize,
+    pub weights: Columns,
 }
 
 impl Message {
@@ -134,6 +140,13 @@ pub fn read_within(bytes: &[u8], within: &Limits) -> Result<Message, Refusal> {
     let (sizes, columns) = reader.part(&[BOUNDS, BOUND_ENTRIES], |s| s[1], |_| 0)?;
     m.bounds = sizes[0];
     m.entries = columns;
+    m.weights_at = reader.at;
+    m.weighed = m.bounds == 0 && m.entries.is_empty() && bytes.len() > 2 * reader.at;
+    if m.weighed {
+        let (sizes, columns) = reader.part(&[LINES, WEIGHT_ENTRIES], |s| s[1], |_| 0)?;
+        m.lines = sizes[0];
+        m.weights = columns;
+    }
     if bytes.len() != 2 * reader.at {
         return Err(Refusal::wanted(refusal::LENGTH, reader.at, "the end of the message"));
     }
@@ -164,5 +177,8 @@ pub fn write(m: &Message) -> Vec<u16> {
     push_part(&mut words, &[m.flow, m.mail, m.states], &m.tables);
     words.extend(&m.returns);
     push_part(&mut words, &[m.bounds, m.entries.len()], &m.entries);
+    if m.weighed {
+        push_part(&mut words, &[m.lines, m.weights.len()], &m.weights);
+    }
     words
 }

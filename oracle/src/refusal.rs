@@ -30,6 +30,15 @@ pub enum Detail {
         bound: usize,
         rule: usize,
     },
+    /// A rule that raises a line's sum.
+    Rise {
+        line: usize,
+        rule: usize,
+    },
+    /// A bad that no line weighs above the start.
+    Light {
+        bad: usize,
+    },
 }
 
 #[derive(Clone, Debug, PartialEq, Eq)]
@@ -64,11 +73,16 @@ pub const START: u32 = 11;
 pub const MET: u32 = 12;
 pub const LEAK: u32 = 13;
 pub const SPACE: u32 = 14;
+/// Of (v) in 02; they stand in place of 10 to 13.
+pub const WEIGHTS: u32 = 16;
+pub const RISE: u32 = 17;
+pub const LIGHT: u32 = 18;
 /// Of (x) in 02; checked between 8 and 9.
 pub const FUNCTION_MAILED: u32 = 22;
 
 /// Every verdict, in the order of the checks but for 0, which comes first.
-pub const VERDICTS: [u32; 16] = [0, 1, 2, 3, 4, 5, 6, 7, 8, FUNCTION_MAILED, 9, 10, 11, 12, 13, 14];
+pub const VERDICTS: [u32; 19] =
+    [0, 1, 2, 3, 4, 5, 6, 7, 8, FUNCTION_MAILED, 9, 10, 11, 12, 13, WEIGHTS, RISE, LIGHT, SPACE];
 
 /// Place of a verdict in that list.
 pub fn verdict_index(number: u32) -> Option<usize> {

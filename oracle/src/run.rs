@@ -1,7 +1,7 @@
 //! A run shown step by step: the station, and beside it the counters.
 
 use crate::bads::Bad;
-use crate::counters::{Beside, Counts, meets};
+use crate::counters::{Beside, Counts, Safe, meets};
 use crate::fuzz::rng::Rng;
 use crate::machine::{Deed, Idle, Machine, Step};
 use crate::symbols::Symbols;
@@ -41,10 +41,10 @@ pub fn show(message: &[u8], words: Option<&Words>, wanted: &Wanted) -> Result<Sh
     }
     let symbols = words.map_or_else(|| Symbols::new(program), |words| words.symbols(program, m));
     let bads = read.bads.as_deref().unwrap_or(&[]);
-    let bounds = read.bounds.as_ref().filter(|_| refusal.is_none());
+    let safe = Safe::of(&read).filter(|_| refusal.is_none());
     let station = match (&read.tables, &read.system) {
         (Some(tables), Some(system)) => {
-            let beside = Beside::new(program, tables, system, bounds, bads);
+            let beside = Beside::new(program, tables, system, safe, bads);
             Station::Beside(Box::new(beside.ok_or("no starting state")?))
         }
         _ => Station::Alone(Box::new(Machine::new(program))),
@@ -59,8 +59,14 @@ pub fn show(message: &[u8], words: Option<&Words>, wanted: &Wanted) -> Result<Sh
         done: Vec::new(),
     };
     show.run(wanted)?;
-    if bounds.is_some() {
-        show.text.push_str("demand 3 held after every number: equal counts, under one ceiling, no bad met\n");
+    match safe {
+        Some(Safe::Bounds(_)) => {
+            show.text.push_str("demand 3 held after every number: equal counts, under one ceiling, no bad met\n");
+        }
+        Some(Safe::Weights(_)) => {
+            show.text.push_str("demand 3 held after every number: equal counts, no sum ever rose, no bad met\n");
+        }
+        None => {}
     }
     Ok(Shown { met: show.ever, text: show.text })
 }
@@ -138,7 +144,9 @@ impl Show<'_> {
         let Station::Beside(beside) = &self.station else { return String::new() };
         let held = counts.0.iter().enumerate().filter(|&(_, &count)| count > 0);
         let words = held.map(|(i, count)| format!("{}={count}", self.symbols.counter(beside.tables, beside.system, i)));
-        wrapped("      counts: ", &words.collect::<Vec<_>>().join(" "))
+        let sums: Vec<String> = beside.weighed(counts).iter().map(u64::to_string).collect();
+        let sums = if sums.is_empty() { String::new() } else { wrapped("      sums: ", &sums.join(" ")) };
+        wrapped("      counts: ", &words.collect::<Vec<_>>().join(" ")) + &sums
     }
 
     /// Tells of the bads that were not met before, and checks demand 3 where it is promised.

@@ -1,4 +1,4 @@
-//! The verifier: every check of 01 in its order.
+//! The verifier: every check of 01 and 02 in its order.
 
 use crate::analysis::Analysis;
 use crate::bads::{self, Bad};
@@ -12,6 +12,7 @@ use crate::reader;
 use crate::refusal::Refusal;
 use crate::system::{self, System};
 use crate::tables::{self, Tables};
+use crate::weights::{self, Weights};
 use std::ops::Range;
 
 /// Number, place and the range of the message's bytes handed to the loader.
@@ -31,9 +32,10 @@ pub struct Read {
     pub tables: Option<Tables>,
     pub system: Option<System>,
     pub bounds: Option<Bounds>,
+    pub weights: Option<Weights>,
 }
 
-/// Checks 1 to 13 and 22, keeping what was read.
+/// Every check but 14, keeping what was read.
 pub fn inspect(bytes: &[u8], read: &mut Read) -> Result<(), Refusal> {
     inspect_within(bytes, read, &limits::PRESENT)
 }
@@ -48,11 +50,16 @@ fn inspect_within(bytes: &[u8], read: &mut Read, within: &Limits) -> Result<(), 
     crate::closed::check(message, &analysis)?;
     tables::check_mail(message, program)?;
     let system = &*read.system.insert(system::derive(message, &analysis, within.counters)?);
-    let bounds = &*read.bounds.insert(bounds::read(message, system.counters())?);
     let start = tables.state(program.opening()).unwrap_or(0);
+    let sums: Vec<_> = bads.iter().map(|bad| bounds::bad_sums(tables, system, bad)).collect();
+    if message.weighed {
+        let weights = &*read.weights.insert(weights::read(message, system.counters())?);
+        weights::check_rises(message, system, weights)?;
+        return weights::check_light(message, weights, start, bads, &sums);
+    }
+    let bounds = &*read.bounds.insert(bounds::read(message, system.counters())?);
     bounds::check_start(message, bounds, start)?;
-    let counters: Vec<_> = bads.iter().map(|bad| bounds::bad_sums(tables, system, bad)).collect();
-    bounds::check_bads(message, bounds, bads, &counters)?;
+    bounds::check_bads(message, bounds, bads, &sums)?;
     leak::check(message, system, bounds)
 }
 

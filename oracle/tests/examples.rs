@@ -28,7 +28,7 @@ fn each_stands_in_the_list_of_examples() {
     there.sort();
     listed.sort();
     assert_eq!(there, listed);
-    assert_eq!(examples().len(), 18);
+    assert_eq!(examples().len(), 21);
 }
 
 #[test]

@@ -17,6 +17,10 @@ fn the_two_verifiers_agree_and_every_verdict_is_seen() {
     assert!(10 * tally.summed >= tally.total(), "bads that ask there: {}", tally.words());
     assert!(10 * tally.several_heads >= tally.total(), "arguments of several heads: {}", tally.words());
     assert!(10 * tally.named_heads >= tally.total(), "bads that name heads: {}", tally.words());
+    assert!(5 * tally.weighed >= tally.total(), "weights: {}", tally.words());
+    assert!(20 * tally.several_lines >= tally.total(), "several lines: {}", tally.words());
+    assert!(20 * tally.overlapping >= tally.total(), "items on the same counters: {}", tally.words());
+    assert!(500 * tally.past_32_bits >= tally.total(), "totals past 32 bits: {}", tally.words());
 }
 
 /// `verify` with a change to what it says or writes.

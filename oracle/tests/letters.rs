@@ -124,7 +124,8 @@ fn a_bad_names_the_heads_of_all_arguments_or_none() {
 
 /// A message whose bads are these rows behind the class; C is 2, the arity of constructor 1 is 2.
 fn with_bad(rows: &[(u16, u16)]) -> (u32, usize) {
-    let mut m = message::read(&assemble(&format!("{LEVEL} {NEVER}")).unwrap().message).unwrap();
+    let text = format!("{LEVEL} {NEVER} evidence ceilings.");
+    let mut m = message::read(&assemble(&text).unwrap().message).unwrap();
     m.bad_rows.first = [40].into_iter().chain(rows.iter().map(|row| row.0)).collect();
     m.bad_rows.second = [m.rows as u16].into_iter().chain(rows.iter().map(|row| row.1)).collect();
     let (number, place) = verdict(&bytes(&message::write(&m)));

@@ -37,7 +37,7 @@ fn random_messages_keep_their_answers() {
         kept(&case.message, case.lent)
     });
     let alike = alike.count();
-    assert!((2800..3000).contains(&alike), "{alike} of 3,000 alike");
+    assert!((2700..3000).contains(&alike), "{alike} of 3,000 alike");
 }
 
 #[test]
@@ -45,7 +45,7 @@ fn examples_and_hostile_messages_keep_their_answers() {
     let longer = files("examples", "msg").into_iter().filter(|file| !kept(&std::fs::read(file).unwrap(), PLENTY));
     assert!(longer.eq([path("examples/pumping-station.msg")]), "one example needs the present limits");
     let longer = stress::hostile().unwrap().into_iter().filter(|hostile| !kept(&hostile.message, PLENTY));
-    assert_eq!(longer.count(), 53);
+    assert_eq!(longer.count(), 61);
 }
 
 /// A message whose sizes are these and whose words are zeros otherwise.
@@ -56,7 +56,7 @@ fn zeros(rows: u16, flow: u16, mail: u16, states: u16, entries: u16) -> Vec<u16>
     words.extend([0; 512]);
     words.extend([flow, mail, states]);
     words.extend(vec![0; 2 * (flow as usize + mail as usize + states as usize) + states as usize]);
-    words.extend([0, entries]);
+    words.extend([0, 0, 1, entries]);
     words.extend(vec![0; 2 * entries as usize]);
     words
 }

@@ -5,7 +5,7 @@ mod common;
 
 use common::{path, verdict};
 use oracle::bounds::Bounds;
-use oracle::counters::{Beside, check_demand_3, holds_function};
+use oracle::counters::{Beside, Safe, check_demand_3, holds_function};
 use oracle::explain::{explain, trade_word};
 use oracle::fuzz::compare::Cases;
 use oracle::least::least;
@@ -124,7 +124,7 @@ fn a_mailbox_with_a_function_is_found_in_a_run() {
     let system = evidence::derive(&m, &program, &tables).unwrap();
     assert!(system.letters.iter().all(|&(_, letter)| letter.kind != program.arities.len()), "letter C has a counter");
     let bounds = Bounds { limits: vec![vec![UNBOUNDED; system.counters()]], first: vec![0] };
-    let mut beside = Beside::new(&program, &tables, &system, Some(&bounds), &[]).unwrap();
+    let mut beside = Beside::new(&program, &tables, &system, Some(Safe::Bounds(&bounds)), &[]).unwrap();
     assert!(beside.run(&[0; 4]).is_ok());
     assert!(beside.machine.step(0).is_ok());
     assert!(beside.check().is_err_and(|word| word == "a mailbox directly holds a function"));

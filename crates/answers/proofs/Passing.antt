@@ -3,7 +3,7 @@ use mathlib.Core.Path.{_≡_, refl, sym, ap, _∙_}
 use mathlib.Core.Bool.{Bool, true, false}
 use mathlib.Core.Option.{some, none}
 use Rattle.model.specs.declared.Verdict.{Verdict}
-use Rattle.model.specs.declared.Verdict.the-variants.{Safe, Length, Size, Row, Name, Scope, Bad, Entry, Open, Counters, Ceiling, Start, Met, Leak, Space, FunctionMailed}
+use Rattle.model.specs.declared.Verdict.the-variants.{Safe, Length, Size, Row, Name, Scope, Bad, Entry, Open, Counters, Ceiling, Start, Met, Leak, Space, FunctionMailed, Weights, Rise, Light}
 use Rattle.model.specs.Verdict.{Check, _>>_, number}
 use Rattle.model.specs.Verify.{answer, if-safe}
 use Rattle.model.proofs.Logic.{true-false}
@@ -28,6 +28,9 @@ safe-only (Met at) h = true-false h refl
 safe-only (Leak at) h = true-false h refl
 safe-only (Space at) h = true-false h refl
 safe-only (FunctionMailed at) h = true-false h refl
+safe-only (Weights at) h = true-false h refl
+safe-only (Rise at) h = true-false h refl
+safe-only (Light at) h = true-false h refl
 
 -- what is so after a refusal
 pub else-is : {A : Type 0} (v : Verdict) (a b : A) → is-safe v ≡ false → if-safe v a b ≡ b

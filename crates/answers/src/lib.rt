@@ -79,6 +79,18 @@ pub fn told_of(v: Verdict) -> Told
             number: 22,
             place: at,
         },
+        Verdict::Weights(at) => Told {
+            number: 16,
+            place: at,
+        },
+        Verdict::Rise(at) => Told {
+            number: 17,
+            place: at,
+        },
+        Verdict::Light(at) => Told {
+            number: 18,
+            place: at,
+        },
     }
 }
 

@@ -10,11 +10,12 @@ use Rattle.model.specs.declared.Sizes.{Sizes}
 use Rattle.model.specs.declared.Verdict.{Verdict}
 use Rattle.model.specs.declared.Verdict.the-variants.{Safe, Bad}
 use Rattle.model.specs.Words.{left, right, columns}
-use Rattle.model.specs.Message.{bads-at, tables-at, ceilings-at, end-at}
+use Rattle.model.specs.Message.{bads-at, tables-at, ceilings-at, weights-at}
 use Rattle.model.specs.Reader.{first-wrong}
 use Rattle.model.specs.Rows.{program}
 use Rattle.model.specs.Bads.{Part, bad, bad-rows, bad-step, bad-check}
 use Rattle.model.specs.Verify.{answer}
+use Rattle.model.proofs.Exact.Parts.{end-past}
 use Rattle.evidence.specs.Whole.{Parts-whole}
 use Rattle.bads.specs.declared.Expected.{Expected}
 use Rattle.bads.specs.declared.Expected.the-variants.{Bads}
@@ -46,8 +47,8 @@ module _ (ws : List ℕ) (s : Sizes) where
   -- the words at which the tags and the numbers begin
   module _ (tags numbers : ℕ) (tags-are : tags ≡ 6 + 2 * s .rows) (numbers-are : numbers ≡ tags + s .badrows) where
     pub rows-held : Parts-whole ws s → (tags + s .badrows ≤ length ws) × (numbers + s .badrows ≤ length ws)
-    unfolding tables-at ceilings-at end-at
-    rows-held whole = let w = whole .held in (omega arith, omega arith)
+    unfolding tables-at ceilings-at weights-at
+    rows-held whole = let w = whole .held in let past = end-past s in (omega arith, omega arith)
 
     tags-at : tags ≡ bads-at s + 2
     unfolding bads-at

@@ -6,7 +6,7 @@ use Rattle.model.specs.Words.{Columns, left, right}
 use Rattle.model.specs.Ceilings.{ceiling-step, limit-from}
 use Rattle.model.proofs.Reader.{read-takes}
 use Rattle.ceilings_form.specs.Limits.{ceiling-end, Stands}
-use Rattle.ceilings_form.proofs.Reading.{in-ceiling-below}
+use Rattle.ceilings_form.proofs.Reading.{in-bound-below}
 use Rattle.ceilings_form.proofs.Filling.{Open, open-next, open-end, limit-end, limit-here, limit-skip, limit-below}
 
 module _ (n : ℕ) (entries : Columns) (limit : ℕ → ℕ) (end : ℕ) where
@@ -41,7 +41,7 @@ module _ (n : ℕ) (entries : Columns) (limit : ℕ → ℕ) (end : ℕ) where
     pub ahead-counter : (left entries e ≡ n → ⊥) → Counter-here e least
     ahead-counter h =
         let (t, next) = open-next n entries _ e _ _ opened h in
-        let (low, below, from-one) = in-ceiling-below n least _ _ t in
+        let (low, below, from-one, most) = in-bound-below n (right entries e) least _ _ t in
         record {
           low = low;
           below = below;

@@ -15,7 +15,7 @@ use Rattle.bits.proofs.Rows.{place}
 use Rattle.ceilings_form.specs.Limits.{Starts-table, ceiling-end, Stands}
 use Rattle.ceilings_form.proofs.Repeated.{walked-start}
 use Rattle.ceilings_form.proofs.Ceilings.{Walks, entry-of, next-one}
-use Rattle.ceilings.specs.Table.{held, Limits-table, Blank, Unfilled, Ceiling-filled}
+use Rattle.ceilings.specs.Table.{held, Bounds-table, Limits-table, Blank, Unfilled, Ceiling-filled}
 use Rattle.ceilings.proofs.Ahead.{Ahead, Counter-here, ahead-start, ahead-inside, ahead-counter, ahead-end, ahead-none}
 use Rattle.ceilings.proofs.Cells.{cell-below}
 
@@ -120,11 +120,15 @@ module _ (n : ℕ) (entries : Columns) (ceilings : ℕ) where
         ];
       }
 
--- all ceilings of a message
-module _ (ws : List ℕ) (s : Sizes) (n k e : ℕ) (limits starts : List ℕ) (all : k ≡ s .ceilings) (f : Filled n (ceiling-entries ws s) (s .ceilings) k e limits starts) where
-  pub limits-table : n * s .ceilings ≤ length limits → Limits-table (ceilings-of ws s n) limits
-  unfolding ceilings-of
-  limits-table room = record { room = room; limit = λ j x b. f .filled j x (omega arith) }
+  -- all of them
+  module _ (k e : ℕ) (limits starts : List ℕ) (all : k ≡ ceilings) (f : Filled k e limits starts) where
+    pub bounds-table : n * ceilings ≤ length limits → Bounds-table n entries ceilings limits
+    bounds-table room = record { room = room; number = λ j x b. f .filled j x (omega arith) }
 
-  pub starts-table : s .ceilings ≤ length starts → Starts-table n (ceiling-entries ws s) (s .ceilings) starts
-  starts-table room = record { room = room; start = λ j b. f .begun j (omega arith) }
+    pub starts-table : ceilings ≤ length starts → Starts-table n entries ceilings starts
+    starts-table room = record { room = room; start = λ j b. f .begun j (omega arith) }
+
+-- the ceilings of a message
+pub limits-table : (ws : List ℕ) (s : Sizes) (n : ℕ) (limits : List ℕ) → Bounds-table n (ceiling-entries ws s) (s .ceilings) limits → Limits-table (ceilings-of ws s n) limits
+unfolding ceilings-of
+limits-table ws s n limits b = record { room = b .room; limit = b .number }

@@ -5,7 +5,7 @@ use mathlib.Core.Path.{_≡_}
 use mathlib.Core.List.{List}
 use lib.ListN.{length, getD}
 use Rattle.model.specs.Words.{Columns}
-use Rattle.model.specs.Ceilings.{Ceiling-limits, Ceilings, limit-from}
+use Rattle.model.specs.Ceilings.{Ceiling-limits, Ceilings, ceiling-entry, limit-from}
 
 -- the limits that the table of so many ceilings holds for ceiling k
 abbrev pub held : List ℕ → ℕ → ℕ → Ceiling-limits
@@ -14,6 +14,16 @@ held limits ceilings k x = getD limits (x * ceilings + k) 0
 pub record Limits-table (bs : Ceilings) (limits : List ℕ) : Type 0 where
   pub room : bs .counters * bs .size ≤ length limits
   pub limit : (k x : ℕ) → k < bs .size → x < bs .counters → held limits (bs .size) k x ≡ bs .limit k x
+
+-- the number that the entries give counter x in ceiling k
+abbrev pub number-of : ℕ → Columns → ℕ → Ceiling-limits
+number-of n entries k x =
+    limit-from n entries (entries .size - ceiling-entry n entries k) (ceiling-entry n entries k) x
+
+-- the same of the entries of any part, which are so many ceilings, or lines
+pub record Bounds-table (n : ℕ) (entries : Columns) (count : ℕ) (limits : List ℕ) : Type 0 where
+  pub room : n * count ≤ length limits
+  pub number : (k x : ℕ) → k < count → x < n → held limits count k x ≡ number-of n entries k x
 
 -- the first so many words are 0
 abbrev pub Blank : List ℕ → ℕ → Type 0

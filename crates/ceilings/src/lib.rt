@@ -1,6 +1,9 @@
-// The table of limits, filled from the entries of the ceilings and read.
-use ceilings_form::entries::counter_at;
-use ceilings_form::entries::limit_at;
+// The table of limits, filled from the entries of the ceilings and read. Lines of weights have the form of ceilings, so
+// one function fills the table of either.
+use ceilings_form::entries::Part;
+use ceilings_form::entries::ceilings_part;
+use ceilings_form::entries::entry_counter;
+use ceilings_form::entries::entry_number;
 use model::OMEGA;
 use model::Sizes;
 ghost use mathlib.Core.Path.{_≡_};
@@ -9,34 +12,66 @@ ghost use lib.ListN.{length};
 ghost use Rattle.model.specs.Limits.{maxCounters, omega-limit};
 ghost use Rattle.model.specs.Ceilings.{ceiling-entries, ceilings-of, highest};
 ghost use Rattle.bits.specs.Bits.{Row};
-ghost use Rattle.ceilings_form.specs.Limits.{In-form, Starts-table, ceiling-end, Stands};
-ghost use Rattle.ceilings_form.specs.Parts.{Whole};
-ghost use Rattle.ceilings.specs.Table.{held, Limits-table, Blank, Unfilled, Ceiling-filled};
+ghost use Rattle.ceilings_form.specs.Limits.{Form-of, In-form, Starts-table, ceiling-end, Stands};
+ghost use Rattle.ceilings_form.specs.Parts.{Whole, Part-held, part-entries};
+ghost use Rattle.ceilings.specs.Table.{held, Bounds-table, Limits-table, Blank, Unfilled, Ceiling-filled};
 
-// The limits of ceiling k, whose entries stand from e on, into the table; gives the entry after them.
-fn fill_ceiling(ws: &[u16], s: Sizes, n: usize, k: usize, e: usize, limits: &mut [u16]) -> usize
-    requires { ⌜ Whole (now ws) s ⌝ }
-    requires { ⌜ (n ≤ maxCounters) × (k < s .ceilings) ⌝ }
-    requires { ⌜ Stands n (ceiling-entries (now ws) s) e ⌝ }
-    requires { ⌜ Unfilled n (s .ceilings) (now limits) k ⌝ }
-    requires { ⌜ n * s .ceilings ≤ length (now limits) ⌝ }
-    ensures { λ r. ⌜ r ≡ ceiling-end n (ceiling-entries (now (ws .entry)) s) e ⌝ }
-    ensures { λ r. ⌜ Ceiling-filled n (ceiling-entries (now (ws .entry)) s) (s .ceilings) k e (now (limits .entry))
+// The numbers of ceiling k of so many, whose entries stand from e on, into the table; gives the entry after them.
+fn fill_ceiling(
+    ws: &[u16],
+    part: Part,
+    n: usize,
+    count: usize,
+    k: usize,
+    e: usize,
+    limits: &mut [u16],
+) -> usize
+    requires { ⌜ Part-held (now ws) part ⌝ }
+    requires { ⌜ k < count ⌝ }
+    requires { ⌜ Stands n (part-entries (now ws) part) e ⌝ }
+    requires { ⌜ Unfilled n count (now limits) k ⌝ }
+    requires { ⌜ n * count ≤ length (now limits) ⌝ }
+    ensures { λ r. ⌜ r ≡ ceiling-end n (part-entries (now (ws .entry)) part) e ⌝ }
+    ensures { λ r. ⌜ Ceiling-filled n (part-entries (now (ws .entry)) part) count k e (now (limits .entry))
         (now (limits .exit)) ⌝ }
 {
     let mut i = e;
     loop {
-        let x = counter_at(ws, s, i);
+        let x = entry_counter(ws, part, i);
         if x == n {
             return i + 1;
         }
-        let at = x * s.ceilings + k;
-        limits[at] = limit_at(ws, s, i);
+        let at = x * count + k;
+        limits[at] = entry_number(ws, part, i);
         i += 1;
     }
 }
 
-// The limits of all ceilings, and where each begins. As many words as there are limits are lent blank.
+// The numbers of all ceilings of a part, `count` of them, and where each begins. As many words as there are numbers are
+// lent blank.
+pub fn fill_bounds(
+    ws: &[u16],
+    part: Part,
+    n: usize,
+    count: usize,
+    limits: &mut [u16],
+    starts: &mut [u16],
+)
+    requires { ⌜ Part-held (now ws) part ⌝ }
+    requires { ⌜ Form-of n (part-entries (now ws) part) count ⌝ }
+    requires { ⌜ Blank (now limits) (n * count) ⌝ }
+    requires { ⌜ (n * count ≤ length (now limits)) × (count ≤ length (now starts)) ⌝ }
+    ensures { λ _. ⌜ Bounds-table n (part-entries (now (ws .entry)) part) count (now (limits .exit)) ⌝ }
+    ensures { λ _. ⌜ Starts-table n (part-entries (now (ws .entry)) part) count (now (starts .exit)) ⌝ }
+{
+    let mut e: usize = 0;
+    for k in 0..count {
+        starts[k] = e as u16;
+        e = fill_ceiling(ws, part, n, count, k, e, limits);
+    }
+}
+
+// The limits of all ceilings, and where each begins.
 pub fn fill_limits(ws: &[u16], s: Sizes, n: usize, limits: &mut [u16], starts: &mut [u16])
     requires { ⌜ Whole (now ws) s ⌝ }
     requires { ⌜ n ≤ maxCounters ⌝ }
@@ -46,11 +81,7 @@ pub fn fill_limits(ws: &[u16], s: Sizes, n: usize, limits: &mut [u16], starts: &
     ensures { λ _. ⌜ Limits-table (ceilings-of (now (ws .entry)) s n) (now (limits .exit)) ⌝ }
     ensures { λ _. ⌜ Starts-table n (ceiling-entries (now (ws .entry)) s) (s .ceilings) (now (starts .exit)) ⌝ }
 {
-    let mut e: usize = 0;
-    for k in 0..s.ceilings {
-        starts[k] = e as u16;
-        e = fill_ceiling(ws, s, n, k, e, limits);
-    }
+    fill_bounds(ws, ceilings_part(s), n, s.ceilings, limits, starts);
 }
 
 // The limit of counter x under ceiling k.

@@ -4,16 +4,14 @@ use native.Mathlib.Omega.{arith}
 use mathlib.Core.Path.{_≡_, refl}
 use mathlib.Core.List.{List}
 use Rattle.model.specs.declared.Sizes.{Sizes}
-use Rattle.model.specs.declared.Verdict.{Verdict}
-use Rattle.model.specs.declared.Verdict.the-variants.{Safe, Ceiling}
 use Rattle.model.specs.Words.{Columns, columns}
-use Rattle.model.specs.Message.{ceilings-at}
-use Rattle.model.specs.Reader.{first-wrong}
-use Rattle.model.specs.Ceilings.{from-counter, ceiling-entries, ceiling-step, ceilings-ahead, ceiling-entry, ceilings-of, ceiling-check}
-use Rattle.model.specs.Verify.{answer}
-use Rattle.model.proofs.Reader.{by-option}
+use Rattle.model.specs.Message.{weights-at}
+use Rattle.model.specs.Ceilings.{from-counter, ceiling-entries, ceiling-step, ceiling-entry}
+use Rattle.model.proofs.Exact.Parts.{end-past}
 use Rattle.ceilings_form.proofs.Repeated.{Walked, walked-row, walked-inside, walked-stands, walked-next}
-use Rattle.ceilings_form.specs.Limits.{In-form, ceiling-end, Stands}
+use Rattle.ceilings_form.specs.Limits.{ceiling-end, Stands}
+use Rattle.ceilings_form.specs.declared.entries.Part.{Part}
+use Rattle.ceilings_form.specs.Parts.{Whole, part-entries, Part-held, ceilings-part}
 
 module _ (n : ℕ) (entries : Columns) (ceilings : ℕ) where
   -- k ceilings end before entry e, and the others stand from there to the end
@@ -40,9 +38,16 @@ pub entries-size : (ws : List ℕ) (s : Sizes) → ceiling-entries ws s .size �
 unfolding ceiling-entries columns
 entries-size ws s = refl
 
--- where refusal 10 lets a message pass, its entries are in form
-pub in-form : (ws : List ℕ) (s : Sizes) (n : ℕ) → answer (ceiling-check ws s n) ≡ Safe → In-form ws s n
-unfolding ceiling-check answer
-in-form ws s n h =
-    by-option (first-wrong (ceiling-step n) (ceiling-entries ws s) (ceilings-ahead (s .ceilings))) (λ e. e)
-    (λ i e. let z : _≡_ {A = Verdict} (Ceiling (ceilings-at s + 2 + i)) Safe = rw e at h in let y : _≡_ {A = ℕ} 0 1 = cc in absurd (omega arith))
+-- the part of the ceilings
+pub part-of : (ws : List ℕ) (s : Sizes) → part-entries ws (ceilings-part s) ≡ ceiling-entries ws s
+unfolding part-entries ceilings-part ceiling-entries
+part-of ws s = refl
+
+pub part-in : (ws : List ℕ) (s : Sizes) → Whole ws s → Part-held ws (ceilings-part s)
+unfolding ceilings-part weights-at
+part-in ws s whole = record { room = omega (arith, end-past s, whole .held); few = whole .limits .entries }
+
+-- entries of a part are as many as it says
+pub part-size : (ws : List ℕ) (part : Part) → part-entries ws part .size ≡ part .size
+unfolding part-entries columns
+part-size ws part = refl

@@ -1,2 +1,3 @@
 pub mod Parts
+pub mod Bounds
 pub mod Limits

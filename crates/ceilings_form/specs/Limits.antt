@@ -9,9 +9,13 @@ use Rattle.model.specs.Words.{Columns}
 use Rattle.model.specs.Reader.{past, read, after, first-wrong}
 use Rattle.model.specs.Ceilings.{ceiling-entries, ceiling-step, ceilings-ahead, ceiling-entry}
 
--- refusal 10 refuses nothing: the entries are the ceilings and nothing else
+-- the entries are so many ceilings and nothing else
+abbrev pub Form-of : ℕ → Columns → ℕ → Type 0
+Form-of n entries count = first-wrong (ceiling-step n) entries (ceilings-ahead count) ≡ none
+
+-- refusal 10 refuses nothing
 abbrev pub In-form : List ℕ → Sizes → ℕ → Type 0
-In-form ws s n = first-wrong (ceiling-step n) (ceiling-entries ws s) (ceilings-ahead (s .ceilings)) ≡ none
+In-form ws s n = Form-of n (ceiling-entries ws s) (s .ceilings)
 
 -- the first entries of the ceilings
 pub record Starts-table (n : ℕ) (entries : Columns) (ceilings : ℕ) (starts : List ℕ) : Type 0 where

@@ -19,8 +19,9 @@ use Rattle.model.proofs.Bounded.Fire.{Shaped}
 use Rattle.bits.proofs.Loops.{both, any-split}
 use Rattle.steps.specs.declared.Step.{Step}
 use Rattle.steps.specs.Steps.{effect-of, rule-of-step, effect-kind}
-use Rattle.steps.proofs.Stepping.{fire-alone, effect-quiet}
-use Rattle.rules.specs.Listed.{kind-effect, listed-rule}
+use Rattle.steps.proofs.Stepping.{fire-alone}
+use Rattle.rules.specs.Listed.{listed-rule}
+use Rattle.rules.proofs.Stepped.{listed-step}
 use Rattle.ceilings_form.proofs.Limited.{highest-same}
 use Rattle.ceilings.specs.Table.{held, Limits-table}
 use Rattle.ceilings_groups.specs.Groups.{table-ceilings, escapes, step}
@@ -86,26 +87,6 @@ module _ (bs : Ceilings) (m : Marking) where
   pub leads-states : (p : Program) (t : Tables) → leads-out bs (rules p t) m ≡ any 0 (t .states .size) (λ i. leads-out bs (state-rules p t i (state-at t i)) m)
   unfolding rules
   leads-states p t = leads-gather 0 (t .states .size) (λ i. state-rules p t i (state-at t i))
-
--- the rule of a list as a step
-effect-tag : (tag x : ℕ) → kind-effect (kind tag) x ≡ effect-of (effect-kind tag) x
-unfolding kind-effect kind effect-of effect-kind
-effect-tag zero x = refl
-effect-tag (suc zero) x = refl
-effect-tag (suc (suc zero)) x = refl
-effect-tag (suc (suc (suc zero))) x = refl
-effect-tag (suc (suc (suc (suc zero)))) x = refl
-effect-tag (suc (suc (suc (suc (suc zero))))) x = refl
-effect-tag (suc (suc (suc (suc (suc (suc zero)))))) x = refl
-effect-tag (suc (suc (suc (suc (suc (suc (suc zero))))))) x = refl
-effect-tag (suc (suc (suc (suc (suc (suc (suc (suc zero)))))))) x = refl
-effect-tag (suc (suc (suc (suc (suc (suc (suc (suc (suc zero))))))))) x = refl
-effect-tag (suc (suc (suc (suc (suc (suc (suc (suc (suc (suc tag)))))))))) x =
-    ap (λ z. effect-of z x) (effect-quiet (suc (suc (suc (suc (suc (suc (suc (suc (suc (suc tag)))))))))) (λ z. omega arith) (λ z. omega arith) (λ z. omega arith))
-
-pub listed-step : (tag i : ℕ) (tos others : List ℕ) (j : ℕ) → listed-rule (kind tag) i tos others j ≡ rule-of-step (step i (getD tos j 0) (effect-kind tag) (getD others j 0))
-unfolding listed-rule rule-of-step
-listed-step tag i tos others j = ap (rule i (getD tos j 0)) (effect-tag tag (getD others j 0))
 
 pub leads-listed : (bs : Ceilings) (m : Marking) (tag i : ℕ) (tos others : List ℕ) (a e : ℕ) → leads-out bs (gather a e (λ k. listed-rule (kind tag) i tos others k ∷ [])) m ≡ any a e (λ j. escapes bs (rule-of-step (step i (getD tos j 0) (effect-kind tag) (getD others j 0))) m)
 leads-listed bs m tag i tos others a e =

@@ -33,6 +33,7 @@ use Rattle.masks.specs.Masks.{has}
 use Rattle.steps.specs.declared.Step.{Step}
 use Rattle.steps.specs.Steps.{effect-of, rule-of-step, effect-kind}
 use Rattle.rules.specs.Listed.{State-rules, listed-rule, listed-rules}
+use Rattle.rules.proofs.Stepped.{listed-step}
 use Rattle.kept_rules.specs.Kept.{Rules-asked}
 use Rattle.ceilings_form.specs.Parts.{Whole}
 use Rattle.ceilings_form.specs.Limits.{Starts-table}
@@ -47,7 +48,7 @@ use Rattle.ceilings_groups.specs.Groups.{table-ceilings, escapes, Open-step, Op
 use Rattle.ceilings_groups.proofs.Settling.{step-open}
 use Rattle.bits.specs.Bits.{member}
 use Rattle.ceilings_leaks.proofs.Holding.{is-held, leads-held, held-member}
-use Rattle.ceilings_groups.proofs.Leading.{any-skip, leads-none, leads-states, leads-listed, leads-same, listed-step, listed-member}
+use Rattle.ceilings_groups.proofs.Leading.{any-skip, leads-none, leads-states, leads-listed, leads-same, listed-member}
 
 and-none : (b : Bool) → (b && false) ≡ false
 and-none true = refl

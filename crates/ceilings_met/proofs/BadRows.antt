@@ -3,7 +3,7 @@ use Prim.Native.Nat.{ℕ, zero, suc, _+_, _-_, _≤_, _<_}
 use native.Mathlib.Decide.{ℕ-discrete, decLt}
 use native.Mathlib.Omega.{arith}
 use mathlib.Core.Path.{_≡_, refl, sym, _∙_, ap}
-use mathlib.Core.Bool.{Bool, true, false, not, _&&_}
+use mathlib.Core.Bool.{Bool, true, not, _&&_}
 use mathlib.Core.List.{List, [], _∷_, _++_}
 use mathlib.Core.Option.{some}
 use lib.ListN.{take, drop, length-take, List·getD-eq-default}
@@ -14,11 +14,11 @@ use Rattle.model.specs.Words.{Columns, left, right, columns}
 use Rattle.model.specs.Message.{bads-at}
 use Rattle.model.specs.Reader.{past, Grammar, read}
 use Rattle.model.specs.Rows.{Program}
-use Rattle.model.specs.Bads.{Part, bad, subject, minimum, detail, further, item, subject-step, detail-step, bad-step, bad-rows, Subject, past-heads, item-at, items-from, met}
+use Rattle.model.specs.Bads.{Part, bad, subject, minimum, detail, further, item, subject-step, detail-step, bad-step, bad-rows, Subject, past-heads, Item, item-at, items-from, met}
 use Rattle.model.proofs.Logic.{test, and-left}
 use Rattle.model.proofs.Index.{first-end, first-hit, first-miss, first-is}
 use Rattle.model.proofs.Reader.{fits-some, by-option, past-wrong, past-row, read-none, read-end, read-stop, read-go}
-use Rattle.ceilings_met.specs.Items.{subject-from, items-at}
+use Rattle.ceilings_met.specs.Items.{subject-from, item-from, items-at}
 
 module _ {Item : Type 0} (step : Grammar Item) (rows : Columns) where
   -- what is read to its end begins with a row that fits
@@ -145,35 +145,49 @@ bad-inside ws s r t e h = elim (decLt r (s .badrows)) [
       absurd (omega arith)
 ]
 
--- a bad met item by item
-module _ (counts : Subject → ℕ) (rows : Columns) (inside : (r : ℕ) → 0 < left rows r → r < rows .size) where
-  met-turn : (m r : ℕ) → left rows r ≡ 40 → met counts (items-from rows (suc m) r) ≡ (leb (right rows (past-heads rows (r + 2))) (counts (subject-from rows r)) && met counts (items-from rows m (past-heads rows (r + 2) + 1)))
-  unfolding items-from item-at subject-from met
-  met-turn m r h = rw (eq-eqb _ _ h, items-from)
+-- The items from a row on: the one that stands there and those behind it, or none
+module _ (rows : Columns) (inside : (r : ℕ) → 0 < left rows r → r < rows .size) where
+  -- the row behind the item whose first row is r
+  abbrev pub row-behind : ℕ → ℕ
+  row-behind r = past-heads rows (r + 2) + 1
 
-  met-rest : (m r : ℕ) → (left rows r ≡ 40 → ⊥) → met counts (items-from rows m r) ≡ true
-  unfolding items-from met
-  met-rest zero r h = refl
-  met-rest (suc m) r h = rw (ne-eqb _ _ h, items-from)
+  items-turn : (m r : ℕ) → left rows r ≡ 40 → items-from rows (suc m) r ≡ item-from rows r ∷ items-from rows m (row-behind r)
+  unfolding items-from item-from
+  items-turn m r h = rw (eq-eqb _ _ h, items-from)
+
+  items-rest : (m r : ℕ) → (left rows r ≡ 40 → ⊥) → items-from rows m r ≡ []
+  unfolding items-from
+  items-rest zero r h = refl
+  items-rest (suc m) r h = rw (ne-eqb _ _ h, items-from)
 
   -- as many rows as there are left, or more
-  met-fuel : (m m′ r : ℕ) → rows .size ≤ r + m → rows .size ≤ r + m′ → met counts (items-from rows m r) ≡ met counts (items-from rows m′ r)
-  met-fuel zero m′ r a b = let past : left rows r ≡ 40 → ⊥ = λ h. let w = inside r (omega arith) in omega arith in met-rest zero r past ∙ sym (met-rest m′ r past)
-  met-fuel (suc m) zero r a b = let past : left rows r ≡ 40 → ⊥ = λ h. let w = inside r (omega arith) in omega arith in met-rest (suc m) r past ∙ sym (met-rest zero r past)
-  met-fuel (suc m) (suc m′) r a b = elim (ℕ-discrete (left rows r) 40) [
+  items-fuel : (m m′ r : ℕ) → rows .size ≤ r + m → rows .size ≤ r + m′ → items-from rows m r ≡ items-from rows m′ r
+  items-fuel zero m′ r a b = let past : left rows r ≡ 40 → ⊥ = λ h. let w = inside r (omega arith) in omega arith in items-rest zero r past ∙ sym (items-rest m′ r past)
+  items-fuel (suc m) zero r a b = let past : left rows r ≡ 40 → ⊥ = λ h. let w = inside r (omega arith) in omega arith in items-rest (suc m) r past ∙ sym (items-rest zero r past)
+  items-fuel (suc m) (suc m′) r a b = elim (ℕ-discrete (left rows r) 40) [
     | yes e ↦
         let w = heads-bounds rows (r + 2) .0 in
-        met-turn m r e ∙ (ap (λ z. leb (right rows (past-heads rows (r + 2))) (counts (subject-from rows r)) && z) (met-fuel m m′ (past-heads rows (r + 2) + 1) (omega arith) (omega arith)) ∙ sym (met-turn m′ r e))
-    | no e ↦ met-rest (suc m) r e ∙ sym (met-rest (suc m′) r e)
+        items-turn m r e ∙ (ap (λ is. item-from rows r ∷ is) (items-fuel m m′ (row-behind r) (omega arith) (omega arith)) ∙ sym (items-turn m′ r e))
+    | no e ↦ items-rest (suc m) r e ∙ sym (items-rest (suc m′) r e)
   ]
 
-  pub met-item : (r : ℕ) → left rows r ≡ 40 → met counts (items-at rows r) ≡ (leb (right rows (past-heads rows (r + 2))) (counts (subject-from rows r)) && met counts (items-at rows (past-heads rows (r + 2) + 1)))
+  pub items-next : (r : ℕ) → left rows r ≡ 40 → items-at rows r ≡ item-from rows r ∷ items-at rows (row-behind r)
   unfolding items-at
-  met-item r h =
+  items-next r h =
       let t : rows .size - r ≡ suc (rows .size - (r + 1)) = let w = inside r (omega arith) in omega arith in
       let w = heads-bounds rows (r + 2) .0 in
-      ap (λ m. met counts (items-from rows m r)) t ∙ (met-turn (rows .size - (r + 1)) r h ∙ ap (λ b. leb (right rows (past-heads rows (r + 2))) (counts (subject-from rows r)) && b) (met-fuel _ _ (past-heads rows (r + 2) + 1) (omega arith) (omega arith)))
+      ap (λ m. items-from rows m r) t ∙ (items-turn (rows .size - (r + 1)) r h ∙ ap (λ is. item-from rows r ∷ is) (items-fuel _ _ (row-behind r) (omega arith) (omega arith)))
 
-  pub met-over : (r : ℕ) → (left rows r ≡ 40 → ⊥) → met counts (items-at rows r) ≡ true
+  pub items-over : (r : ℕ) → (left rows r ≡ 40 → ⊥) → items-at rows r ≡ []
   unfolding items-at
-  met-over r h = met-rest (rows .size - r) r h
+  items-over r h = items-rest (rows .size - r) r h
+
+  -- a bad met item by item
+  module _ (counts : Subject → ℕ) where
+    pub met-item : (r : ℕ) → left rows r ≡ 40 → met counts (items-at rows r) ≡ (leb (right rows (past-heads rows (r + 2))) (counts (subject-from rows r)) && met counts (items-at rows (row-behind r)))
+    unfolding met item-from item-at subject-from
+    met-item r h = ap (met counts) (items-next r h)
+
+    pub met-over : (r : ℕ) → (left rows r ≡ 40 → ⊥) → met counts (items-at rows r) ≡ true
+    unfolding met
+    met-over r h = ap (met counts) (items-over r h)

@@ -28,17 +28,17 @@ use Rattle.ceilings.specs.Table.{held, Limits-table}
 use Rattle.ceilings.proofs.Cells.{row-in}
 use Rattle.ceilings_form.proofs.Limited.{highest-same}
 use Rattle.ceilings_form.proofs.Repeated.{Walked, walked-start, walked-row, walked-inside, walked-stands, walked-next}
-use Rattle.ceilings_met.specs.Items.{Range, Ready, Bads-in-form, Bad-stands, bad-end, subject-from, items-at, bad-met}
+use Rattle.ceilings_met.specs.Items.{Range, Items-counted, Ready, Bads-in-form, Bad-stands, bad-end, subject-from, items-at, bad-met}
 use Rattle.ceilings_met.specs.Sums.{counts-of, Sums-of, Summed}
 use Rattle.ceilings_met.proofs.BadRows.{heads-bounds, bad-inside, met-item, met-over}
 use Rattle.ceilings_met.proofs.Sums.{range-sum, between, sums-rise, sums-counts}
 
 -- the answer of a search for the first
-first-refused : (k j e : ℕ) (v : ℕ → Verdict) → k ≡ j → (j ≡ e → ⊥) → v j ≡ answer (unless (eqb k e) (v k))
+pub first-refused : (k j e : ℕ) (v : ℕ → Verdict) → k ≡ j → (j ≡ e → ⊥) → v j ≡ answer (unless (eqb k e) (v k))
 unfolding answer unless
 first-refused k j e v z h = rw (z, ne-eqb j e h)
 
-first-passed : (k e : ℕ) (v : ℕ → Verdict) → k ≡ e → Safe ≡ answer (unless (eqb k e) (v k))
+pub first-passed : (k e : ℕ) (v : ℕ → Verdict) → k ≡ e → Safe ≡ answer (unless (eqb k e) (v k))
 unfolding answer unless
 first-passed k e v z = rw (eq-eqb k e z)
 
@@ -104,13 +104,18 @@ module _ (ws : List ℕ) (s : Sizes) where
   pub item-ends : (r : ℕ) → r ≤ s .badrows → (e : ℕ) → e ≡ past-heads rows (r + 2) → (r + 3 ≤ e + 1) × (e + 1 ≤ s .badrows + 3)
   item-ends r low e is = let z = size-is in let (a, b) = heads-bounds rows (r + 2) in (omega arith, omega arith)
 
-  -- the counters of an item, and its count
-  module _ (froms tos sums : List ℕ) (ready : Summed ws s froms tos sums) (r : ℕ) (low : r < s .badrows) where
-    pub item-range : Range (program ws s) (tables ws s) (subject-from rows r) (getD froms r 0) (getD tos r 0)
-    item-range = ready .items-table .range r (let e = size-is in omega arith)
+  -- the counters of the item at a row
+  module _ (froms tos : List ℕ) (table : Items-counted (program ws s) (tables ws s) rows froms tos) (r : ℕ) (low : r < s .badrows) where
+    pub row-range : Range (program ws s) (tables ws s) (subject-from rows r) (getD froms r 0) (getD tos r 0)
+    row-range = table .range r (let e = size-is in omega arith)
 
-    pub item-room : (r < length froms) × (r < length tos)
-    item-room = let e = size-is in let a = ready .items-table .from-room in let b = ready .items-table .to-room in (omega arith, omega arith)
+    pub row-room : (r < length froms) × (r < length tos)
+    row-room = let e = size-is in let a = table .from-room in let b = table .to-room in (omega arith, omega arith)
+
+  -- the count of an item
+  module _ (froms tos sums : List ℕ) (ready : Summed ws s froms tos sums) (r : ℕ) (low : r < s .badrows) where
+    item-range : Range (program ws s) (tables ws s) (subject-from rows r) (getD froms r 0) (getD tos r 0)
+    item-range = row-range froms tos (ready .items-table) r low
 
     module _ (from to : ℕ) (from-is : from ≡ getD froms r 0) (to-is : to ≡ getD tos r 0) where
       -- both ends are in the table of sums
@@ -132,13 +137,13 @@ module _ (ws : List ℕ) (s : Sizes) where
   -- one item more, the one that is not met, and the end of the bad
   module _ (count : Subject → ℕ) (r i t : ℕ) (so-far : met count (items-at rows r) ≡ met count (items-at rows i)) (tag : t ≡ left rows i) where
     pub meets-end : (t ≡ 40 → ⊥) → true ≡ met count (items-at rows r)
-    meets-end h = sym (so-far ∙ met-over count rows inside i (λ z. h (tag ∙ z)))
+    meets-end h = sym (so-far ∙ met-over rows inside count i (λ z. h (tag ∙ z)))
 
     module _ (is-item : t ≡ 40) (next least c : ℕ) (next-is : next ≡ past-heads rows (i + 2) + 1) (minimum : least ≡ right rows (next - 1)) (counted : c ≡ count (subject-from rows i)) where
       by-item : met count (items-at rows r) ≡ (leb least c && met count (items-at rows next))
       by-item =
           let e : next - 1 ≡ past-heads rows (i + 2) = omega arith in
-          so-far ∙ (met-item count rows inside i (sym tag ∙ is-item) ∙ rw (minimum, e, counted, next-is))
+          so-far ∙ (met-item rows inside count i (sym tag ∙ is-item) ∙ rw (minimum, e, counted, next-is))
 
       pub meets-not : c < least → false ≡ met count (items-at rows r)
       meets-not h = sym (by-item ∙ rw (lt-leb least c h))

@@ -26,7 +26,7 @@ totalIn-split (suc n) m i f =
     rw (a, b) (omega arith)
 
 -- up to k, and from k on
-total-split : (i k e : ℕ) (f : ℕ → ℕ) → i ≤ k → k ≤ e → total i e f ≡ total i k f + total k e f
+pub total-split : (i k e : ℕ) (f : ℕ → ℕ) → i ≤ k → k ≤ e → total i e f ≡ total i k f + total k e f
 unfolding total
 total-split i k e f a b =
     let x : e - i ≡ (k - i) + (e - k) = omega arith in

@@ -11,7 +11,8 @@ use Rattle.model.specs.Words.{Columns}
 use Rattle.model.specs.Reader.{past, read, after, first-wrong}
 use Rattle.model.specs.Rows.{Program, program}
 use Rattle.model.specs.Tables.{Tables, tables}
-use Rattle.model.specs.Bads.{bad, bad-step, bad-rows, Subject, past-heads, subject-at, Item, items-from, items, met}
+use Rattle.model.specs.Bads.{bad, bad-step, bad-rows, Subject, past-heads, subject-at}
+use Rattle.model.specs.Bads.{Item, item-at, items-from, items, met}
 use Rattle.model.specs.Counters.{counter-count, counts}
 use Rattle.model.specs.Markings.{Marking, sum-in}
 use Rattle.model.specs.Ceilings.{ceilings-of}
@@ -29,6 +30,10 @@ pub record Range (p : Program) (t : Tables) (k : Subject) (from to : ℕ) : Type
 -- what the item counts whose first row is r: its minimum stands behind its heads
 unfoldable pub subject-from : Columns → ℕ → Subject
 subject-from rows r = subject-at rows r (past-heads rows (r + 2))
+
+-- the item whose first row is r
+unfoldable pub item-from : Columns → ℕ → Item
+item-from rows r = item-at rows r (past-heads rows (r + 2))
 
 -- for each row r, whether or not an item stands there: the counters of the item that would stand there
 pub record Items-counted (p : Program) (t : Tables) (rows : Columns) (froms tos : List ℕ) : Type 0 where

@@ -58,7 +58,7 @@ pub fn past_heads(ws: &[u16], s: Sizes, r: usize) -> usize
 }
 
 // The row after the item at row r, which ends with its minimum.
-fn next_item(ws: &[u16], s: Sizes, r: usize) -> usize
+pub fn next_item(ws: &[u16], s: Sizes, r: usize) -> usize
     requires { ⌜ Whole (now ws) s ⌝ }
     requires { ⌜ r ≤ s .badrows ⌝ }
     ensures { λ q. ⌜ q ≡ past-heads (bad-rows (now (ws .entry)) s) (r + 2) + 1 ⌝ }
@@ -68,7 +68,7 @@ fn next_item(ws: &[u16], s: Sizes, r: usize) -> usize
 }
 
 // The row after the bad that stands at row r: after its items and its last row.
-fn next_bad(ws: &[u16], s: Sizes, r: usize) -> usize
+pub fn next_bad(ws: &[u16], s: Sizes, r: usize) -> usize
     requires { ⌜ Whole (now ws) s ⌝ }
     requires { ⌜ r ≤ s .badrows ⌝ }
     requires { ⌜ Bad-stands (program (now ws) s) (bad-rows (now ws) s) r ⌝ }

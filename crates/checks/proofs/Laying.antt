@@ -13,7 +13,7 @@ use Rattle.model.specs.declared.Sizes.{Sizes}
 use Rattle.model.specs.Verdict.{_>>_}
 use Rattle.model.specs.Words.{columns}
 use Rattle.model.specs.Rows.{Program, size, tag, num, program, row-check}
-use Rattle.model.specs.Limits.{present, maxCounters, maxCeilings, maxArity, maxConstructors, maxMails}
+use Rattle.model.specs.Limits.{present, maxCounters, maxCeilings, maxLines, maxArity, maxConstructors, maxMails}
 use Rattle.model.specs.Tables.{Tables, tables, entries, entry-check, has, state, state-index}
 use Rattle.model.specs.Index.{all, implies}
 use Rattle.model.specs.Scopes.{name-check, scope-check}
@@ -21,12 +21,15 @@ use Rattle.model.specs.Heads.{start}
 use Rattle.model.specs.Closed.{start-state, opening-closed, open-check}
 use Rattle.model.specs.Letters.{head-count}
 use Rattle.model.specs.Counters.{letter-count, counter-count, counter-check}
+use Rattle.model.specs.Ceilings.{ceiling-check}
+use Rattle.model.specs.Weights.{weight-check}
 use Rattle.model.specs.Verify.{program-check}
 use Rattle.model.proofs.Exact.Checks.{then-none, unless-none}
-use Rattle.model.proofs.Logic.{and-right}
+use Rattle.model.proofs.Logic.{and-right, chosen-true, chosen-false}
+use Rattle.model.proofs.Exact.Entries.{ceiling-none, weight-none}
 use Rattle.model.proofs.Numbering.States.{index-below}
 use Rattle.model.proofs.Numbering.Within.{within-exactly}
-use borrow.Author.Tests.{leb-true}
+use borrow.Author.Tests.{leb-true, eq-eqb, ne-eqb}
 use Rattle.program.specs.Rows.{from}
 use Rattle.layout.specs.Tables.{After-table}
 use Rattle.positions.specs.Positions.{Ends}
@@ -43,7 +46,8 @@ use Rattle.rules.specs.Derived.{read-set, owner-at, Rule-room, Reads, Rule-tabl
 use Rattle.pattern_letters.specs.Picked.{Match-tables, Owners-room}
 use Rattle.kept_rules.specs.Kept.{Room-from}
 use Rattle.model.specs.Demands.{Within-limits}
-use Rattle.checks.specs.Scratch.{Limits-room, Mask-room, Numbered, Closed-tables, Rules-fit}
+use Rattle.checks.specs.Order.{form-check}
+use Rattle.checks.specs.Scratch.{Bounds-room, Mask-room, Formed, Lined, Numbered, Closed-tables, Rules-fit}
 
 -- refusals 3 to 5 found nothing
 pub program-passes : (p : Program) → row-check p ≡ none → name-check p ≡ none → scope-check p ≡ none → program-check p ≡ none
@@ -106,9 +110,9 @@ rule-room ws s n m tos others e h k l t o =
     let b = o .room in
     record { values = omega arith; letters = omega arith; counters = omega arith; alike = omega arith }
 
--- limits of n counters, and where the ceilings begin
-pub limits-room : (s : Sizes) (n k m : ℕ) (limits ceiling-at : List ℕ) → n * s .ceilings ≤ k → s .ceilings ≤ m → Cleared k limits → Cleared m ceiling-at → Limits-room s n limits ceiling-at
-limits-room s n k m limits ceiling-at h b l c =
+-- limits of n counters, and where the ceilings begin, or weights and lines
+pub bounds-room : (n count k m : ℕ) (limits starts : List ℕ) → n * count ≤ k → count ≤ m → Cleared k limits → Cleared m starts → Bounds-room n count limits starts
+bounds-room n count k m limits starts h b l c =
     record {
       cells = let q = l .room in omega arith;
       blank = l .zero;
@@ -119,9 +123,25 @@ limits-room s n k m limits ceiling-at h b l c =
 pub few-counters : (ws : List ℕ) (s : Sizes) (n : ℕ) → n ≡ counter-count (program ws s) (tables ws s) → counter-count (program ws s) (tables ws s) ≤ maxCounters → n ≤ maxCounters
 few-counters ws s n e h = omega (arith, e)
 
--- no message has more limits
+-- the bounds in form are those that the message has
+pub numbered : (ws : List ℕ) (s : Sizes) (n : ℕ) → Formed ws s n → s .lines ≡ 0 → Numbered ws s n
+unfolding form-check
+numbered ws s n h e =
+    let f = sym (chosen-true _ (ceiling-check ws s n) _ (eq-eqb (s .lines) 0 e)) ∙ h .in-form in
+    record { counted = h .counted; in-form = ceiling-none ws s n .0 f; bads = h .bads }
+
+pub lined : (ws : List ℕ) (s : Sizes) (n : ℕ) → Formed ws s n → 1 ≤ s .lines → Lined ws s n
+unfolding form-check
+lined ws s n h e =
+    let f = sym (chosen-false _ _ (weight-check ws s n) (ne-eqb (s .lines) 0 (λ z. omega arith))) ∙ h .in-form in
+    record { some = e; counted = h .counted; in-form = weight-none ws s n .0 f; bads = h .bads }
+
+-- no message has more limits, nor more weights
 pub all-cells : (s : Sizes) (n : ℕ) → n ≤ maxCounters → Within-limits present s → n * s .ceilings ≤ limit-room
 all-cells s n h l = product-most n (s .ceilings) maxCounters maxCeilings (omega arith) (l .ceilings)
+
+pub line-cells : (s : Sizes) (n m k : ℕ) → n ≤ m → m * maxLines ≤ k → Within-limits present s → n * s .lines ≤ k
+line-cells s n m k h fit l = let z = product-most n (s .lines) m maxLines h (l .lines) in omega arith
 
 -- sets of ceilings for n counters
 pub mask-room : (j k n : ℕ) (holders unbounded group short more : List ℕ) → n * 8 ≤ j → n * 4 ≤ k → Cleared j holders → Cleared k unbounded → Cleared j group → Cleared k short → Cleared k more → Mask-room n holders unbounded group short more
@@ -144,12 +164,12 @@ module _ (ws : List ℕ) (s : Sizes) (afters flow-at : List ℕ) (w : ℕ) (fitt
   pub match-tables : (names : List ℕ) → Name-heads (program ws s) (tables ws s) names → Match-tables ws s w fitting names
   match-tables names a = record { ready = c .ready; name-width = c .name-width; fitting-sets = c .fitting-sets; name-heads = a }
 
-  pub rule-tables : (n : ℕ) (names letter-at letters : List ℕ) → Numbered ws s n → n ≤ maxCounters → Name-heads (program ws s) (tables ws s) names → Class-letters (program ws s) (tables ws s) letter-at → Letter-sets (program ws s) (tables ws s) letters → Reads (program ws s) (tables ws s) letters → Rule-tables ws s afters flow-at w fitting names letter-at letters branches
+  pub rule-tables : (n : ℕ) (names letter-at letters : List ℕ) → n ≡ counter-count (program ws s) (tables ws s) → n ≤ maxCounters → Name-heads (program ws s) (tables ws s) names → Class-letters (program ws s) (tables ws s) letter-at → Letter-sets (program ws s) (tables ws s) letters → Reads (program ws s) (tables ws s) letters → Rule-tables ws s afters flow-at w fitting names letter-at letters branches
   rule-tables n names letter-at letters h l a b d e =
       record {
         ready = c .ready;
         closed = c .closed;
-        few = let k = h .counted in omega arith;
+        few = omega arith;
         ends = c .ends;
         flow-starts = c .flow-starts;
         name-width = c .name-width;

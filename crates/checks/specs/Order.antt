@@ -1,6 +1,8 @@
 -- The checks of a message whose parts are whole, in their order: each with all that come behind it.
 use Prim.Native.Nat.{ℕ}
+use mathlib.Core.Bool.{true, false}
 use mathlib.Core.List.{List}
+use lib.Dec.{eqb}
 use Rattle.model.specs.declared.Sizes.{Sizes}
 use Rattle.model.specs.Verdict.{Check, _>>_}
 use Rattle.model.specs.Rows.{program, row-check}
@@ -11,6 +13,7 @@ use Rattle.model.specs.Closed.{open-check}
 use Rattle.model.specs.Counters.{counter-count}
 use Rattle.model.specs.Rules.{rules}
 use Rattle.model.specs.Ceilings.{ceilings-of, ceiling-check, start-check, met-check, leak-check}
+use Rattle.model.specs.Weights.{lines-of, weight-check, rise-check, light-check}
 use Rattle.model.specs.Listing.{space-check}
 use Rattle.model.specs.Verify.{Message}
 use Rattle.mailed.specs.Mailed.{mailed-then-counters}
@@ -25,6 +28,7 @@ taken ws s =
       bads = bad-rows ws s;
       tables = tables ws s;
       ceilings = ceilings-of ws s (counter-count (program ws s) (tables ws s));
+      lines = lines-of ws s (counter-count (program ws s) (tables ws s));
     }
 
 -- refusals 11 to 14 of a message of n counters, whose ceilings are in form
@@ -35,12 +39,28 @@ below-ceilings ws s n lent =
     leak-check ws s (ceilings-of ws s n) (rules (program ws s) (tables ws s)) >>
     space-check (program ws s) (tables ws s) lent))
 
+-- refusals 17, 18 and 14 of a message of n counters, whose lines of weights are in form
+unfoldable pub below-weights : List ℕ → Sizes → ℕ → ℕ → Check
+below-weights ws s n lent =
+    rise-check ws s (lines-of ws s n) (rules (program ws s) (tables ws s)) >> (
+    light-check s (program ws s) (tables ws s) (lines-of ws s n) (bad-rows ws s) >>
+    space-check (program ws s) (tables ws s) lent)
+
+-- 10, or 16 where the message has lines of weights
+unfoldable pub form-check : List ℕ → Sizes → ℕ → Check
+form-check ws s n = elim (eqb (s .lines) 0) [ true ↦ ceiling-check ws s n | false ↦ weight-check ws s n ]
+
+-- what follows it
+unfoldable pub below-bounds : List ℕ → Sizes → ℕ → ℕ → Check
+below-bounds ws s n lent =
+    elim (eqb (s .lines) 0) [ true ↦ below-ceilings ws s n lent | false ↦ below-weights ws s n lent ]
+
 module _ (ws : List ℕ) (s : Sizes) (lent : ℕ) where
   unfoldable pub from-11 : Check
-  from-11 = below-ceilings ws s (counter-count (program ws s) (tables ws s)) lent
+  from-11 = below-bounds ws s (counter-count (program ws s) (tables ws s)) lent
 
   unfoldable pub from-10 : Check
-  from-10 = ceiling-check ws s (counter-count (program ws s) (tables ws s)) >> from-11
+  from-10 = form-check ws s (counter-count (program ws s) (tables ws s)) >> from-11
 
   -- 22 and 9: 22 is "between 8 and 9"
   unfoldable pub from-22 : Check

@@ -21,12 +21,14 @@ use Rattle.ceilings_form.specs.Parts as ceilings
 use Rattle.ceilings_form.specs.Limits.{In-form, Starts-table}
 use Rattle.ceilings.specs.Table.{Limits-table}
 use Rattle.ceilings_met.specs.Items.{Bads-in-form}
+use Rattle.weights_form.specs.Form.{Weights-in-form}
+use Rattle.checks.specs.Order.{form-check}
 
--- a limit of 0 for each of n counters under each ceiling, and a word for each ceiling
-pub record Limits-room (s : Sizes) (n : ℕ) (limits ceiling-at : List ℕ) : Type 0 where
-  pub cells : n * s .ceilings ≤ length limits
+-- a limit of 0 for each of n counters under each of so many ceilings, and a word for each ceiling; or lines of weights
+pub record Bounds-room (n count : ℕ) (limits starts : List ℕ) : Type 0 where
+  pub cells : n * count ≤ length limits
   pub blank : (z : ℕ) → getD limits z 0 ≡ 0
-  pub firsts : s .ceilings ≤ length ceiling-at
+  pub firsts : count ≤ length starts
 
 -- two sets of ceilings for each of n counters and for each state, and one for each counter three times
 pub record Mask-room (n : ℕ) (holders unbounded group short more : List ℕ) : Type 0 where
@@ -36,7 +38,20 @@ pub record Mask-room (n : ℕ) (holders unbounded group short more : List ℕ) :
   pub one-less : n * 4 ≤ length short
   pub one-more : n * 4 ≤ length more
 
--- n counters, and the ceilings and bads of a message in form
+-- n counters, and the bounds and bads of a message in form
+pub record Formed (ws : List ℕ) (s : Sizes) (n : ℕ) : Type 0 where
+  pub counted : n ≡ counter-count (program ws s) (tables ws s)
+  pub in-form : form-check ws s n ≡ none
+  pub bads : Bads-in-form ws s
+
+-- the same where the bounds are lines of weights
+pub record Lined (ws : List ℕ) (s : Sizes) (n : ℕ) : Type 0 where
+  pub some : 1 ≤ s .lines
+  pub counted : n ≡ counter-count (program ws s) (tables ws s)
+  pub in-form : Weights-in-form ws s n
+  pub bads : Bads-in-form ws s
+
+-- the same where they are ceilings
 pub record Numbered (ws : List ℕ) (s : Sizes) (n : ℕ) : Type 0 where
   pub counted : n ≡ counter-count (program ws s) (tables ws s)
   pub in-form : In-form ws s n

@@ -42,7 +42,7 @@ ghost use Rattle.rules.specs.Derived.{Rule-tables, Rule-room};
 ghost use Rattle.system_totals.specs.Lines.{Totalled};
 ghost use Rattle.system_space.specs.Space.{words-after};
 ghost use Rattle.checks.specs.Order.{below-ceilings};
-ghost use Rattle.checks.specs.Scratch.{Numbered, Limited, Limits-room, Mask-room, Rules-fit};
+ghost use Rattle.checks.specs.Scratch.{Numbered, Limited, Bounds-room, Mask-room, Rules-fit};
 
 // The verdict, and the totals of the rules, which are counted on the way.
 pub struct Leaks {
@@ -189,7 +189,7 @@ fn ceilings_on(
     requires { ⌜ Rule-tables (now ws) s (now afters) (now «flow_at») w (now fitting) (now names)
         (now «letter_at») (now letters) (now branches) ⌝ }
     requires { ⌜ Numbered (now ws) s n ⌝ }
-    requires { ⌜ Limits-room s n (now limits) (now «ceiling_at») × (n < length (now sums)) ⌝ }
+    requires { ⌜ Bounds-room n (s .ceilings) (now limits) (now «ceiling_at») × (n < length (now sums)) ⌝ }
     requires { ⌜ Mask-room n (now holders) (now unbounded) (now group) (now short) (now more) ⌝ }
     requires { ⌜ Rule-room (now ws) s (now tos) (now others) × (length (now tos) ≤ 65536) ⌝ }
     ensures { λ v. ⌜ v ≡ answer (below-ceilings (now (ws .entry)) s n (length (now (lent .entry)))) ⌝ }

@@ -1,4 +1,5 @@
-// The order of the checks: refusals 3 to 14, and 22 between 8 and 9, of the words of a message whose parts are whole.
+// The order of the checks: refusals 3 to 14 and 16 to 18, and 22 between 8 and 9, of the words of a message whose parts
+// are whole.
 use crate::system::system_verdict;
 use answers::is_safe;
 use bads::bad_check;
@@ -22,7 +23,7 @@ ghost use Rattle.system_space.specs.Space.{words-after};
 ghost use Rattle.matching.specs.Patterns.{Unfitted};
 ghost use Rattle.checks.specs.Order.{taken};
 
-// Refusals 3 to 8, 22 and 9 to 14, one after the other; after none the listing is written.
+// Refusals 3 to 8, 22, 9 and all behind, one after the other; after none the listing is written.
 pub fn words_verdict(ws: &[u16], s: Sizes, fitting: &mut [u64], lent: &mut [u32]) -> Verdict
     requires { ⌜ Parts-whole (now ws) s ⌝ }
     requires { ⌜ Unfitted (s .names) (s .rows) (now fitting) ⌝ }

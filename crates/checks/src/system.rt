@@ -1,8 +1,8 @@
-// Refusals 22 and 9 to 14: the letters that mail allows are counted and listed, and those below stand on them; after
-// none the listing is written. The room for names and sets of letters is by need.
-use crate::leaks::ceilings_verdict;
+// Refusals 22, 9 and all behind: the letters that mail allows are counted and listed, and those below stand on them;
+// after none the listing is written. The room for names and sets of letters is by need.
+use crate::bounds::bounds_verdict;
+use crate::stages::form_verdict;
 use answers::is_safe;
-use ceilings_form::entries::ceiling_check;
 use kept_letters::fill_reads;
 use letter_codes::fill_codes;
 use letter_sets::fill_letters;
@@ -38,7 +38,7 @@ ghost use Rattle.letter_codes.specs.Codes.{Coded};
 ghost use Rattle.letter_sets.specs.Sets.{Letter-room};
 ghost use Rattle.system_space.specs.Space.{words-after};
 ghost use Rattle.checks.specs.Order.{from-22, from-11};
-ghost use Rattle.checks.specs.Scratch.{Closed-tables, Numbered};
+ghost use Rattle.checks.specs.Scratch.{Closed-tables, Formed};
 
 // The digits of a letter: its number, and the head of each argument.
 const DIGITS: usize = MAX_ARITY + 1;
@@ -64,7 +64,7 @@ fn letter_words(ws: &[u16], s: Sizes, letter_at: &[u16]) -> usize
     sets * words + s.states
 }
 
-// Refusals 11 to 14 over lent sets of letters.
+// Refusals behind 10 or 16 over lent sets of letters.
 fn lettered_verdict(
     ws: &[u16],
     s: Sizes,
@@ -84,7 +84,7 @@ fn lettered_verdict(
     requires { ⌜ Name-heads (program (now ws) s) (tables (now ws) s) (now names) ⌝ }
     requires { ⌜ Class-letters (program (now ws) s) (tables (now ws) s) (now «letter_at») ⌝ }
     requires { ⌜ Coded (program (now ws) s) (tables (now ws) s) (now codes) ⌝ }
-    requires { ⌜ Numbered (now ws) s n × (n ≤ maxCounters) ⌝ }
+    requires { ⌜ Formed (now ws) s n × (n ≤ maxCounters) ⌝ }
     requires { ⌜ Empty (letter-width (program (now ws) s) (tables (now ws) s)) (now letters) ⌝ }
     requires { ⌜ Letter-room (program (now ws) s) (tables (now ws) s) (now letters) ⌝ }
     requires { ⌜ Owners-room (program (now ws) s) (tables (now ws) s) (now letters) ⌝ }
@@ -93,8 +93,7 @@ fn lettered_verdict(
 {
     fill_letters(ws, s, names, letter_at, codes, letters);
     fill_reads(ws, s, afters, w, fitting, names, letter_at, letters);
-    ceilings_verdict(
-        32,
+    bounds_verdict(
         ws,
         s,
         afters,
@@ -110,7 +109,7 @@ fn lettered_verdict(
     )
 }
 
-// Refusals 11 to 14 of few letters.
+// Refusals behind 10 or 16 of few letters.
 fn few_letters(
     ws: &[u16],
     s: Sizes,
@@ -129,7 +128,7 @@ fn few_letters(
     requires { ⌜ Name-heads (program (now ws) s) (tables (now ws) s) (now names) ⌝ }
     requires { ⌜ Class-letters (program (now ws) s) (tables (now ws) s) (now «letter_at») ⌝ }
     requires { ⌜ Coded (program (now ws) s) (tables (now ws) s) (now codes) ⌝ }
-    requires { ⌜ Numbered (now ws) s n × (n ≤ maxCounters) ⌝ }
+    requires { ⌜ Formed (now ws) s n × (n ≤ maxCounters) ⌝ }
     requires { ⌜ owner-at (program (now ws) s) (tables (now ws) s) (s .states) ≤ 256 ⌝ }
     ensures { λ v. ⌜ v ≡ answer (from-11 (now (ws .entry)) s (length (now (lent .entry)))) ⌝ }
     ensures { λ v. ⌜ now (lent .exit) ≡ words-after v (now (ws .entry)) s (now (lent .entry)) ⌝ }
@@ -152,7 +151,7 @@ fn few_letters(
     )
 }
 
-// Refusals 11 to 14 of more.
+// Refusals behind 10 or 16 of more.
 fn more_letters(
     ws: &[u16],
     s: Sizes,
@@ -171,7 +170,7 @@ fn more_letters(
     requires { ⌜ Name-heads (program (now ws) s) (tables (now ws) s) (now names) ⌝ }
     requires { ⌜ Class-letters (program (now ws) s) (tables (now ws) s) (now «letter_at») ⌝ }
     requires { ⌜ Coded (program (now ws) s) (tables (now ws) s) (now codes) ⌝ }
-    requires { ⌜ Numbered (now ws) s n × (n ≤ maxCounters) ⌝ }
+    requires { ⌜ Formed (now ws) s n × (n ≤ maxCounters) ⌝ }
     requires { ⌜ owner-at (program (now ws) s) (tables (now ws) s) (s .states) ≤ 1024 ⌝ }
     ensures { λ v. ⌜ v ≡ answer (from-11 (now (ws .entry)) s (length (now (lent .entry)))) ⌝ }
     ensures { λ v. ⌜ now (lent .exit) ≡ words-after v (now (ws .entry)) s (now (lent .entry)) ⌝ }
@@ -194,7 +193,7 @@ fn more_letters(
     )
 }
 
-// Refusals 11 to 14 of any number.
+// Refusals behind 10 or 16 of any number.
 fn all_letters(
     ws: &[u16],
     s: Sizes,
@@ -213,7 +212,7 @@ fn all_letters(
     requires { ⌜ Name-heads (program (now ws) s) (tables (now ws) s) (now names) ⌝ }
     requires { ⌜ Class-letters (program (now ws) s) (tables (now ws) s) (now «letter_at») ⌝ }
     requires { ⌜ Coded (program (now ws) s) (tables (now ws) s) (now codes) ⌝ }
-    requires { ⌜ Numbered (now ws) s n × (n ≤ maxCounters) ⌝ }
+    requires { ⌜ Formed (now ws) s n × (n ≤ maxCounters) ⌝ }
     ensures { λ v. ⌜ v ≡ answer (from-11 (now (ws .entry)) s (length (now (lent .entry)))) ⌝ }
     ensures { λ v. ⌜ now (lent .exit) ≡ words-after v (now (ws .entry)) s (now (lent .entry)) ⌝ }
 {
@@ -235,8 +234,8 @@ fn all_letters(
     )
 }
 
-// Refusals 11 to 14 over the least room for sets of letters that fits, which that for `most` words or more may be. It
-// calls itself for the next size: each size has a frame of its own (DECISIONS 46).
+// Refusals behind 10 or 16 over the least room for sets of letters that fits, which that for `most` words or more may
+// be. It calls itself for the next size: each size has a frame of its own (DECISIONS 46).
 fn sets_verdict(
     most: usize,
     ws: &[u16],
@@ -257,7 +256,7 @@ fn sets_verdict(
     requires { ⌜ Name-heads (program (now ws) s) (tables (now ws) s) (now names) ⌝ }
     requires { ⌜ Class-letters (program (now ws) s) (tables (now ws) s) (now «letter_at») ⌝ }
     requires { ⌜ Coded (program (now ws) s) (tables (now ws) s) (now codes) ⌝ }
-    requires { ⌜ Numbered (now ws) s n × (n ≤ maxCounters) ⌝ }
+    requires { ⌜ Formed (now ws) s n × (n ≤ maxCounters) ⌝ }
     ensures { λ v. ⌜ v ≡ answer (from-11 (now (ws .entry)) s (length (now (lent .entry)))) ⌝ }
     ensures { λ v. ⌜ now (lent .exit) ≡ words-after v (now (ws .entry)) s (now (lent .entry)) ⌝ }
 {
@@ -329,7 +328,7 @@ fn sets_verdict(
     )
 }
 
-// Refusals 22 and 9 to 14 over a lent set of heads for each name.
+// Refusals 22, 9 and all behind over a lent set of heads for each name.
 fn named_verdict(
     ws: &[u16],
     s: Sizes,
@@ -356,7 +355,7 @@ fn named_verdict(
         return counters;
     }
     let n = s.states + l;
-    let form = ceiling_check(ws, s, n);
+    let form = form_verdict(ws, s, n);
     if !is_safe(form) {
         return form;
     }
@@ -377,7 +376,7 @@ fn named_verdict(
     )
 }
 
-// Refusals 22 and 9 to 14 of few names.
+// Refusals 22, 9 and all behind of few names.
 fn few_names(
     ws: &[u16],
     s: Sizes,
@@ -407,7 +406,7 @@ fn few_names(
     )
 }
 
-// Refusals 22 and 9 to 14 of any number of names.
+// Refusals 22, 9 and all behind of any number of names.
 fn all_names(
     ws: &[u16],
     s: Sizes,
@@ -436,7 +435,7 @@ fn all_names(
     )
 }
 
-// Refusals 22 and 9 to 14 over the least room for heads of names that fits.
+// Refusals 22, 9 and all behind over the least room for heads of names that fits.
 pub fn system_verdict(
     ws: &[u16],
     s: Sizes,

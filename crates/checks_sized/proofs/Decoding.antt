@@ -10,13 +10,14 @@ use Rattle.model.specs.declared.Sizes.{Sizes}
 use Rattle.model.specs.declared.Verdict.{Verdict}
 use Rattle.model.specs.Verdict.{_>>_}
 use Rattle.model.specs.Words.{words}
-use Rattle.model.specs.Message.{sizes, parts-check, ceilings-at, end-at}
+use Rattle.model.specs.Message.{sizes, parts-check, ceilings-at, weights-at, end-at}
 use Rattle.model.specs.Rows.{program}
 use Rattle.model.specs.Tables.{tables}
 use Rattle.model.specs.Listing.{system-words, written}
 use Rattle.model.specs.Verify.{message, message-check, check, answer, verdict, verdict-within, if-safe, lent-after, lent-after-within}
 use Rattle.model.proofs.Logic.{test}
 use Rattle.model.proofs.Exact.Answer.{check-refuses}
+use Rattle.model.proofs.Exact.Parts.{end-past}
 use Rattle.words.proofs.Words.{words-length}
 use Rattle.message.specs.Whole.{Whole-message}
 use Rattle.evidence.specs.Whole.{Parts-whole}
@@ -34,8 +35,8 @@ pub decoded : (bytes all : List ℕ) (rest : List ℕ) → all ≡ words bytes +
 decoded bytes all rest e = subst (λ n. take n all ≡ words bytes) (words-length bytes) (ap (take (length (words bytes))) e ∙ front (words bytes) rest)
 
 program-fits : (s : Sizes) → 4 + 2 * s .rows ≤ end-at s
-unfolding end-at ceilings-at
-program-fits s = omega arith
+unfolding weights-at ceilings-at
+program-fits s = omega (arith, end-past s)
 
 module _ (bytes : List ℕ) (s : Sizes) (ws : List ℕ) (w : Whole-message bytes s) (e : ws ≡ words bytes) where
   pub parts-whole : Parts-whole ws s

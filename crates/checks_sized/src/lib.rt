@@ -17,7 +17,7 @@ ghost use Rattle.evidence.specs.Whole.{Parts-whole};
 ghost use Rattle.system_space.specs.Space.{words-after};
 ghost use Rattle.checks.specs.Order.{taken};
 
-// Refusals 3 to 14, and 22, of few rows and names.
+// Refusals 3 to 14, 16 to 18 and 22, of few rows and names.
 fn small_fitting(ws: &[u16], s: Sizes, lent: &mut [u32]) -> Verdict
     requires { ⌜ Parts-whole (now ws) s ⌝ }
     requires { ⌜ (s .rows ≤ 64) × (s .names ≤ 64) ⌝ }

@@ -11,7 +11,7 @@ use Rattle.model.specs.declared.Verdict.the-variants.{Safe, Entry}
 use Rattle.model.specs.Keys.{below}
 use Rattle.model.specs.Words.{Columns}
 use Rattle.model.specs.Verdict.{Check, _>>_, unless}
-use Rattle.model.specs.Message.{tables-at, ceilings-at, end-at}
+use Rattle.model.specs.Message.{tables-at}
 use Rattle.model.specs.Rows.{Program, program, is-name}
 use Rattle.model.specs.Heads.{is-class}
 use Rattle.model.specs.Tables.{Tables, tables, is-value, is-pair, is-state, state-at, pair-key, state-key, first-misplaced, list-check, entry-check}
@@ -22,7 +22,7 @@ use Rattle.answers.specs.Safe.{is-safe}
 use Rattle.answers.proofs.Passing.{passed, ends, goes-on}
 use Rattle.lists.specs.declared.Span.{Span}
 use Rattle.lists.specs.Lists.{key-at, span-at, flow-span, mail-span, state-span, listed, thirds, Held}
-use Rattle.lists.proofs.Facts.{flow-listed, flow-thirds, mail-listed, mail-thirds, states-listed, states-thirds}
+use Rattle.lists.proofs.Facts.{flow-listed, flow-thirds, mail-listed, mail-thirds, states-listed, states-thirds, pair-held, triple-held}
 use Rattle.evidence.specs.declared.entries.Table.{Table}
 use Rattle.evidence.specs.declared.entries.Table.the-variants.{Flow, Mail, States}
 use Rattle.evidence.specs.Whole.{Parts-whole}
@@ -72,16 +72,15 @@ module _ (ws : List ℕ) (s : Sizes) where
   -- the lists of the tables lie within the words
   module _ (whole : Parts-whole ws s) (l : Span) where
     pub flow-held : l ≡ flow-span s → Held ws l
-    unfolding flow-span span-at tables-at ceilings-at end-at
-    flow-held e = let w = whole .held in rw e (record { left-held = omega arith; right-held = omega arith; third-held = omega arith })
+    unfolding flow-span
+    flow-held e = rw e (pair-held ws s (s .flows) 0 (whole .held) (omega arith))
 
     pub mail-held : l ≡ mail-span s → Held ws l
-    unfolding mail-span span-at tables-at ceilings-at end-at
-    mail-held e = let w = whole .held in rw e (record { left-held = omega arith; right-held = omega arith; third-held = omega arith })
+    unfolding mail-span
+    mail-held e = rw e (pair-held ws s (s .mails) (s .flows) (whole .held) (omega arith))
 
     pub states-held : l ≡ state-span s → Held ws l
-    unfolding state-span span-at tables-at ceilings-at end-at
-    states-held e = let w = whole .held in rw e (record { left-held = omega arith; right-held = omega arith; third-held = omega arith })
+    states-held e = rw e (triple-held ws s (whole .held))
 
   abbrev checked-at : Table → Span → Check
   checked-at t l = checked (program ws s) t (listed ws l) (thirds ws l) (l .lefts)

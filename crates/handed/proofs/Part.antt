@@ -9,11 +9,12 @@ use Rattle.model.specs.declared.Verdict.{Verdict}
 use Rattle.model.specs.declared.Verdict.the-variants.{Safe}
 use Rattle.model.specs.Verdict.{number}
 use Rattle.model.specs.Words.{words}
-use Rattle.model.specs.Message.{sizes, bads-at, ceilings-at, end-at}
+use Rattle.model.specs.Message.{sizes, bads-at, ceilings-at, weights-at}
 use Rattle.model.specs.Limits.{present}
 use Rattle.model.specs.Verify.{message, check, verdict, if-safe, part-handed, part-handed-within}
 use Rattle.model.proofs.Exact.Checks.{then-none}
 use Rattle.model.proofs.Exact.Answer.{verdict-safe}
+use Rattle.model.proofs.Exact.Parts.{end-past}
 use Rattle.message.proofs.Whole.{whole-check}
 use Rattle.answers.specs.Safe.{is-safe}
 use Rattle.answers.proofs.Passing.{safe-only, else-is}
@@ -34,11 +35,11 @@ module _ (bytes : List ℕ) (n : ℕ) (w : Verdict) (told : w ≡ verdict bytes 
 
   -- it lies within the message
   part-fits : f ≡ true → (k : ℕ) → k ≡ bads-at (sizes (words bytes)) → 2 * k ≤ length bytes
-  unfolding bads-at end-at ceilings-at message check
+  unfolding bads-at weights-at ceilings-at message check
   part-fits h k e =
       let passes = then-none _ _ .0 (verdict-safe present bytes n .0 (safe-told h)) .0 in
       let whole = whole-check bytes passes in
-      omega (arith, whole .bytes-end)
+      omega (arith, whole .bytes-end, end-past (sizes (words bytes)))
 
   -- ... and so the length of what is cut off no later is its end
   pub cut-length : f ≡ true → (k end : ℕ) → k ≡ bads-at (sizes (words bytes)) → end ≤ 2 * k → end ≡ length (take end bytes)

@@ -11,7 +11,7 @@ use borrow.Author.Tests.{lt-ltb, le-ltb, eq-eqb, ne-eqb}
 use Rattle.model.specs.declared.Sizes.{Sizes}
 use Rattle.model.specs.Index.{any, first}
 use Rattle.model.specs.Words.{Columns, left, right, columns}
-use Rattle.model.specs.Message.{tables-at, ceilings-at, end-at}
+use Rattle.model.specs.Message.{tables-at, ceilings-at, weights-at, end-at}
 use Rattle.model.specs.Rows.{program, is-name}
 use Rattle.model.specs.Heads.{is-class}
 use Rattle.model.specs.Tables.{Tables, tables, entries, third-column, is-value, has, state, state-at, same-state, state-index}
@@ -20,6 +20,7 @@ use Rattle.model.specs.Demands.{Below, two-columns, Pairs-listed, States-listed
 use Rattle.model.proofs.Logic.{test}
 use Rattle.model.proofs.Index.{any-intro, any-elim, any-none, none-any, first-below, first-unique}
 use Rattle.model.proofs.Exact.Checks.{then-none}
+use Rattle.model.proofs.Exact.Parts.{end-past}
 use Rattle.model.proofs.Exact.Rows.{row-none}
 use Rattle.model.proofs.Exact.Entries.{entry-none}
 use Rattle.model.proofs.Parse.Reached.{Rows-fit}
@@ -109,16 +110,16 @@ module _ (ws : List ℕ) (s : Sizes) where
 
   -- the columns of a list lie in the words
   span-held : (n k at : ℕ) → end-at s ≤ length ws → n + k ≤ s .flows + s .mails + s .states → at + n ≤ length ws → Held ws (span-at s n k at)
-  unfolding span-at end-at ceilings-at tables-at
-  span-held n k at h l m = record { left-held = omega arith; right-held = omega arith; third-held = m }
+  unfolding span-at weights-at ceilings-at tables-at
+  span-held n k at h l m = let past = end-past s in record { left-held = omega arith; right-held = omega arith; third-held = m }
 
-  pair-held : (n k : ℕ) → end-at s ≤ length ws → n + k ≤ s .flows + s .mails + s .states → Held ws (span-at s n k 0)
-  unfolding end-at ceilings-at
-  pair-held n k h l = span-held n k 0 h l (omega arith)
+  pub pair-held : (n k : ℕ) → end-at s ≤ length ws → n + k ≤ s .flows + s .mails + s .states → Held ws (span-at s n k 0)
+  unfolding weights-at ceilings-at
+  pair-held n k h l = let past = end-past s in span-held n k 0 h l (omega arith)
 
-  triple-held : end-at s ≤ length ws → Held ws (state-span s)
-  unfolding state-span end-at ceilings-at tables-at
-  triple-held h = span-held (s .states) (s .flows + s .mails) _ h (omega arith) (omega arith)
+  pub triple-held : end-at s ≤ length ws → Held ws (state-span s)
+  unfolding state-span weights-at ceilings-at tables-at
+  triple-held h = let past = end-past s in span-held (s .states) (s .flows + s .mails) _ h (omega arith) (omega arith)
 
 -- the index of a state, by its numbers
 pub state-entry : (t : Tables) (c r b : ℕ) → entry-index (t .states) (t .returns) c r b ≡ state-index t (state c r b)

@@ -16,7 +16,7 @@ use Rattle.model.specs.declared.Verdict.the-variants.{Safe, FunctionMailed}
 use Rattle.model.specs.Limits.{present}
 use Rattle.model.specs.Words.{columns, right}
 use Rattle.model.specs.Verdict.{unless}
-use Rattle.model.specs.Message.{tables-at, ceilings-at, end-at}
+use Rattle.model.specs.Message.{tables-at, ceilings-at, weights-at}
 use Rattle.model.specs.Rows.{Program, program, tag}
 use Rattle.model.specs.Heads.{is-function}
 use Rattle.model.specs.Tables.{Tables, entries, tables, mailed-check}
@@ -24,6 +24,7 @@ use Rattle.model.specs.Counters.{counter-check}
 use Rattle.model.specs.Verify.{answer}
 use Rattle.model.proofs.Index.{first-is, first-hit, first-miss, first-end}
 use Rattle.model.proofs.Exact.Checks.{then-none}
+use Rattle.model.proofs.Exact.Parts.{end-past}
 use Rattle.model.proofs.Exact.Answer.{Refuses, then-refuses, mailed-refuses, counter-refuses}
 use Rattle.answers.specs.Safe.{is-safe}
 use Rattle.answers.proofs.Passing.{passed, ends, goes-on}
@@ -86,8 +87,8 @@ module _ (ws : List ℕ) (s : Sizes) where
 
 -- the first column of mail lies in the words
 pub mail-room : (ws : List ℕ) (s : Sizes) → Ready ws s → (l : Span) → l ≡ mail-span s → l .lefts + s .mails ≤ length ws
-unfolding mail-span span-at tables-at ceilings-at end-at
-mail-room ws s ready l e = let w = ready .held in let z = ap (λ x. x .lefts) e in omega arith
+unfolding mail-span span-at tables-at ceilings-at weights-at
+mail-room ws s ready l e = let w = ready .held in let past = end-past s in let z = ap (λ x. x .lefts) e in omega arith
 
 -- entry i is what the code has found
 module _ (ws : List ℕ) (s : Sizes) (i : ℕ) (found : i ≡ mails-from (program ws s) (tables ws s) 0) where

@@ -1,5 +1,6 @@
 -- Laws of refusals 1 and 2 (model, specs/Message.antt): what each test of the code says of the check of a part and of the whole message.
-use Prim.Native.Nat.{ℕ, _+_, _*_, _≤_, _<_}
+use Prim.Native.Nat.{ℕ, _+_, _*_, _^_, _≤_, _<_}
+use native.Mathlib.Decide.{decLt}
 use native.Mathlib.Omega.{arith}
 use mathlib.Core.Path.{_≡_, refl, sym, _∙_, ap}
 use mathlib.Core.Bool.{true, false}
@@ -13,13 +14,14 @@ use Rattle.model.specs.declared.Verdict.{Verdict}
 use Rattle.model.specs.declared.Verdict.the-variants.{Length, Size}
 use Rattle.model.specs.Words.{words}
 use Rattle.model.specs.Verdict.{Check, _>>_, unless}
-use Rattle.model.specs.Message.{Limited, sizes, sizes-check, part-check, program-part, bads-part, tables-part, ceilings-part, nothing-left, end-at, parts-check}
-use Rattle.model.proofs.Logic.{test}
+use Rattle.model.specs.Message.{Limited, sizes, sizes-check, part-check, program-part, bads-part, tables-part, ceilings-part, goes-on, weights-sizes, ceilings-at, weights-at, weights-part, nothing-left, end-at, parts-check}
+use Rattle.model.proofs.Logic.{test, chosen-true, chosen-false}
+use Rattle.model.proofs.Exact.Parts.{end-none, end-some}
 use Rattle.message.specs.declared.Parts.{Parts}
 use Rattle.message.specs.declared.Parts.the-variants.{Whole, Refused}
 use Rattle.message.specs.declared.Checked.{Checked}
 use Rattle.message.specs.declared.Checked.the-variants.{Pass, Fail}
-use Rattle.sizes.specs.Sizes.{inside, first-outside}
+use Rattle.sizes.specs.Sizes.{Placed, inside, first-outside}
 use Rattle.sizes.proofs.Limits.{first-outside-hit, first-outside-miss}
 use Rattle.message.specs.Parts.{checked, answered, parts-of}
 
@@ -82,6 +84,24 @@ module _ (ws : List ℕ) (at : ℕ) (ls : List Limited) (cells : ℕ) where
   unfolding part-check unless _>>_
   part-whole k l = rw (le-leb (at + length ls) (length ws) (omega arith), sizes-pass at ls k, le-leb (at + length ls + cells) (length ws) l)
 
+-- the fifth part, by whether the message goes on
+
+pub no-weights : (bytes ws : List ℕ) (s : Sizes) → goes-on bytes s ≡ false → Pass ≡ checked (weights-part bytes ws s)
+unfolding weights-part checked
+no-weights bytes ws s h = sym (ap checked (chosen-false _ _ _ h))
+
+pub with-weights : (bytes ws : List ℕ) (s : Sizes) (r : Checked) {at : ℕ} → goes-on bytes s ≡ true → at ≡ weights-at s → r ≡ checked (part-check ws at (weights-sizes s) (2 * s .weights)) → r ≡ checked (weights-part bytes ws s)
+unfolding weights-part
+with-weights bytes ws s r h e p = rw e at p ∙ sym (ap checked (chosen-true _ _ _ h))
+
+-- sizes that place the parts place the end
+pub end-small : (s : Sizes) (n : ℕ) → n ≡ end-at s → Placed s → n < 2 ^ 21
+unfolding weights-at ceilings-at
+end-small s n e h = elim (decLt 0 (s .lines)) [
+  | yes w ↦ omega (arith, end-some s w)
+  | no w ↦ omega (arith, end-none s (omega arith))
+]
+
 -- the whole message, by the code's checks one after the other
 
 pub then-go : (p q : Check) (s : Sizes) (r : Checked) (x : Parts) → r ≡ checked p → r ≡ Pass → x ≡ answered q s → x ≡ answered (p >> q) s
@@ -100,7 +120,7 @@ pub no-bytes-left : (bytes : List ℕ) (s : Sizes) (n : ℕ) → n ≡ end-at s 
 unfolding nothing-left unless answered
 no-bytes-left bytes s n e h = rw (← e, le-leb (length bytes) (2 * n) h)
 
-pub parts-by : (bytes : List ℕ) (s : Sizes) (x : Parts) → s ≡ sizes (words bytes) → x ≡ answered (program-part present (words bytes) s >> (bads-part (words bytes) s >> (tables-part present (words bytes) s >> (ceilings-part (words bytes) s >> nothing-left bytes s)))) s → x ≡ parts-of bytes
+pub parts-by : (bytes : List ℕ) (s : Sizes) (x : Parts) → s ≡ sizes (words bytes) → x ≡ answered (program-part present (words bytes) s >> (bads-part (words bytes) s >> (tables-part present (words bytes) s >> (ceilings-part (words bytes) s >> (weights-part bytes (words bytes) s >> nothing-left bytes s))))) s → x ≡ parts-of bytes
 unfolding parts-of parts-check
 parts-by bytes s x e t = rw (← e) t
 

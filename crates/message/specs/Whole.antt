@@ -1,4 +1,4 @@
--- A message whose four parts are whole: what is so of it.
+-- A message whose parts are whole: what is so of it.
 use Prim.Native.Nat.{ℕ, _*_, _≤_}
 use mathlib.Core.Path.{_≡_}
 use mathlib.Core.List.{List}

@@ -1,4 +1,4 @@
-// The four parts of a message, and refusals 1 and 2. Any bytes at all get an answer.
+// The parts of a message, and refusals 1 and 2. Any bytes at all get an answer.
 ghost use mathlib.Core.Path.{_≡_};
 ghost use mathlib.Core.List.{List};
 ghost use Prim.Native.Nat.{_+_, _^_, _<_};
@@ -6,6 +6,7 @@ ghost use lib.ListN.{length};
 ghost use Rattle.model.specs.Limits.{present};
 ghost use Rattle.model.specs.Words.{words};
 ghost use Rattle.model.specs.Message.{Limited, part-check, program-part, bads-part, tables-part, ceilings-part};
+ghost use Rattle.model.specs.Message.{goes-on, weights-part};
 ghost use Rattle.sizes.specs.Sizes.{Placed, first-outside};
 ghost use Rattle.message.specs.Parts.{checked, parts-of};
 use model::Sizes;
@@ -20,8 +21,10 @@ use sizes::sizes_of;
 use sizes::table_cells;
 use sizes::tables_at;
 use sizes::tables_outside;
+use sizes::weights_at;
+use sizes::weights_outside;
 
-// The four parts: whole, with their sizes, or the refusal.
+// The parts: whole, with their sizes, or the refusal.
 pub enum Parts {
     Whole(Sizes),
     Refused(Verdict),
@@ -87,6 +90,25 @@ fn ceilings_part(bytes: &[u8], s: Sizes) -> Checked
     part(bytes, ceilings_at(s), 2, ceilings_outside(s), 2 * s.entries)
 }
 
+// A message goes on with weights: it has no ceilings, and bytes behind their two sizes.
+fn goes_on(bytes: &[u8], s: Sizes) -> bool
+    requires { ⌜ Placed s ⌝ }
+    ensures { λ r. ⌜ r ≡ goes-on (now (bytes .entry)) s ⌝ }
+{
+    s.ceilings + s.entries == 0 && 2 * weights_at(s) < bytes.len()
+}
+
+// The weights part, where there is one: lines and their entries; counter numbers and weights.
+fn weights_part(bytes: &[u8], s: Sizes) -> Checked
+    requires { ⌜ Placed s ⌝ }
+    ensures { λ r. ⌜ r ≡ checked (weights-part (now (bytes .entry)) (words (now (bytes .entry))) s) ⌝ }
+{
+    if !goes_on(bytes, s) {
+        return Checked::Pass;
+    }
+    part(bytes, weights_at(s), 2, weights_outside(s), 2 * s.weights)
+}
+
 // Refusals 1 and 2 of any bytes, part by part; then that no bytes remain.
 pub fn parts_of(bytes: &[u8]) -> Parts
     ensures { λ r. ⌜ r ≡ parts-of (now (bytes .entry)) ⌝ }
@@ -102,6 +124,9 @@ pub fn parts_of(bytes: &[u8]) -> Parts
         return Parts::Refused(v);
     }
     if let Checked::Fail(v) = ceilings_part(bytes, s) {
+        return Parts::Refused(v);
+    }
+    if let Checked::Fail(v) = weights_part(bytes, s) {
         return Parts::Refused(v);
     }
     let end = end_at(s);

@@ -6,17 +6,17 @@ use mathlib.Core.List.{List}
 use lib.ListN.{length, take, drop, length-take, length-drop}
 use lib.Dec.{eqb}
 use Rattle.model.specs.declared.Verdict.{Verdict}
-use Rattle.model.specs.declared.Verdict.the-variants.{Safe, Length, Size, Row, Name, Scope, Bad, Entry, Open, Counters, Ceiling, Start, Met, Leak, Space, FunctionMailed}
+use Rattle.model.specs.declared.Verdict.the-variants.{Safe, Length, Size, Row, Name, Scope, Bad, Entry, Open, Counters, Ceiling, Start, Met, Leak, Space, FunctionMailed, Weights, Rise, Light}
 use Rattle.model.specs.Verdict.{number}
-use Rattle.model.specs.Message.{sizes, ceilings-at, end-at}
+use Rattle.model.specs.Message.{sizes, ceilings-at, weights-at, end-at}
 use Rattle.model.specs.Words.{words, columns}
 use Rattle.model.specs.Rows.{size, tag, program}
 use Rattle.model.specs.Listing.{listed-rules}
 use Rattle.model.specs.Verify.{message, verdict-within, if-safe, lent-after-within, part-handed-within}
 use Rattle.model.specs.Demands.{All-runs-followed, Refusal-changes-nothing, Safe-exactly, System-written, Runs-stay-counted}
 use Rattle.model.proofs.Exact.Tests.{fails-iff, eqb-iff}
-use Rattle.model.proofs.Exact.Parts.{words-length}
-use Rattle.model.proofs.Exact.Sound.{Ceilings-exactly}
+use Rattle.model.proofs.Exact.Parts.{words-length, end-past}
+use Rattle.model.proofs.Exact.Sound.{Ceilings-exactly, Weights-exactly}
 use Rattle.model.proofs.Exact.Sound
 use Rattle.model.proofs.Parse.Lengths.{Columns-whole}
 use Rattle.model.proofs.Listed.{listed-system}
@@ -24,6 +24,7 @@ use Rattle.model.proofs.Runs.{all-runs-followed}
 use Rattle.model.proofs.Rows.{program-end}
 use Rattle.model.proofs.Numbering.Counters.{row-head-low}
 use Rattle.model.proofs.Bounded.Exact.{message-built, tests-exact}
+use Rattle.model.proofs.Weighed.Exact as Weighed
 
 -- number 0 is safe's alone
 safe-number : (v : Verdict) → number v ≡ 0 → v ≡ Safe
@@ -44,6 +45,9 @@ safe-number (Met at) h = absurd (omega (arith, h))
 safe-number (Leak at) h = absurd (omega (arith, h))
 safe-number (Space at) h = absurd (omega (arith, h))
 safe-number (FunctionMailed at) h = absurd (omega (arith, h))
+safe-number (Weights at) h = absurd (omega (arith, h))
+safe-number (Rise at) h = absurd (omega (arith, h))
+safe-number (Light at) h = absurd (omega (arith, h))
 
 -- what an answer other than safe gives
 not-safe : {A : Type 0} (v : Verdict) (a b : A) → (v ≡ Safe → ⊥) → if-safe v a b ≡ b
@@ -63,9 +67,13 @@ refusal-changes-nothing =
 ceilings-exactly : Ceilings-exactly
 ceilings-exactly most bytes short formed = tests-exact bytes short (formed .form .bads)
 
+-- refusals 17 and 18 are exact
+weights-exactly : Weights-exactly
+weights-exactly most bytes short formed weights = Weighed.tests-exact bytes (formed .form .bads) weights
+
 -- Demand 2
 pub safe-exactly : Safe-exactly
-safe-exactly = Sound.safe-exactly ceilings-exactly
+safe-exactly = Sound.safe-exactly ceilings-exactly weights-exactly
 
 pub system-written : System-written
 unfolding lent-after-within if-safe number
@@ -76,9 +84,10 @@ column-whole : (ws : List ℕ) (n at : ℕ) → at + n ≤ length ws → length 
 column-whole ws n at h = omega (arith, length-take n (drop at ws), length-drop at ws)
 
 pub rows-whole : (bytes : List ℕ) → length bytes ≡ 2 * end-at (message bytes .sizes) → Columns-whole (message bytes .program)
-unfolding message program columns end-at ceilings-at
+unfolding message program columns weights-at ceilings-at
 rows-whole bytes h =
     let (a, b) = words-length bytes in
+    let past = end-past (message bytes .sizes) in
     let n : ℕ = sizes (words bytes) .rows in
     record { tags = column-whole (words bytes) n 4 (omega arith); numbers = column-whole (words bytes) n (4 + n) (omega arith) }
 
@@ -96,4 +105,4 @@ runs-stay-counted most bytes lent short safe =
     subst (All-runs-followed m)
     (sym (ap listed-rules (system-written most bytes lent safe) ∙ listed-system (m .program) (m .tables) lent))
     (all-runs-followed m (sound .program .rows-fit) w (past-the-end bytes)
-    (row-head-low (m .program) (message-built bytes (sound .program .rows-fit))) (sound .closed) (sound .bounded))
+    (row-head-low (m .program) (message-built bytes (sound .program .rows-fit))) (sound .closed) (sound .evidence))

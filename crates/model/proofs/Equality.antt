@@ -117,5 +117,5 @@ all-matches-may most bytes lent short safe numbers i q there =
     let w = rows-whole bytes (sound .whole) in
     let end = past-the-end bytes in
     let qs = run p numbers in
-    let good = run-good m fit w end (row-head-low p (message-built bytes fit)) (sound .closed) (sound .bounded) numbers in
+    let good = run-good m fit w end (row-head-low p (message-built bytes fit)) (sound .closed) (sound .evidence) numbers in
     good-matches p t fit w end (row-head-low p (message-built bytes fit)) (sound .closed) (classes-of qs) (classed p t (classes-of qs) qs good) q (good-at p t (classes-of qs) qs i q good there)

@@ -1,7 +1,8 @@
 -- Laws of the loops of specs/Index.antt. For each: what it gives at the end and after one turn (for a loop of the code), and what it says of
 -- the indices (for a proof about the model).
-use Prim.Native.Nat.{ℕ, zero, suc, _+_, _-_, _≤_, _<_}
+use Prim.Native.Nat.{ℕ, zero, suc, _+_, _-_, _*_, _≤_, _<_}
 use native.Mathlib.Decide.{ℕ-discrete, decLt}
+use native.Mathlib.Nat.{mul-add, mul-zero}
 use native.Mathlib.Omega.{arith}
 use mathlib.Core.Path.{_≡_, refl, sym, _∙_, ap, subst}
 use mathlib.Core.Bool.{Bool, true, false}
@@ -328,6 +329,16 @@ totalIn-swap (suc n) i m j f =
     let b = totalIn-plus m j (f i) (λ y. totalIn n (i + 1) (λ x. f x y)) in
     omega arith
 
+totalIn-le : (n i : ℕ) (f g : ℕ → ℕ) → ((k : ℕ) → f k ≤ g k) → totalIn n i f ≤ totalIn n i g
+unfolding totalIn
+totalIn-le zero i f g h = omega arith
+totalIn-le (suc n) i f g h = omega (arith, h i, totalIn-le n (i + 1) f g h)
+
+totalIn-times : (n i c : ℕ) (f : ℕ → ℕ) → totalIn n i (λ k. c * f k) ≡ c * totalIn n i f
+unfolding totalIn
+totalIn-times zero i c f = sym (mul-zero c)
+totalIn-times (suc n) i c f = omega (arith, totalIn-times n (i + 1) c f, mul-add c (f i) (totalIn n (i + 1) f))
+
 pub total-end : (i e : ℕ) (f : ℕ → ℕ) → e ≤ i → total i e f ≡ 0
 unfolding total totalIn
 total-end i e f h = rw (over i e h)
@@ -353,6 +364,16 @@ total-none i e f h = total-same i e f (λ k. 0) h ∙ totalIn-zero (e - i) i
 pub total-plus : (i e : ℕ) (f g : ℕ → ℕ) → total i e (λ k. f k + g k) ≡ total i e f + total i e g
 unfolding total
 total-plus i e f g = totalIn-plus (e - i) i f g
+
+-- where no term is higher, the sum is not
+pub total-le : (i e : ℕ) (f g : ℕ → ℕ) → ((k : ℕ) → f k ≤ g k) → total i e f ≤ total i e g
+unfolding total
+total-le i e f g h = totalIn-le (e - i) i f g h
+
+-- a number of times the sum
+pub total-times : (i e c : ℕ) (f : ℕ → ℕ) → total i e (λ k. c * f k) ≡ c * total i e f
+unfolding total
+total-times i e c f = totalIn-times (e - i) i c f
 
 -- a sum of sums, the other way round
 pub total-swap : (i e i′ e′ : ℕ) (f : ℕ → ℕ → ℕ) → total i e (λ a. total i′ e′ (f a)) ≡ total i′ e′ (λ b. total i e (λ a. f a b))

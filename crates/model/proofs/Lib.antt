@@ -1,8 +1,3 @@
-pub mod Opens
-pub mod Cases
-pub mod RunCases
-pub mod VerdictCases
-pub mod CounterCases
 pub mod Logic
 pub mod Index
 pub mod Reader
@@ -14,6 +9,7 @@ pub mod Keys
 pub mod Listed
 pub mod Numbering
 pub mod Bounded
+pub mod Weighed
 pub mod Covering
 pub mod Grow
 pub mod Lookups
@@ -33,12 +29,10 @@ pub mod LetterSums
 pub mod Sums
 pub mod Longer
 pub mod Mailed
-pub mod Controls
 pub mod Transitions
 pub mod Equality
 pub mod HeldScopes
 pub mod NoEmptyName
-pub mod NameCases
 pub mod TwoDeep
 pub mod OneDeep
 pub mod ByCounter

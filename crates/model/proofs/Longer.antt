@@ -136,6 +136,8 @@ module _ (few many : Limits) (wider : Wider few many) where
           states = leb-iff _ _ .0 b;
           ceilings = l .ceilings;
           entries = l .entries;
+          lines = l .lines;
+          weights = l .weights;
         };
         program = f .program;
         form = f .form;

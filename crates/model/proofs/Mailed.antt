@@ -44,7 +44,7 @@ no-function-mailed most bytes lent short safe numbers i q there f held held-ther
     let sound = safe-exactly most bytes lent short .0 safe in
     let fit = sound .program .rows-fit in
     let qs = run p numbers in
-    let good = run-good m fit (rows-whole bytes (sound .whole)) (past-the-end bytes) (row-head-low p (message-built bytes fit)) (sound .closed) (sound .bounded) numbers in
+    let good = run-good m fit (rows-whole bytes (sound .whole)) (past-the-end bytes) (row-head-low p (message-built bytes fit)) (sound .closed) (sound .evidence) numbers in
     let (listed, covered) = good-at p t (classes-of qs) qs i q good there .mailbox (closure f held) held-there in
     sound .mailed (listed .at) (listed .below) (mails-iff p t (listed .at) .0 (ap (is-function p) (listed .second) ∙ covered .0))
 

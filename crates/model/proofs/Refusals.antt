@@ -1,22 +1,24 @@
 -- The table of refusals is exact (`Refused` of specs/Refusals.antt): each check refuses what its line says and nothing else; where it refuses nothing,
 -- what holds is more, and where a line holds, no check before it refuses.
 use Prim.Native.Nat.{ℕ, _+_, _≤_, _<_}
+use native.Mathlib.Decide.{ℕ-discrete}
 use native.Mathlib.Omega.{arith}
 use mathlib.Core.Path.{_≡_, refl, sym, ap, subst, _∙_}
-use mathlib.Core.Bool.{Bool, true, false}
+use mathlib.Core.Bool.{Bool, true, false, _&&_}
 use mathlib.Core.Logic.{_↔_, Iff·trans, Iff·and, Iff·rfl, _⊎_, inl, inr, ⊎-elim}
 use mathlib.Core.List.{List, [], _∷_}
 use mathlib.Core.Option.{some, none, Option·map, map-eq-some-iff, Option·some-injective, Option·none-ne-some}
 use lib.ListN.{length, replicate}
 use lib.Dec.{leb, eqb}
+use borrow.Author.Tests.{eq-eqb, ne-eqb}
 use Rattle.model.specs.declared.Sizes.{Sizes}
 use Rattle.model.specs.declared.Verdict.{Verdict}
-use Rattle.model.specs.declared.Verdict.the-variants.{Safe, Row, Name, Scope, Bad, Entry, Open, Counters, Ceiling, Start, Met, Space, FunctionMailed}
+use Rattle.model.specs.declared.Verdict.the-variants.{Safe, Row, Name, Scope, Bad, Entry, Open, Counters, Ceiling, Start, Met, Space, FunctionMailed, Weights, Light}
 use Rattle.model.specs.Limits.{Limits}
 use Rattle.model.specs.Words.{Columns}
 use Rattle.model.specs.Keys.{Key}
 use Rattle.model.specs.Verdict.{Check, _>>_}
-use Rattle.model.specs.Message.{bads-at, tables-at, ceilings-at, parts-check}
+use Rattle.model.specs.Message.{bads-at, tables-at, ceilings-at, weights-at, goes-on, parts-check}
 use Rattle.model.specs.Reader.{Grammar, first-wrong}
 use Rattle.model.specs.Rows.{Program, size, is-name, step, whole, row-check}
 use Rattle.model.specs.Scopes.{bound-again, name-check, out-of-scope, scope-check}
@@ -30,14 +32,15 @@ use Rattle.model.specs.Rules.{rules}
 use Rattle.model.specs.Listing.{system-words, space-check}
 use Rattle.model.specs.Markings.{initial}
 use Rattle.model.specs.Ceilings.{Ceilings, ceiling-entries, ceiling-step, ceilings-ahead, ceilings-of, ceiling-check, start-check, met-check, leak-check}
-use Rattle.model.specs.Verify.{Message, message, program-check, evidence-check, ceilings-check, message-check, check, answer, verdict-within}
+use Rattle.model.specs.Weights.{Lines, weight-entries, weight-step, lines-ahead, lines-of, weight-check, rise-check, light-check}
+use Rattle.model.specs.Verify.{Message, message, program-check, evidence-check, ceilings-check, weights-check, bounds-check, message-check, check, answer, verdict-within}
 use Rattle.model.specs.Wanted.{Present, Wanted-first}
 use Rattle.model.specs.Wanted.{Entry as Table-entry}
-use Rattle.model.specs.Demands.{Bytes, Legal-pair, two-columns, Pairs-listed, Legal-state, three-columns, Under-one}
-use Rattle.model.specs.Refusals.{First-such, Behind, Behind, Message-part, parts, Whole, Wrong, Bound-again, Bound, Reads-outside, Placed, Lacks, Allowed, Passed, Refused, Refused-exactly, Said, Verdict-exactly, of-sound, of-refused}
-use Rattle.model.specs.Refusals.{parts-passed, rows-passed, names-passed, scopes-passed, bads-passed, entries-passed, closed-passed, mailed-passed, counters-passed, ceilings-passed, start-passed, bad-passed, kept-passed}
-use Rattle.model.specs.Refusals.{sizes-short, arrays-short, bytes-remain, size-outside, row-wrong, name-again, name-unbound, scope-left, bad-wrong, flow-misplaced, mail-misplaced, state-misplaced, opening-missing, state-open, function-mailed, counters-over, ceiling-wrong, start-outside, bad-met, ceiling-left, no-space}
-use Rattle.model.proofs.Logic.{test}
+use Rattle.model.specs.Demands.{Bytes, Legal-pair, two-columns, Pairs-listed, Legal-state, three-columns, Under-one, By-ceilings, By-weights}
+use Rattle.model.specs.Refusals.{First-such, Behind, Behind, Message-part, parts, Whole, Wrong, Bound-again, Bound, Reads-outside, Placed, Lacks, Allowed, Raises, Unsettled, Passed, Refused, Refused-exactly, Said, Verdict-exactly, of-sound, of-refused}
+use Rattle.model.specs.Refusals.{parts-passed, rows-passed, names-passed, scopes-passed, bads-passed, entries-passed, closed-passed, mailed-passed, counters-passed, ceilings-passed, start-passed, bad-passed, kept-passed, counters-weighed, weights-passed, rise-passed, light-passed}
+use Rattle.model.specs.Refusals.{sizes-short, arrays-short, bytes-remain, size-outside, row-wrong, name-again, name-unbound, scope-left, bad-wrong, flow-misplaced, mail-misplaced, state-misplaced, opening-missing, state-open, function-mailed, counters-over, ceiling-wrong, start-outside, bad-met, ceiling-left, weights-wrong, line-raised, bad-light, no-space}
+use Rattle.model.proofs.Logic.{test, chosen-true, chosen-false}
 use Rattle.model.proofs.Reader.{by-option}
 use Rattle.model.proofs.Exact.Tests.{leb-iff, fails-iff, passes-iff, all-refuted}
 use Rattle.model.proofs.Exact.Checks.{then-none, then-some, then-some-iff, unless-some, unless-iff, unless-refutes, first-none, first-some}
@@ -47,13 +50,14 @@ use Rattle.model.proofs.Exact.Reading.{first-wrong-some}
 use Rattle.model.proofs.Exact.Rows.{row-none, reads-name}
 use Rattle.model.proofs.Exact.Names.{None-again, again-iff, again-none, once-iff, binder-iff, name-none, outside-iff}
 use Rattle.model.proofs.Exact.Entries.{placed-iff, list-none, entry-none, mailed-none, mailed-some, bad-none}
-use Rattle.model.proofs.Exact.Entries.{ceiling-none, pair-iff, state-iff}
+use Rattle.model.proofs.Exact.Entries.{ceiling-none, weight-none, pair-iff, state-iff}
 use Rattle.model.proofs.Exact.Closed.{finds-first, lacks-iff, function-below, open-none}
 use Rattle.model.proofs.Exact.Finds.{Finds, found-iff, missing-iff}
 use Rattle.model.proofs.Bounded.Under.{under-some-exact}
 use Rattle.model.proofs.Numbering.Within.{within-iff}
 use Rattle.model.proofs.Bounded.Leak.{start-check-exact}
 use Rattle.model.proofs.Bounded.Exact.{met-exact, met-refuses, leak-none, leak-refuses}
+use Rattle.model.proofs.Weighed.Exact.{rise-none, rise-refuses, light-none, light-refuses}
 use Rattle.model.proofs.Demands.{safe-exactly}
 
 -- a reading refuses its first wrong row
@@ -100,6 +104,9 @@ module _ (most : Limits) (bytes : List ℕ) (short : Bytes bytes) (lent : ℕ) w
 
   abbrev bs : Ceilings
   bs = m .ceilings
+
+  abbrev ls : Lines
+  ls = m .lines
 
   -- Each check refuses what its line says, exactly.
 
@@ -176,13 +183,27 @@ module _ (most : Limits) (bytes : List ℕ) (short : Bytes bytes) (lent : ℕ) w
   start-some v = unless-refutes _ _ v (under-some-exact bs (initial p t))
 
   bads-known : Passed most bytes 12 → first-wrong (bad-step p) (m .bads) (replicate (s .bads) bad) ≡ none
-  bads-known (start-passed (ceilings-passed (counters-passed (mailed-passed (closed-passed (entries-passed (bads-passed x bads) flow mail states) closed) mailed) few) form) under) = bads
+  bads-known (start-passed (ceilings-passed (counters-passed (mailed-passed (closed-passed (entries-passed (bads-passed x bads) flow mail states) closed) mailed) few by) form) under) = bads
 
   met-none : Passed most bytes 12 → (met-check s p t bs (m .bads) ≡ none) ↔ ((j : ℕ) → j < s .bads → Allowed m j → ⊥)
   met-none x = met-exact bytes short (bads-known x)
 
   met-some : Passed most bytes 12 → (v : Verdict) → (met-check s p t bs (m .bads) ≡ some v) ↔ ((j : ℕ) × First-such (s .bads) (Allowed m) j × (Met (bads-at s + 2 + bad-row p (m .bads) j) ≡ v))
   met-some x = met-refuses bytes short (bads-known x)
+
+  weight-some : (v : Verdict) → (weight-check (m .words) s (counter-count p t) ≡ some v) ↔ ((e : ℕ) × Wrong (weight-step (ls .counters)) (weight-entries (m .words) s) (lines-ahead (s .lines)) e × (Weights (weights-at s + 2 + e) ≡ v))
+  unfolding weight-check message lines-of
+  weight-some v = wrong-some (weight-step (ls .counters)) (weight-entries (m .words) s) (lines-ahead (s .lines)) (λ e. Weights (weights-at s + 2 + e)) v
+
+  -- what is known before 18: the bads are in form, and there are lines
+  weighed-known : Passed most bytes 18 → (first-wrong (bad-step p) (m .bads) (replicate (s .bads) bad) ≡ none) × By-weights m
+  weighed-known (rise-passed (weights-passed (counters-weighed (mailed-passed (closed-passed (entries-passed (bads-passed x bads) flow mail states) closed) mailed) few by) form) rise) = (bads, by)
+
+  light-known : Passed most bytes 18 → (light-check s p t ls (m .bads) ≡ none) ↔ ((j : ℕ) → j < s .bads → Unsettled m j → ⊥)
+  light-known x = let (bads, by) = weighed-known x in light-none bytes bads by
+
+  light-some : Passed most bytes 18 → (v : Verdict) → (light-check s p t ls (m .bads) ≡ some v) ↔ ((j : ℕ) × First-such (s .bads) (Unsettled m) j × (Light (bads-at s + 2 + bad-row p (m .bads) j) ≡ v))
+  light-some x = let (bads, by) = weighed-known x in light-refuses bytes bads by
 
   space-some : (v : Verdict) → (space-check p t lent ≡ some v) ↔ ((length (system-words p t) ≤ lent → ⊥) × (Space (length (system-words p t)) ≡ v))
   unfolding space-check
@@ -216,7 +237,7 @@ module _ (most : Limits) (bytes : List ℕ) (short : Bytes bytes) (lent : ℕ) w
             (λ u. told (arrays-short k part b (u .0) (u .1 .0)) (u .1 .1))
             (z .1))
             w)
-            (λ y. let (w, l, q) = y in told (bytes-remain w l) q)
+            (λ y. let (w, (on, (l, q))) = y in told (bytes-remain w on l) q)
             (parts-some most bytes v .0 h);
         passes = λ x h. let (a, b) = parts-none most bytes .0 h in parts-passed a b;
       }
@@ -280,11 +301,15 @@ module _ (most : Limits) (bytes : List ℕ) (short : Bytes bytes) (lent : ℕ) w
         passes = λ x h. mailed-passed x (mailed-none s p t .0 h);
       }
 
-  counter-stage : Stage (counter-check most s p t) (Passed most bytes 9) (Passed most bytes 10)
+  -- before 10 or 16
+  abbrev Counted : Type 0
+  Counted = Passed most bytes 9 × (counter-count p t ≤ most .counters)
+
+  counter-stage : Stage (counter-check most s p t) (Passed most bytes 9) Counted
   counter-stage =
       record {
         refuses = λ x v h. let (n, q) = counter-some v .0 h in told (counters-over x (omega arith)) q;
-        passes = λ x h. counters-passed x (counter-none .0 h);
+        passes = λ x h. (x, counter-none .0 h);
       }
 
   ceiling-stage : Stage (ceiling-check (m .words) s (counter-count p t)) (Passed most bytes 10) (Passed most bytes 11)
@@ -316,6 +341,59 @@ module _ (most : Limits) (bytes : List ℕ) (short : Bytes bytes) (lent : ℕ) w
         passes = λ x h. kept-passed x (leak-none bytes short .0 h);
       }
 
+  weight-stage : Stage (weight-check (m .words) s (counter-count p t)) (Passed most bytes 16) (Passed most bytes 17)
+  unfolding message lines-of
+  weight-stage =
+      record {
+        refuses = λ x v h. let (e, w, q) = weight-some v .0 h in told (weights-wrong e x w) q;
+        passes = λ x h. weights-passed x (weight-none (m .words) s (ls .counters) .0 h);
+      }
+
+  rise-stage : Stage (rise-check (m .words) s ls (rules p t)) (Passed most bytes 17) (Passed most bytes 18)
+  rise-stage =
+      record {
+        refuses = λ x v h. let (k, f, q) = rise-refuses bytes v .0 h in told (line-raised k x f) q;
+        passes = λ x h. rise-passed x (rise-none bytes .0 h);
+      }
+
+  light-stage : Stage (light-check s p t ls (m .bads)) (Passed most bytes 18) (Passed most bytes 14)
+  light-stage =
+      record {
+        refuses = λ x v h. let (j, f, q) = light-some x v .0 h in told (bad-light j x f) q;
+        passes = λ x h. light-passed x (light-known x .0 h);
+      }
+
+  -- "in place of 10 to 13"
+  by-ceilings : By-ceilings m → bounds-check m ≡ ceilings-check m
+  unfolding bounds-check
+  by-ceilings h = chosen-true (eqb (s .lines) 0) (ceilings-check m) (weights-check m) (eq-eqb (s .lines) 0 h)
+
+  by-weights : By-weights m → bounds-check m ≡ weights-check m
+  unfolding bounds-check
+  by-weights h = chosen-false (eqb (s .lines) 0) (ceilings-check m) (weights-check m) (ne-eqb (s .lines) 0 (λ z. omega arith))
+
+  ceilings-stage : Stage (ceilings-check m) (Passed most bytes 10) (Passed most bytes 14)
+  unfolding ceilings-check
+  ceilings-stage = ceiling-stage then start-stage then met-stage then leak-stage
+
+  weights-stage : Stage (weights-check m) (Passed most bytes 16) (Passed most bytes 14)
+  unfolding weights-check
+  weights-stage = weight-stage then rise-stage then light-stage
+
+  bounds-stage : Stage (bounds-check m) Counted (Passed most bytes 14)
+  bounds-stage = elim (ℕ-discrete (s .lines) 0) [
+    | yes z ↦ record {
+      refuses = λ x v h. ceilings-stage .refuses (counters-passed (x .0) (x .1) z) v (sym (by-ceilings z) ∙ h);
+      passes = λ x h. ceilings-stage .passes (counters-passed (x .0) (x .1) z) (sym (by-ceilings z) ∙ h);
+    }
+    | no z ↦
+        let one : By-weights m = omega arith in
+        record {
+          refuses = λ x v h. weights-stage .refuses (counters-weighed (x .0) (x .1) one) v (sym (by-weights one) ∙ h);
+          passes = λ x h. weights-stage .passes (counters-weighed (x .0) (x .1) one) (sym (by-weights one) ∙ h);
+        }
+  ]
+
   space-stage : Stage (space-check p t lent) (Passed most bytes 14) (Unit {0})
   space-stage =
       record {
@@ -323,12 +401,20 @@ module _ (most : Limits) (bytes : List ℕ) (short : Bytes bytes) (lent : ℕ) w
         passes = λ x h. tt;
       }
 
-  -- "Checked in that order", each beside its number
+  -- "Checked in that order", each beside its number: up to 9, and then by the ceilings or by the weights
   abbrev checks : List (ℕ × Check)
   checks =
       (3, row-check p) ∷ (4, name-check p) ∷ (5, scope-check p) ∷ (6, bad-check (m .words) s p) ∷ (7, entry-check s p t) ∷ (8, open-check s p t) ∷
-      (22, mailed-check s p t) ∷ (9, counter-check most s p t) ∷ (10, ceiling-check (m .words) s (counter-count p t)) ∷ (11, start-check s p t bs) ∷
-      (12, met-check s p t bs (m .bads)) ∷ (13, leak-check (m .words) s bs (rules p t)) ∷ []
+      (22, mailed-check s p t) ∷ (9, counter-check most s p t) ∷ (0, bounds-check m) ∷ []
+
+  abbrev ceilings-checks : List (ℕ × Check)
+  ceilings-checks =
+      (10, ceiling-check (m .words) s (counter-count p t)) ∷ (11, start-check s p t bs) ∷ (12, met-check s p t bs (m .bads)) ∷
+      (13, leak-check (m .words) s bs (rules p t)) ∷ []
+
+  abbrev weights-checks : List (ℕ × Check)
+  weights-checks =
+      (16, weight-check (m .words) s (counter-count p t)) ∷ (17, rise-check (m .words) s ls (rules p t)) ∷ (18, light-check s p t ls (m .bads)) ∷ []
 
   abbrev from : List (ℕ × Check) → Check
   from [] = space-check p t lent
@@ -339,19 +425,33 @@ module _ (most : Limits) (bytes : List ℕ) (short : Bytes bytes) (lent : ℕ) w
   starting-with k [] = []
   starting-with k (c ∷ cs) = elim (eqb (c .0) k) [ true ↦ c ∷ cs | false ↦ starting-with k cs ]
 
+  abbrev those : ℕ → List (ℕ × Check)
+  those k = elim (leb 10 k && leb k 14) [
+    | true ↦ starting-with k ceilings-checks
+    | false ↦ elim (leb 16 k && leb k 18) [ true ↦ starting-with k weights-checks | false ↦ starting-with k checks ]
+  ]
+
   in-order : check most bytes lent ≡ (parts-check most bytes >> from checks)
-  unfolding check message-check program-check evidence-check ceilings-check
-  in-order = simp (program-check, evidence-check, ceilings-check, then-assoc)
+  unfolding check message-check program-check evidence-check
+  in-order = simp (program-check, evidence-check, then-assoc)
+
+  ceilings-in-order : (ceilings-check m >> space-check p t lent) ≡ from ceilings-checks
+  unfolding ceilings-check
+  ceilings-in-order = simp (ceilings-check, then-assoc)
+
+  weights-in-order : (weights-check m >> space-check p t lent) ≡ from weights-checks
+  unfolding weights-check
+  weights-in-order = simp (weights-check, then-assoc)
 
   refuses-as-said : (v : Verdict) → check most bytes lent ≡ some v → Refused most bytes lent v
   refuses-as-said v h =
       (parts-stage then row-stage then name-stage then scope-stage then bad-stage then entry-stage then open-stage then mailed-stage then counter-stage then
-      ceiling-stage then start-stage then met-stage then leak-stage then space-stage)
+      bounds-stage then space-stage)
       .refuses tt v (sym in-order ∙ h)
 
   -- Where checks have passed, the answer is that of the others.
-  others : {k : ℕ} → Passed most bytes k → check most bytes lent ≡ from (starting-with k checks)
-  unfolding message ceilings-of
+  others : {k : ℕ} → Passed most bytes k → check most bytes lent ≡ from (those k)
+  unfolding message ceilings-of lines-of
   others (parts-passed a b) = in-order ∙ skip _ (parts-none most bytes .1 (a, b))
   others (rows-passed x fit) = others x ∙ skip _ (row-none p .1 fit)
   others (names-passed x again bound) = others x ∙ skip _ (name-none p .1 (once-iff p .0 again, bound))
@@ -360,14 +460,20 @@ module _ (most : Limits) (bytes : List ℕ) (short : Bytes bytes) (lent : ℕ) w
   others (entries-passed x flow mail states) = others x ∙ skip _ (entry-none s p t .1 (flow, (mail, states)))
   others (closed-passed x closed) = others x ∙ skip _ (open-none (m .words) s t .1 closed)
   others (mailed-passed x mailed) = others x ∙ skip _ (mailed-none s p t .1 mailed)
-  others (counters-passed x few) = others x ∙ skip _ (counter-none .1 few)
+  others (counters-passed x few by) =
+      others x ∙ (skip _ (counter-none .1 few) ∙ (ap (λ c. c >> space-check p t lent) (by-ceilings by) ∙ ceilings-in-order))
   others (ceilings-passed x fit) = others x ∙ skip _ (ceiling-none (m .words) s (bs .counters) .1 fit)
   others (start-passed x under) = others x ∙ skip _ (start-check-exact s p t bs .1 under)
   others (bad-passed x none-met) = others x ∙ skip _ (met-none x .1 none-met)
   others (kept-passed x none-left) = others x ∙ skip _ (leak-none bytes short .1 none-left)
+  others (counters-weighed x few by) =
+      others x ∙ (skip _ (counter-none .1 few) ∙ (ap (λ c. c >> space-check p t lent) (by-weights by) ∙ weights-in-order))
+  others (weights-passed x fit) = others x ∙ skip _ (weight-none (m .words) s (ls .counters) .1 fit)
+  others (rise-passed x none-raised) = others x ∙ skip _ (rise-none bytes .1 none-raised)
+  others (light-passed x none-light) = others x ∙ skip _ (light-known x .1 none-light)
 
   -- A line that holds is the answer.
-  part-told : {v : Verdict} (k : ℕ) (part : Message-part) → Behind (Whole (m .words)) (parts most s) k part → Part-wrong (m .words) part v → check most bytes lent ≡ some v
+  part-told : {v : Verdict} (k : ℕ) (part : Message-part) → Behind (Whole (m .words)) (parts most bytes s) k part → Part-wrong (m .words) part v → check most bytes lent ≡ some v
   unfolding message
   part-told {v} k part b w = in-order ∙ stop _ (parts-some most bytes v .1 (inl (k, part, b, w)))
 
@@ -378,7 +484,7 @@ module _ (most : Limits) (bytes : List ℕ) (short : Bytes bytes) (lent : ℕ) w
       test (leb (part .first + length (part .sizes)) (length (m .words)))
       (λ e. part-told k part b (inr (leb-iff _ _ .0 e, inr (w, (n, refl)))))
       (λ e. part-told k part b (inl (fails-iff _ (leb-iff _ _) .0 e, refl)))
-  said-refuses v (bytes-remain w l) = in-order ∙ stop _ (parts-some most bytes v .1 (inr (w, l, refl)))
+  said-refuses v (bytes-remain w on l) = in-order ∙ stop _ (parts-some most bytes v .1 (inr (w, (on, (l, refl)))))
   said-refuses v (size-outside k i part l b whole c n) = part-told k part b (inr (whole, inl (i, l, c, n, refl)))
   said-refuses v (row-wrong r x w) = others x ∙ stop _ (row-some v .1 (r, w, refl))
   said-refuses v (name-again r x f) = others x ∙ stop _ (name-some v .1 (inl (r, f, refl)))
@@ -396,6 +502,9 @@ module _ (most : Limits) (bytes : List ℕ) (short : Bytes bytes) (lent : ℕ) w
   said-refuses v (start-outside x n) = others x ∙ stop _ (start-some v .1 (n, refl))
   said-refuses v (bad-met j x f) = others x ∙ stop _ (met-some x v .1 (j, f, refl))
   said-refuses v (ceiling-left k x f) = others x ∙ stop _ (leak-refuses bytes short v .1 (k, f, refl))
+  said-refuses v (weights-wrong e x w) = others x ∙ stop _ (weight-some v .1 (e, w, refl))
+  said-refuses v (line-raised k x f) = others x ∙ stop _ (rise-refuses bytes v .1 (k, f, refl))
+  said-refuses v (bad-light j x f) = others x ∙ stop _ (light-some x v .1 (j, f, refl))
   said-refuses v (no-space x l) = others x ∙ space-some v .1 (λ z. omega arith, refl)
 
 answer-iff : (c : Check) (v : Verdict) → Refuses c → ((answer c ≡ v) × (v ≡ Safe → ⊥)) ↔ (c ≡ some v)

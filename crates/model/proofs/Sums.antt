@@ -190,7 +190,7 @@ module _ (most : Limits) (bytes : List ℕ) (lent : ℕ) (sound : Sound most byt
   pub sums : (numbers : List ℕ) (counts : Marking) → Equal-counts m (run p numbers) counts → Sums m (run p numbers) counts
   sums numbers counts equal =
       let qs : Processes = run p numbers in
-      let good = run-good m (sound .program .rows-fit) (rows-whole bytes (sound .whole)) (past-the-end bytes) heads-low (sound .closed) (sound .bounded) numbers in
+      let good = run-good m (sound .program .rows-fit) (rows-whole bytes (sound .whole)) (past-the-end bytes) heads-low (sound .closed) (sound .evidence) numbers in
       let lows = good-low p t (classes-of qs) low qs good in
       let proper = good-proper p t (sound .program .rows-fit) (rows-whole bytes (sound .whole)) (past-the-end bytes) made heads-low (classes-of qs) (classed p t (classes-of qs) qs good) qs good in
       let ascending = sound .form .states .ascending in
@@ -205,7 +205,7 @@ module _ (most : Limits) (bytes : List ℕ) (lent : ℕ) (sound : Sound most byt
 
   pub never-met : (numbers : List ℕ) (j : ℕ) → j < m .sizes .bads → All-met (counted-in p (run p numbers)) (m .bads) j → ⊥
   never-met numbers j b met =
-      let runs = all-runs-followed m (sound .program .rows-fit) (rows-whole bytes (sound .whole)) (past-the-end bytes) heads-low (sound .closed) (sound .bounded) in
+      let runs = all-runs-followed m (sound .program .rows-fit) (rows-whole bytes (sound .whole)) (past-the-end bytes) heads-low (sound .closed) (sound .evidence) in
       let together = runs .followed numbers .throughout (length numbers) (omega arith) in
       let equal = subst (λ (is : List ℕ). Equal-counts m (run p is) (together .counts)) (take-length numbers) (together .equal) in
       let alike = sums numbers (together .counts) equal .alike in

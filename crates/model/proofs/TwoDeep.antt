@@ -232,6 +232,6 @@ messages-allowed most bytes lent short safe numbers i q there v m =
     let end = past-the-end bytes in
     let low = row-head-low p (message-built bytes fit) in
     let qs = run p numbers in
-    let good = run-good (message bytes) fit w end low (sound .closed) (sound .bounded) numbers in
+    let good = run-good (message bytes) fit w end low (sound .closed) (sound .evidence) numbers in
     let (mailed, covered) = good-at p t (classes-of qs) qs i q good there .mailbox v m in
     (row-for (classes-of qs) v, (mailed, allows-iff p t low (row-for (classes-of qs) v) _ .0 (letter-allowed p t fit w end low (classes-of qs) (classed p t (classes-of qs) qs good) v covered)))

@@ -10,7 +10,8 @@ use lib.ListN.{length, take, getD, replicate}
 use Rattle.model.specs.declared.Sizes.{Sizes}
 use Rattle.model.specs.declared.Verdict.the-variants.{Safe}
 use Rattle.model.specs.Limits.{Limits, maxNames, maxConstructors, maxFunctions, maxBads, minBadRows, maxBadRows}
-use Rattle.model.specs.Limits.{maxFlows, maxMails, maxCeilings, maxCeilingEntries, omega-limit}
+use Rattle.model.specs.Limits.{maxFlows, maxMails, maxCeilings, maxCeilingEntries, maxLines, maxWeightEntries}
+use Rattle.model.specs.Limits.{omega-limit}
 use Rattle.model.specs.Tags.{tag-function, tag-global}
 use Rattle.model.specs.Words.{Columns, left, right}
 use Rattle.model.specs.Keys.{Key}
@@ -31,6 +32,7 @@ use Rattle.model.specs.Rules.{Rule, rules}
 use Rattle.model.specs.Listing.{system-words, written, listed-rules}
 use Rattle.model.specs.Markings.{Marking, usable, fire, initial, fire-all, count-in, sum-in}
 use Rattle.model.specs.Ceilings.{Ceilings, ceiling-entries, ceiling-step, ceilings-ahead}
+use Rattle.model.specs.Weights.{weight-entries, weight-step, lines-ahead, weighed}
 use Rattle.model.specs.Verify.{Message, message, verdict-within, lent-after-within, part-handed-within}
 
 -- the bytes of a message are bytes: every list that a slice of bytes holds is so
@@ -65,6 +67,9 @@ pub record Within-limits (most : Limits) (s : Sizes) : Type 0 where
   pub states : s .states ≤ most .states
   pub ceilings : s .ceilings ≤ maxCeilings
   pub entries : s .entries ≤ maxCeilingEntries
+  -- document 02, (v); where there is no fifth part, both are 0
+  pub lines : s .lines ≤ maxLines
+  pub weights : s .weights ≤ maxWeightEntries
 
 -- "the program is well formed": its rows fit, each name below V is bound in one place, each name read is in scope
 pub record Well-formed (p : Program) : Type 0 where
@@ -120,6 +125,16 @@ pub record In-form (m : Message) : Type 0 where
   pub ceilings :
       first-wrong (ceiling-step (m .ceilings .counters)) (ceiling-entries (m .words) (m .sizes))
       (ceilings-ahead (m .sizes .ceilings)) ≡ none
+  pub weights :
+      first-wrong (weight-step (m .lines .counters)) (weight-entries (m .words) (m .sizes))
+      (lines-ahead (m .sizes .lines)) ≡ none
+
+-- Document 02, (v): a message is held to its ceilings where it has no lines of weights, else to these.
+abbrev pub By-ceilings : Message → Type 0
+By-ceilings m = m .sizes .lines ≡ 0
+
+abbrev pub By-weights : Message → Type 0
+By-weights m = 1 ≤ m .sizes .lines
 
 -- "Counts lie under a ceiling when each is at most its limit there, or that is unbounded"
 abbrev pub Under : Ceilings → ℕ → Marking → Type 0
@@ -142,6 +157,30 @@ pub record Inductive (m : Message) : Type 0 where
   pub meet-no-bad :
       (counts : Marking) (j : ℕ) → Under-one (m .ceilings) counts → j < m .sizes .bads → Met m counts j → ⊥
 
+-- the weighed sum of the counts in line k
+abbrev pub line-sum : Message → ℕ → Marking → ℕ
+line-sum m k counts = weighed (m .lines .counters) (m .lines .weight k) counts
+
+-- "some line must weigh its minimums above the start": one line whose sum is above the start's for all counts that meet
+-- bad j
+abbrev pub Settled : Message → ℕ → Type 0
+Settled m j =
+    (k : ℕ) × (k < m .lines .size) ×
+    ((counts : Marking) → Met m counts j → line-sum m k (initial (m .program) (m .tables)) < line-sum m k counts)
+
+-- Document 02, (v): "The change a rule makes to a weighed sum ... must not be above zero. For each bad, some line must
+-- weigh its minimums above the start."
+pub record Weighed (m : Message) : Type 0 where
+  pub never-rise :
+      (k : ℕ) → k < m .lines .size → (counts : Marking) (ρ : Rule) → List·Memᴰ ρ (rules (m .program) (m .tables)) →
+      usable ρ counts ≡ true → line-sum m k (fire ρ counts) ≤ line-sum m k counts
+  pub settled : (j : ℕ) → j < m .sizes .bads → Settled m j
+
+-- the clause on the ceilings, and the one in place of it
+pub record Evidence (m : Message) : Type 0 where
+  pub bounded : By-ceilings m → Inductive m
+  pub weighed : By-weights m → Weighed m
+
 -- Document 02, (x): the value of mail entry i "has tag 3 or 11"
 abbrev pub Mails-function : Program → Tables → ℕ → Type 0
 Mails-function p t i = (tag p (right (t .mail) i) ≡ tag-function) ⊎ (tag p (right (t .mail) i) ≡ tag-global)
@@ -159,7 +198,7 @@ pub record Sound (most : Limits) (bytes : List ℕ) (lent : ℕ) : Type 0 where
   pub closed : Closed (message bytes .program) (message bytes .tables)
   pub mailed : Mails-no-function (message bytes .program) (message bytes .tables)
   pub counters : counter-count (message bytes .program) (message bytes .tables) ≤ most .counters
-  pub bounded : Inductive (message bytes)
+  pub evidence : Evidence (message bytes)
   pub space : length (system-words (message bytes .program) (message bytes .tables)) ≤ lent
 
 abbrev pub Safe-exactly : Type 0
@@ -194,12 +233,16 @@ pub record Equal-counts (m : Message) (qs : Processes) (counts : Marking) : Type
       messages-of (m .program) qs c l ≡ count-in (m .program) (m .tables) counts (letter-of c l)
 
 -- after some numbers of a list: the rules used so far are a run, and its counts are those of the station, under one
--- ceiling, meeting no bad
+-- ceiling, meeting no bad; document 02, (v): "the clause about ceilings is then about sums never rising", here above
+-- the start's
 pub record Together (m : Message) (numbers : List ℕ) (options : List (Option Rule)) : Type 0 where
   pub counts : Marking
   pub is-run : fire-all (used options) (initial (m .program) (m .tables)) ≡ some counts
   pub equal : Equal-counts m (run (m .program) numbers) counts
-  pub bounded : Under-one (m .ceilings) counts
+  pub bounded : By-ceilings m → Under-one (m .ceilings) counts
+  pub not-above :
+      By-weights m → (l : ℕ) → l < m .lines .size →
+      line-sum m l counts ≤ line-sum m l (initial (m .program) (m .tables))
   pub no-bad : (j : ℕ) → j < m .sizes .bads → Met m counts j → ⊥
 
 -- the whole list, with its rules: at the start and after each number
@@ -210,6 +253,11 @@ pub record Followed (m : Message) (system : List Rule) (numbers : List ℕ) (opt
       Matches system (step-of (m .program) (run (m .program) (take k numbers)) (getD numbers k 0))
       (getD options k none)
   pub throughout : (k : ℕ) → k ≤ length numbers → Together m (take k numbers) (take k options)
+  -- document 02, (v): "sums never rising": after each number no line's sum is above what it was after any before, or at
+  -- the start
+  pub never-risen :
+      By-weights m → (j k : ℕ) → j ≤ k → (before : j ≤ length numbers) (now : k ≤ length numbers) → (l : ℕ) →
+      l < m .lines .size → line-sum m l (throughout k now .counts) ≤ line-sum m l (throughout j before .counts)
 
 -- Every list of process numbers has its rules of the written words; a longer list's rules go on from a shorter one's.
 pub record All-runs-followed (m : Message) (system : List Rule) : Type 0 where

@@ -1,6 +1,6 @@
--- Document 01, "The message", Limits, and document 02, (vi): each limit by its name, once. (src/lib.rt has the same
--- numbers as constants for the code; antt can't cite a constant of Rattle, and a contract of the code that reads one is
--- refused where the two differ.)
+-- Document 01, "The message", Limits, and document 02, (v) and (vi): each limit by its name, once. (src/lib.rt has the
+-- same numbers as constants for the code; antt can't cite a constant of Rattle, and a contract of the code that reads
+-- one is refused where the two differ.)
 use Prim.Native.Nat.{ℕ}
 
 -- The limits that request (vi) of document 02 raises: of R, of S and of the counters. A verdict is a function of them.
@@ -64,6 +64,16 @@ maxCeilings = 256
 -- ceiling entries to 8,192
 abbrev pub maxCeilingEntries : ℕ
 maxCeilingEntries = 8192
+
+-- document 02, (v): "W lines (1 to 16) and E entries (to 8,192)", "weights 1 to 1,000"
+abbrev pub maxLines : ℕ
+maxLines = 16
+
+abbrev pub maxWeightEntries : ℕ
+maxWeightEntries = 8192
+
+abbrev pub maxWeight : ℕ
+maxWeight = 1000
 
 -- Arity, parameters and a call's count to 8
 abbrev pub maxArity : ℕ

@@ -3,7 +3,7 @@
 -- (Verify.antt says the same as checks.)
 use Prim.Native.Nat.{ℕ, _+_, _-_, _*_, _≤_, _<_}
 use mathlib.Core.Path.{_≡_}
-use mathlib.Core.Bool.{true}
+use mathlib.Core.Bool.{Bool, true, false}
 use mathlib.Core.Logic.{_↔_, _⊎_}
 use mathlib.Core.List.{List, [], _∷_, _++_, List·Memᴰ}
 use mathlib.Core.Option.{some, none}
@@ -12,11 +12,12 @@ use Rattle.model.specs.declared.Sizes.{Sizes}
 use Rattle.model.specs.declared.Verdict.{Verdict}
 use Rattle.model.specs.declared.Verdict.the-variants.{Safe, Length, Size, Row, Name, Scope, Bad, Entry, Open}
 use Rattle.model.specs.declared.Verdict.the-variants.{Counters, Ceiling, Start, Met, Leak, Space, FunctionMailed}
+use Rattle.model.specs.declared.Verdict.the-variants.{Weights, Rise, Light}
 use Rattle.model.specs.Limits.{Limits}
 use Rattle.model.specs.Words.{Columns, left, right}
 use Rattle.model.specs.Keys.{Key}
 use Rattle.model.specs.Message.{bads-at, tables-at, ceilings-at, end-at, Limited, program-sizes, bads-sizes}
-use Rattle.model.specs.Message.{table-cells, tables-sizes, ceilings-sizes}
+use Rattle.model.specs.Message.{table-cells, tables-sizes, ceilings-sizes, weights-at, weights-sizes, goes-on}
 use Rattle.model.specs.Reader.{Grammar, first-wrong}
 use Rattle.model.specs.Rows.{Program, size, tag, num, is-name, step, whole}
 use Rattle.model.specs.Scopes.{binds, uses, binds-name, in-scope}
@@ -28,12 +29,13 @@ use Rattle.model.specs.Rules.{Rule, rules}
 use Rattle.model.specs.Listing.{system-words}
 use Rattle.model.specs.Markings.{Marking, usable, fire, initial}
 use Rattle.model.specs.Ceilings.{Ceilings, ceiling-entries, ceiling-step, ceilings-ahead, ceiling-entry}
+use Rattle.model.specs.Weights.{Lines, weight-entries, weight-step, lines-ahead, line-entry}
 use Rattle.model.specs.Verify.{Message, message, verdict-within}
 use Rattle.model.specs.Wanted.{Present, Wanted-first, Wanted-by, Closed}
 use Rattle.model.specs.Wanted.{Entry as Table-entry}
 use Rattle.model.specs.Demands.{Bytes, Between, Within-limits, Under, Under-one, Sound, Mails-function}
 use Rattle.model.specs.Demands.{Mails-no-function, Below, Legal-pair, Legal-state, two-columns, three-columns}
-use Rattle.model.specs.Demands.{Pairs-listed, States-listed}
+use Rattle.model.specs.Demands.{Pairs-listed, States-listed, By-ceilings, By-weights, line-sum}
 use Rattle.model.specs.Demands.{Met as Meets}
 
 -- the first of n that is so
@@ -53,8 +55,16 @@ pub record Message-part : Type 0 where
   pub sizes : List Limited
   pub cells : ℕ
 
-abbrev pub parts : Limits → Sizes → List Message-part
-parts most s =
+-- document 02, (v): the fifth, where a message goes on
+abbrev pub weights-parts : Bool → Sizes → List Message-part
+weights-parts on s =
+    elim on [
+      | true ↦ record { first = weights-at s; sizes = weights-sizes s; cells = 2 * s .weights } ∷ []
+      | false ↦ []
+    ]
+
+abbrev pub parts : Limits → List ℕ → Sizes → List Message-part
+parts most bytes s =
     record { first = 0; sizes = program-sizes most s; cells = 2 * s .rows } ∷
     record { first = bads-at s; sizes = bads-sizes s; cells = 2 * s .badrows } ∷
     record {
@@ -62,7 +72,8 @@ parts most s =
       sizes = tables-sizes most s;
       cells = table-cells (s .flows) (s .mails) (s .states);
     } ∷
-    record { first = ceilings-at s; sizes = ceilings-sizes s; cells = 2 * s .entries } ∷ []
+    record { first = ceilings-at s; sizes = ceilings-sizes s; cells = 2 * s .entries } ∷
+    weights-parts (goes-on bytes s) s
 
 abbrev pub Within : Limited → Type 0
 Within l = Between (l .least) (l .most) (l .size)
@@ -81,7 +92,7 @@ Arrays-whole ws part = part .first + length (part .sizes) + part .cells ≤ leng
 abbrev pub Whole : List ℕ → Message-part → Type 0
 Whole ws part = Each-within (part .sizes) × Arrays-whole ws part
 
--- For 3, 6 and 10: the items still to come before row r, where each row was taken by the item on top
+-- For 3, 6, 10 and 16: the items still to come before row r, where each row was taken by the item on top
 pub data Ahead {Item : Type 0} (step : Grammar Item) (rows : Columns) (whole : List Item) :
     ℕ → List Item → Type 0 where
   at-first : Ahead step rows whole 0 whole
@@ -135,6 +146,20 @@ pub record Leaks (bs : Ceilings) (ρs : List Rule) (k : ℕ) : Type 0 where
   pub used : usable rule counts ≡ true
   pub out : Under-one bs (fire rule counts) → ⊥
 
+-- For 17: from some counts a rule raises the sum of line k
+pub record Raises (m : Message) (k : ℕ) : Type 0 where
+  pub counts : Marking
+  pub rule : Rule
+  pub listed : List·Memᴰ rule (rules (m .program) (m .tables))
+  pub used : usable rule counts ≡ true
+  pub higher : line-sum m k counts < line-sum m k (fire rule counts)
+
+-- For 18: in each line some counts that meet bad j weigh no more than the start
+abbrev pub Unsettled : Message → ℕ → Type 0
+Unsettled m j =
+    (k : ℕ) → k < m .lines .size →
+    (counts : Marking) × Meets m counts j × (line-sum m k counts ≤ line-sum m k (initial (m .program) (m .tables)))
+
 module _ (most : Limits) (bytes : List ℕ) where
   abbrev m : Message
   m = message bytes
@@ -153,6 +178,9 @@ module _ (most : Limits) (bytes : List ℕ) where
 
   abbrev bs : Ceilings
   bs = m .ceilings
+
+  abbrev ls : Lines
+  ls = m .lines
 
   abbrev No-name-again : Type 0
   No-name-again = (r : ℕ) → r < size p → Bound-again p r → ⊥
@@ -173,7 +201,7 @@ module _ (most : Limits) (bytes : List ℕ) where
     entries-passed : Passed 7 → Flow-listed → Mail-listed → States-listed p t → Passed 8
     closed-passed : Passed 8 → Closed p t → Passed 22
     mailed-passed : Passed 22 → Mails-no-function p t → Passed 9
-    counters-passed : Passed 9 → counter-count p t ≤ most .counters → Passed 10
+    counters-passed : Passed 9 → counter-count p t ≤ most .counters → By-ceilings m → Passed 10
     ceilings-passed :
         Passed 10 →
         first-wrong (ceiling-step (bs .counters)) (ceiling-entries ws s) (ceilings-ahead (s .ceilings)) ≡ none →
@@ -181,20 +209,30 @@ module _ (most : Limits) (bytes : List ℕ) where
     start-passed : Passed 11 → Under-one bs (initial p t) → Passed 12
     bad-passed : Passed 12 → ((j : ℕ) → j < s .bads → Allowed m j → ⊥) → Passed 13
     kept-passed : Passed 13 → ((k : ℕ) → k < bs .size → Leaks bs (rules p t) k → ⊥) → Passed 14
+    -- document 02, (v): "in that order, in place of 10 to 13"
+    counters-weighed : Passed 9 → counter-count p t ≤ most .counters → By-weights m → Passed 16
+    weights-passed :
+        Passed 16 →
+        first-wrong (weight-step (ls .counters)) (weight-entries ws s) (lines-ahead (s .lines)) ≡ none → Passed 17
+    rise-passed : Passed 17 → ((k : ℕ) → k < ls .size → Raises m k → ⊥) → Passed 18
+    light-passed : Passed 18 → ((j : ℕ) → j < s .bads → Unsettled m j → ⊥) → Passed 14
 
   pub data Refused (lent : ℕ) : Verdict → Type 0 where
-    -- 1 length: "a part is not whole: its first word; bytes remain: the word past the ceilings"
+    -- 1 length: "a part is not whole: its first word; bytes remain: the word past the ceilings"; document 02, (v):
+    -- "bytes left: word past it", where a message that goes on has lines
     sizes-short :
-        (k : ℕ) (part : Message-part) → Behind (Whole ws) (parts most s) k part → (Sizes-whole ws part → ⊥) →
+        (k : ℕ) (part : Message-part) → Behind (Whole ws) (parts most bytes s) k part → (Sizes-whole ws part → ⊥) →
         Refused lent (Length (part .first))
     arrays-short :
-        (k : ℕ) (part : Message-part) → Behind (Whole ws) (parts most s) k part → Each-within (part .sizes) →
+        (k : ℕ) (part : Message-part) → Behind (Whole ws) (parts most bytes s) k part → Each-within (part .sizes) →
         (Arrays-whole ws part → ⊥) → Refused lent (Length (part .first))
-    bytes-remain : Within-limits most s → 2 * end-at s < length bytes → Refused lent (Length (end-at s))
+    bytes-remain :
+        Within-limits most s → (goes-on bytes s ≡ true → By-weights m) → 2 * end-at s < length bytes →
+        Refused lent (Length (end-at s))
     -- 2 size: "a size outside its limits: the first such size"
     size-outside :
-        (k i : ℕ) (part : Message-part) (l : Limited) → Behind (Whole ws) (parts most s) k part → Sizes-whole ws part →
-        Behind Within (part .sizes) i l → (Within l → ⊥) → Refused lent (Size (part .first + i))
+        (k i : ℕ) (part : Message-part) (l : Limited) → Behind (Whole ws) (parts most bytes s) k part →
+        Sizes-whole ws part → Behind Within (part .sizes) i l → (Within l → ⊥) → Refused lent (Size (part .first + i))
     -- 3 row: "tag, number, depth or row count wrong: 4 + first such row, or 4 + R if rows end early"
     row-wrong : (r : ℕ) → Passed 3 → Wrong (step p) (p .rows) (whole p) r → Refused lent (Row (4 + r))
     -- 4 name: "bound again: 4 + that row; else never bound: 1"
@@ -252,6 +290,19 @@ module _ (most : Limits) (bytes : List ℕ) where
     ceiling-left :
         (k : ℕ) → Passed 13 → First-such (bs .size) (Leaks bs (rules p t)) k →
         Refused lent (Leak (ceilings-at s + 2 + ceiling-entry (bs .counters) (ceiling-entries ws s) k))
+    -- 16 weights: "for form or not W lines, placed as 10 is"
+    weights-wrong :
+        (e : ℕ) → Passed 16 →
+        Wrong (weight-step (ls .counters)) (weight-entries ws s) (lines-ahead (s .lines)) e →
+        Refused lent (Weights (weights-at s + 2 + e))
+    -- 17 rise: "placed at the first entry of the first line that a rule raises"
+    line-raised :
+        (k : ℕ) → Passed 17 → First-such (ls .size) (Raises m) k →
+        Refused lent (Rise (weights-at s + 2 + line-entry (ls .counters) (weight-entries ws s) k))
+    -- 18 light: "placed at the first tag of the first unsettled bad"
+    bad-light :
+        (j : ℕ) → Passed 18 → First-such (s .bads) (Unsettled m) j →
+        Refused lent (Light (bads-at s + 2 + bad-row p (m .bads) j))
     -- 14 space: "system words exceed the lent slice: the words needed"
     no-space : Passed 14 → lent < length (system-words p t) → Refused lent (Space (length (system-words p t)))
 

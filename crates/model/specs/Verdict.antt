@@ -6,6 +6,7 @@ use mathlib.Core.Option.{Option, some, none}
 use Rattle.model.specs.declared.Verdict.{Verdict}
 use Rattle.model.specs.declared.Verdict.the-variants.{Safe, Length, Size, Row, Name, Scope, Bad, Entry, Open}
 use Rattle.model.specs.declared.Verdict.the-variants.{Counters, Ceiling, Start, Met, Leak, Space, FunctionMailed}
+use Rattle.model.specs.declared.Verdict.the-variants.{Weights, Rise, Light}
 
 -- the column "number"
 unfoldable pub number : Verdict → ℕ
@@ -24,6 +25,9 @@ number (Start at) = 11
 number (Met at) = 12
 number (Leak at) = 13
 number (Space at) = 14
+number (Weights at) = 16
+number (Rise at) = 17
+number (Light at) = 18
 number (FunctionMailed at) = 22
 
 -- the column "place"; of safe, place 0
@@ -43,6 +47,9 @@ place (Start at) = at
 place (Met at) = at
 place (Leak at) = at
 place (Space at) = at
+place (Weights at) = at
+place (Rise at) = at
+place (Light at) = at
 place (FunctionMailed at) = at
 
 -- a refusal, or none

@@ -21,8 +21,9 @@ use Rattle.model.specs.Counters.{counter-count, counter-check}
 use Rattle.model.specs.Rules.{rules}
 use Rattle.model.specs.Listing.{system-words, written, space-check}
 use Rattle.model.specs.Ceilings.{Ceilings, ceilings-of, ceiling-check, start-check, met-check, leak-check}
+use Rattle.model.specs.Weights.{Lines, lines-of, weight-check, rise-check, light-check}
 
--- a message taken apart
+-- a message taken apart: it has ceilings, or weights and then no ceilings
 pub record Message : Type 0 where
   pub words : List ℕ
   pub sizes : Sizes
@@ -30,6 +31,7 @@ pub record Message : Type 0 where
   pub bads : Columns
   pub tables : Tables
   pub ceilings : Ceilings
+  pub lines : Lines
 
 unfoldable pub message : List ℕ → Message
 message bytes =
@@ -37,14 +39,15 @@ message bytes =
     let s : Sizes = sizes ws in
     let p : Program = program ws s in
     let t : Tables = tables ws s in
+    let counters : ℕ = counter-count p t in
     record {
       words = ws;
       sizes = s;
       program = p;
       bads = bad-rows ws s;
       tables = t;
-      ceilings = ceilings-of ws s
-          (counter-count p t);
+      ceilings = ceilings-of ws s counters;
+      lines = lines-of ws s counters;
     }
 
 -- refusals 3 to 5: the program
@@ -68,10 +71,21 @@ ceilings-check m =
     met-check (m .sizes) (m .program) (m .tables) (m .ceilings) (m .bads) >>
     leak-check (m .words) (m .sizes) (m .ceilings) (rules (m .program) (m .tables))
 
--- refusals 3 to 14 and 22: a message whose parts are whole, and the number of lent words
+-- refusals 16 to 18: the weights, "in that order"
+unfoldable pub weights-check : Message → Check
+weights-check m =
+    weight-check (m .words) (m .sizes) (counter-count (m .program) (m .tables)) >>
+    rise-check (m .words) (m .sizes) (m .lines) (rules (m .program) (m .tables)) >>
+    light-check (m .sizes) (m .program) (m .tables) (m .lines) (m .bads)
+
+-- "in place of 10 to 13": by the weights where the message has lines of them, else by the ceilings
+unfoldable pub bounds-check : Message → Check
+bounds-check m = elim (eqb (m .sizes .lines) 0) [ true ↦ ceilings-check m | false ↦ weights-check m ]
+
+-- refusals 3 to 14, 16 to 18 and 22: a message whose parts are whole, and the number of lent words
 unfoldable pub message-check : Limits → Message → ℕ → Check
 message-check most m lent =
-    program-check (m .program) >> evidence-check most m >> ceilings-check m >> space-check (m .program) (m .tables) lent
+    program-check (m .program) >> evidence-check most m >> bounds-check m >> space-check (m .program) (m .tables) lent
 
 -- "Checked in that order, each over the whole message"
 unfoldable pub check : Limits → List ℕ → ℕ → Check

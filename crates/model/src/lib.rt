@@ -1,6 +1,7 @@
 // The declared types and the limits that every crate above uses. There is no code here: specs/ say what the papers say.
 
-// The sizes at the head of the four parts of a message, in the order in which they stand there.
+// The sizes at the head of the parts of a message, in the order in which they stand there. Those of the fifth part,
+// request (v) of document 02, are 0 where a message has none.
 pub struct Sizes {
     pub rows: usize,
     pub names: usize,
@@ -15,6 +16,9 @@ pub struct Sizes {
     pub ceilings: usize,
     // the entries of the ceilings part
     pub entries: usize,
+    // the lines of the weights part, and its entries
+    pub lines: usize,
+    pub weights: usize,
 }
 
 // The answer for a message: safe, or the refusal's word in document 01 with its position. specs/Verdict.antt gives
@@ -37,6 +41,10 @@ pub enum Verdict {
     Space(usize),
     // Request (x) of document 02, number 22: checked between Open and Counters.
     FunctionMailed(usize),
+    // Request (v) of document 02, numbers 16 to 18: in place of Ceiling, Start, Met and Leak where there are weights.
+    Weights(usize),
+    Rise(usize),
+    Light(usize),
 }
 
 // The limits of document 01, three of them raised by request (vi) of document 02, for the code. specs/Limits.antt has
@@ -65,6 +73,12 @@ pub const MAX_CEILINGS: usize = 256;
 
 pub const MAX_CEILING_ENTRIES: usize = 8192;
 
+pub const MAX_LINES: usize = 16;
+
+pub const MAX_WEIGHT_ENTRIES: usize = 8192;
+
+pub const MAX_WEIGHT: usize = 1000;
+
 pub const MAX_COUNTERS: usize = 1024;
 
 pub const MAX_ARITY: usize = 8;
@@ -76,7 +90,8 @@ pub const MAX_DEPTH: usize = 4;
 pub const OMEGA: usize = 65535;
 
 // The words of the longest message: specs/Message.antt has them as maxWords.
-pub const MAX_WORDS: usize = MAX_PROGRAM + MAX_EVIDENCE + MAX_CEILING_WORDS;
+// It has weights, behind the two sizes of no ceilings: as many entries as ceilings may have, and two sizes more.
+pub const MAX_WORDS: usize = MAX_PROGRAM + MAX_EVIDENCE + MAX_WEIGHT_WORDS;
 
 const MAX_PROGRAM: usize = 4 + 2 * MAX_ROWS;
 
@@ -86,7 +101,7 @@ const MAX_EVIDENCE: usize = 2
     + 2 * (MAX_FLOWS + MAX_MAILS + MAX_STATES)
     + MAX_STATES;
 
-const MAX_CEILING_WORDS: usize = 2 + 2 * MAX_CEILING_ENTRIES;
+const MAX_WEIGHT_WORDS: usize = 2 + 2 + 2 * MAX_WEIGHT_ENTRIES;
 
 // The tags of document 01, for the code: of program rows from 1, of bads from 40, of the listing from 50.
 // specs/Tags.antt has them for the definitions.

@@ -1,3 +1,4 @@
 pub mod States
 pub mod Gather
 pub mod Adding
+pub mod Stepped

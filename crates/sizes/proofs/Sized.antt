@@ -4,9 +4,9 @@ use mathlib.Core.Path.{_≡_}
 use mathlib.Core.List.{List}
 use lib.ListN.{getD}
 use Rattle.model.specs.declared.Sizes.{Sizes}
-use Rattle.model.specs.Message.{table-cells, sizes}
+use Rattle.model.specs.Message.{table-cells, fifth-size, sizes}
 
-pub sized : (ws : List ℕ) (rows names constructors functions bads badrows flows mails states cells ceilings entries : ℕ)
+pub sized : (ws : List ℕ) (rows names constructors functions bads badrows flows mails states cells ceilings entries lines weights : ℕ)
     → rows ≡ getD ws 0 0
     → names ≡ getD ws 1 0
     → constructors ≡ getD ws 2 0
@@ -19,6 +19,8 @@ pub sized : (ws : List ℕ) (rows names constructors functions bads badrows flow
     → cells ≡ table-cells flows mails states
     → ceilings ≡ getD ws (4 + 2 * rows + 2 + 2 * badrows + 3 + cells) 0
     → entries ≡ getD ws (4 + 2 * rows + 2 + 2 * badrows + 3 + cells + 1) 0
-    → _≡_ {A = Sizes} (record { rows = rows; names = names; constructors = constructors; functions = functions; bads = bads; badrows = badrows; flows = flows; mails = mails; states = states; ceilings = ceilings; entries = entries }) (sizes ws)
+    → lines ≡ fifth-size ceilings entries (getD ws (4 + 2 * rows + 2 + 2 * badrows + 3 + cells + 2) 0)
+    → weights ≡ fifth-size ceilings entries (getD ws (4 + 2 * rows + 2 + 2 * badrows + 3 + cells + 3) 0)
+    → _≡_ {A = Sizes} (record { rows = rows; names = names; constructors = constructors; functions = functions; bads = bads; badrows = badrows; flows = flows; mails = mails; states = states; ceilings = ceilings; entries = entries; lines = lines; weights = weights }) (sizes ws)
 unfolding sizes
-sized ws rows names constructors functions bads badrows flows mails states cells ceilings entries a b c d e f g h i t j k = cc
+sized ws rows names constructors functions bads badrows flows mails states cells ceilings entries lines weights a b c d e f g h i t j k l w = cc

@@ -8,7 +8,7 @@ use Rattle.model.specs.Message.{Limited}
 
 -- sizes so small that no position reaches the end of the numbers, as those that are words
 abbrev pub Placed : Sizes → Type 0
-Placed s = s .rows + s .badrows + s .flows + s .mails + s .states + s .entries < 2 ^ 19
+Placed s = s .rows + s .badrows + s .flows + s .mails + s .states + s .ceilings + s .entries + s .weights < 2 ^ 19
 
 -- a size is within its limits
 unfoldable pub inside : Limited → Bool

@@ -1,12 +1,13 @@
-// The sizes of the four parts of a message: as they are read, where they say that the parts begin, and the first one
+// The sizes of the parts of a message: as they are read, where they say that the parts begin, and the first one
 // outside its limits.
 ghost use mathlib.Core.Path.{_≡_};
 ghost use Prim.Native.Nat.{_+_, _^_, _<_};
 ghost use lib.ListN.{getD};
 ghost use Rattle.model.specs.Limits.{present};
 ghost use Rattle.model.specs.Words.{words};
-ghost use Rattle.model.specs.Message.{limited, program-sizes, bads-sizes, tables-sizes, ceilings-sizes, sizes, bads-at};
-ghost use Rattle.model.specs.Message.{table-cells, tables-at, ceilings-at, end-at};
+ghost use Rattle.model.specs.Message.{limited, program-sizes, bads-sizes, tables-sizes, ceilings-sizes, weights-sizes};
+ghost use Rattle.model.specs.Message.{fifth-size, sizes, table-cells};
+ghost use Rattle.model.specs.Message.{bads-at, tables-at, ceilings-at, weights-at, end-at};
 ghost use Rattle.sizes.specs.Sizes.{Placed, inside, first-outside};
 use model::MAX_BAD_ROWS;
 use model::MAX_BADS;
@@ -15,10 +16,12 @@ use model::MAX_CEILINGS;
 use model::MAX_CONSTRUCTORS;
 use model::MAX_FLOWS;
 use model::MAX_FUNCTIONS;
+use model::MAX_LINES;
 use model::MAX_MAILS;
 use model::MAX_NAMES;
 use model::MAX_ROWS;
 use model::MAX_STATES;
+use model::MAX_WEIGHT_ENTRIES;
 use model::MIN_BAD_ROWS;
 use model::Sizes;
 use words::word;
@@ -35,6 +38,19 @@ fn size_at(bytes: &[u8], i: usize) -> usize
     }
 }
 
+// The same of a size of the fifth part, which is there only behind no ceilings; else 0.
+fn fifth_size(bytes: &[u8], ceilings: usize, entries: usize, i: usize) -> usize
+    requires { ⌜ ceilings + entries < 2 ^ 17 ⌝ }
+    ensures { λ r. ⌜ r ≡ fifth-size ceilings entries (getD (words (now (bytes .entry))) i 0) ⌝ }
+    ensures { λ r. ⌜ r < 65536 ⌝ }
+{
+    if ceilings + entries == 0 {
+        size_at(bytes, i)
+    } else {
+        0
+    }
+}
+
 // The words of the arrays of the tables: two columns of each list, and the third column of the states.
 pub fn table_cells(flows: usize, mails: usize, states: usize) -> usize
     requires { ⌜ flows + mails + states < 2 ^ 19 ⌝ }
@@ -43,7 +59,7 @@ pub fn table_cells(flows: usize, mails: usize, states: usize) -> usize
     2 * (flows + mails + states) + states
 }
 
-// The sizes of the four parts, each where the sizes before it say that it stands.
+// The sizes of the five parts, each where the sizes before it say that it stands.
 pub fn sizes_of(bytes: &[u8]) -> Sizes
     ensures { λ r. ⌜ r ≡ sizes (words (now (bytes .entry))) ⌝ }
     ensures { λ r. ⌜ Placed r ⌝ }
@@ -56,7 +72,9 @@ pub fn sizes_of(bytes: &[u8]) -> Sizes
     let mails = size_at(bytes, tables + 1);
     let states = size_at(bytes, tables + 2);
     let cells = table_cells(flows, mails, states);
-    let ceilings = tables + 3 + cells;
+    let last = tables + 3 + cells;
+    let ceilings = size_at(bytes, last);
+    let entries = size_at(bytes, last + 1);
     Sizes {
         rows,
         names: size_at(bytes, 1),
@@ -67,8 +85,10 @@ pub fn sizes_of(bytes: &[u8]) -> Sizes
         flows,
         mails,
         states,
-        ceilings: size_at(bytes, ceilings),
-        entries: size_at(bytes, ceilings + 1),
+        ceilings,
+        entries,
+        lines: fifth_size(bytes, ceilings, entries, last + 2),
+        weights: fifth_size(bytes, ceilings, entries, last + 3),
     }
 }
 
@@ -97,12 +117,25 @@ pub fn ceilings_at(s: Sizes) -> usize
     tables_at(s) + 3 + cells
 }
 
-// The word past the ceilings.
+// The word past the ceilings, at which the weights part begins where there is one.
+pub fn weights_at(s: Sizes) -> usize
+    requires { ⌜ Placed s ⌝ }
+    ensures { λ r. ⌜ r ≡ weights-at s ⌝ }
+{
+    ceilings_at(s) + 2 + 2 * s.entries
+}
+
+// The word past the last part: the weights, where there are lines of them.
 pub fn end_at(s: Sizes) -> usize
     requires { ⌜ Placed s ⌝ }
     ensures { λ r. ⌜ r ≡ end-at s ⌝ }
 {
-    ceilings_at(s) + 2 + 2 * s.entries
+    let at = weights_at(s);
+    if s.lines == 0 {
+        at
+    } else {
+        at + 2 + 2 * s.weights
+    }
 }
 
 // A size is within its limits, both allowed.
@@ -168,6 +201,19 @@ pub fn ceilings_outside(s: Sizes) -> usize
         return 0;
     }
     if !within(s.entries, 0, MAX_CEILING_ENTRIES) {
+        return 1;
+    }
+    2
+}
+
+// The same for the weights part, of two sizes.
+pub fn weights_outside(s: Sizes) -> usize
+    ensures { λ r. ⌜ r ≡ first-outside (weights-sizes s) ⌝ }
+{
+    if !within(s.lines, 1, MAX_LINES) {
+        return 0;
+    }
+    if !within(s.weights, 0, MAX_WEIGHT_ENTRIES) {
         return 1;
     }
     2

@@ -8,7 +8,7 @@ use lib.ListN.{length}
 use lib.Dec.{eqb}
 use borrow.Author.Tests.{eq-eqb}
 use Rattle.model.specs.declared.Verdict.{Verdict}
-use Rattle.model.specs.declared.Verdict.the-variants.{Safe, Length, Size, Row, Name, Scope, Bad, Entry, Open, Counters, Ceiling, Start, Met, Leak, Space, FunctionMailed}
+use Rattle.model.specs.declared.Verdict.the-variants.{Safe, Length, Size, Row, Name, Scope, Bad, Entry, Open, Counters, Ceiling, Start, Met, Leak, Space, FunctionMailed, Weights, Rise, Light}
 use Rattle.model.specs.Verdict.{number, place}
 use Rattle.model.specs.Limits.{present}
 use Rattle.model.specs.Verify.{message, verdict, lent-after, part-handed}
@@ -119,3 +119,6 @@ number-most (Met at) = omega arith
 number-most (Leak at) = omega arith
 number-most (Space at) = omega arith
 number-most (FunctionMailed at) = omega arith
+number-most (Weights at) = omega arith
+number-most (Rise at) = omega arith
+number-most (Light at) = omega arith

@@ -6,17 +6,22 @@ use mathlib.Core.Path.{_≡_, refl, sym, _∙_, ap}
 use mathlib.Core.List.{List, [], _∷_, _++_, append-nil}
 use lib.ListN.{length, getD, take, replicate, length-append, length-take, length-replicate}
 use lib.Seq.{length-take-le}
+use lib.Dec.{eqb}
+use borrow.Author.Tests.{eq-eqb, ne-eqb}
 use Rattle.io.specs.Counts.{Counts}
 use Rattle.model.specs.declared.Verdict.{Verdict}
-use Rattle.model.specs.declared.Verdict.the-variants.{Safe, Length, Size, Row, Name, Scope, Bad, Entry, Open, Counters, Ceiling, Start, Met, Leak, Space, FunctionMailed}
+use Rattle.model.specs.declared.Verdict.the-variants.{Safe}
 use Rattle.model.specs.Verdict.{number, place}
 use Rattle.model.specs.Listing.{listing, system-words, written}
 use Rattle.model.specs.Limits.{present}
 use Rattle.model.specs.Verify.{message, verdict, if-safe, lent-after, lent-after-within}
+use Rattle.model.proofs.Logic.{chosen-false}
 use Rattle.model.proofs.Exact.Answer.{verdict-safe}
 use Rattle.model.proofs.Exact.Sound.{check-none}
 use Rattle.model.specs.Rules.{rules}
 use Rattle.model.proofs.Listed.{lines, length-written, length-system}
+use Rattle.answers.specs.Safe.{is-safe}
+use Rattle.answers.proofs.Passing.{safe-only}
 use Rattle.text.specs.Text.{put-at, line}
 use Rattle.text.proofs.Putting.{put-length}
 use Rattle.text.proofs.Digits.{line-most}
@@ -26,43 +31,13 @@ use Rattle.verify.specs.Told.{lent-words, most-text, told}
 
 -- only safe has the number 0
 number-safe : (v : Verdict) → number v ≡ 0 → v ≡ Safe
-unfolding number
-number-safe Safe h = refl
-number-safe (Length at) h = absurd (omega arith)
-number-safe (Size at) h = absurd (omega arith)
-number-safe (Row at) h = absurd (omega arith)
-number-safe (Name at) h = absurd (omega arith)
-number-safe (Scope at) h = absurd (omega arith)
-number-safe (Bad at) h = absurd (omega arith)
-number-safe (Entry at) h = absurd (omega arith)
-number-safe (Open at) h = absurd (omega arith)
-number-safe (Counters at) h = absurd (omega arith)
-number-safe (Ceiling at) h = absurd (omega arith)
-number-safe (Start at) h = absurd (omega arith)
-number-safe (Met at) h = absurd (omega arith)
-number-safe (Leak at) h = absurd (omega arith)
-number-safe (Space at) h = absurd (omega arith)
-number-safe (FunctionMailed at) h = absurd (omega arith)
+unfolding is-safe
+number-safe v h = safe-only v (eq-eqb (number v) 0 h)
 
 -- what another verdict gives
 number-refused : {A : Type 0} (v : Verdict) (a b : A) → (number v ≡ 0 → ⊥) → if-safe v a b ≡ b
-unfolding number if-safe
-number-refused Safe a b h = absurd (h refl)
-number-refused (Length at) a b h = refl
-number-refused (Size at) a b h = refl
-number-refused (Row at) a b h = refl
-number-refused (Name at) a b h = refl
-number-refused (Scope at) a b h = refl
-number-refused (Bad at) a b h = refl
-number-refused (Entry at) a b h = refl
-number-refused (Open at) a b h = refl
-number-refused (Counters at) a b h = refl
-number-refused (Ceiling at) a b h = refl
-number-refused (Start at) a b h = refl
-number-refused (Met at) a b h = refl
-number-refused (Leak at) a b h = refl
-number-refused (Space at) a b h = refl
-number-refused (FunctionMailed at) a b h = refl
+unfolding if-safe
+number-refused v a b h = chosen-false (eqb (number v) 0) a b (ne-eqb (number v) 0 h)
 
 -- after safe the lent words have a system in them, whole
 module _ (bytes lent : List ℕ) (safe : verdict bytes (length lent) ≡ Safe) where
@@ -119,17 +94,17 @@ module _ (bytes lent : List ℕ) (blank : lent ≡ replicate lent-words 0) where
         counted at out₀ out (p .0 ∙ rw e) (p .1 ∙ rw (zero-add, e)) (let z = line-most (getD answer 0 0) (getD answer 1 0) in let y = p .1 in omega arith)
 
     module _ (safe : getD answer 0 0 ≡ 0) (ws : List ℕ) (after : ws ≡ lent-after bytes lent) where
-      is-safe : v ≡ Safe
-      is-safe = number-safe v (sym is-number ∙ safe)
+      said-safe : v ≡ Safe
+      said-safe = number-safe v (sym is-number ∙ safe)
 
       pub system-inside : 4 + 2 * getD ws 3 0 ≤ length ws
-      system-inside = let z = rows-inside bytes lent is-safe in let y = words-long bytes lent is-safe in rw after (omega arith)
+      system-inside = let z = rows-inside bytes lent said-safe in let y = words-long bytes lent said-safe in rw after (omega arith)
 
       pub system-room : (at : ℕ) (out₀ out : List ℕ) → Put 0 (line (getD answer 0 0) (getD answer 1 0)) at out₀ out → most-text ≤ length out₀ → at + 84 + 42 * getD ws 3 0 ≤ length out
       system-room at out₀ out p room =
           let z = line-most (getD answer 0 0) (getD answer 1 0) in
           let l : length out ≡ length out₀ = ap length (p .0) ∙ put-length 0 (line (getD answer 0 0) (getD answer 1 0)) out₀ in
-          let r : 4 + 2 * getD ws 3 0 ≤ length lent = rw after (rows-inside bytes lent is-safe) in
+          let r : 4 + 2 * getD ws 3 0 ≤ length lent = rw after (rows-inside bytes lent said-safe) in
           let w = lent-long in
           let y = p .1 in
           omega arith
@@ -138,7 +113,7 @@ module _ (bytes lent : List ℕ) (blank : lent ≡ replicate lent-words 0) where
       unfolding if-safe number
       tell-safe at end out₀ out₁ out₂ p q room =
           let e : told bytes ≡ line (getD answer 0 0) (getD answer 1 0) ++ system-text ws =
-          told-over ∙ (rw (← is-number, ← is-place, is-safe, ← after)) in
+          told-over ∙ (rw (← is-number, ← is-place, said-safe, ← after)) in
           let both = put-then 0 at end (line (getD answer 0 0) (getD answer 1 0)) (system-text ws) out₀ out₁ out₂ p q in
           counted end out₀ out₂ (both .0 ∙ rw e) (both .1 ∙ rw (zero-add, e))
           (let z = system-room at out₀ out₁ p room in

@@ -1,5 +1,5 @@
-//! The model's tables of cases, written by this implementation: runs (crates/model/specs/RunCases.antt) and verdicts
-//! (crates/model/specs/VerdictCases.antt). The sources stand in tests/cases.
+//! The model's tables of cases, written by this implementation: runs (crates/cases/specs/RunCases.antt) and verdicts
+//! (crates/cases/specs/VerdictCases.antt). The sources stand in tests/cases.
 
 pub mod antt;
 pub mod parts;

@@ -25,6 +25,7 @@ pub struct Parts {
     bads: Option<(usize, Pairs)>,
     tables: Option<Lists>,
     bounds: Option<(usize, Pairs)>,
+    weights: Option<(usize, Pairs)>,
 }
 
 /// The numbers of `(10, 0) (7,0)`, so many in each pair of brackets.
@@ -41,11 +42,11 @@ fn pairs(text: &str) -> Result<Pairs, String> {
 
 impl Parts {
     /// Of a station's text, or of lines `rows V C G: ...`, `bads B: ...`, `flow: ...`, `mail: ...`, `states: ...` (of
-    /// three numbers each), `ceilings K: ...`.
+    /// three numbers each), `ceilings K: ...`, `weights W: ...`.
     pub fn of(section: &Section) -> Result<Parts, String> {
         let told = |e: String| format!("{}: {e}", section.name);
         if section.is_text() {
-            let assembled = assemble(&section.station.join("\n")).map_err(told)?;
+            let assembled = assemble(&format!("evidence ceilings.\n{}", section.station.join("\n"))).map_err(told)?;
             let refused = |_| told("the assembled message is not whole".to_string());
             return Ok(Parts::of_message(&message::read(&assembled.message).map_err(refused)?).with_one_ceiling());
         }
@@ -69,6 +70,7 @@ impl Parts {
                 returns: m.returns.iter().map(|&back| back as usize).collect(),
             }),
             bounds: Some((m.bounds, column(&m.entries, 0, m.entries.len()))),
+            weights: None,
         }
     }
 
@@ -104,6 +106,7 @@ impl Parts {
                 tables.returns = numbers.chunks(3).map(|state| state[2]).collect();
             }
             "ceilings" => self.bounds = Some((size(1)?, pairs(rest)?)),
+            "weights" => self.weights = Some((size(1)?, pairs(rest)?)),
             _ => return Err(format!("{line}: no part of a message")),
         }
         Ok(())
@@ -134,6 +137,9 @@ impl Parts {
         if let Some((bounds, entries)) = &self.bounds {
             put(&mut words, &[*bounds, entries.len()], entries);
         }
+        if let Some((lines, entries)) = &self.weights {
+            put(&mut words, &[*lines, entries.len()], entries);
+        }
         words.iter().map(|&word| word as u16).collect()
     }
 
@@ -150,6 +156,9 @@ impl Parts {
         words.extend(self.tables.iter().map(tables));
         words.extend(
             self.bounds.iter().map(|(bounds, entries)| vec![format!("ceiling-words {bounds}"), antt::pairs(entries)]),
+        );
+        words.extend(
+            self.weights.iter().map(|(lines, entries)| vec![format!("weight-words {lines}"), antt::pairs(entries)]),
         );
         let last = words.len() - 1;
         for part in &mut words[..last] {

@@ -13,9 +13,9 @@ const BEYOND: usize = 2;
 /// Words lent where the verdict alone is told (the front says so too).
 const LENT: usize = 100;
 
-/// The message of a case, as words and in the model's language.
+/// The message of a case, as bytes and in the model's language.
 struct Given {
-    words: Vec<u16>,
+    message: Vec<u8>,
     text: String,
 }
 
@@ -24,7 +24,7 @@ fn numbers(text: &str) -> Result<Vec<usize>, String> {
     text.split_whitespace().map(number).collect()
 }
 
-/// `words 1 2 3`: these words behind the section's; `8=12 17=1`: the section's words with others at these places; nothing: as they are.
+/// `words 1 2 3`: these words behind the section's; `byte 7`: one byte behind them; `8=12 17=1`: the section's words with others at these places; nothing: as they are.
 fn given(section: &Section, parts: &Parts, case: &Case) -> Result<Given, String> {
     let mut words = parts.words();
     let name = format!("{}-words", section.name);
@@ -34,7 +34,13 @@ fn given(section: &Section, parts: &Parts, case: &Case) -> Result<Given, String>
         let list = antt::list(&more);
         let text =
             if parts.is_empty() { format!("(to-bytes {list})") } else { format!("(to-bytes ({name} ++ {list}))") };
-        return Ok(Given { words, text });
+        return Ok(Given { message: to_bytes(&words), text });
+    }
+    if let Some(byte) = case.given.strip_prefix("byte") {
+        let byte = numbers(byte)?;
+        let mut message = to_bytes(&words);
+        message.extend(byte.iter().map(|&byte| byte as u8));
+        return Ok(Given { message, text: format!("(to-bytes {name} ++ {})", antt::list(&byte)) });
     }
     let pair = |edit: &str| {
         let (at, word) = edit.split_once('=').ok_or(format!("{edit}: neither `words` nor `PLACE=WORD`"))?;
@@ -48,7 +54,12 @@ fn given(section: &Section, parts: &Parts, case: &Case) -> Result<Given, String>
         0 => format!("(to-bytes {name})"),
         _ => format!("(to-bytes (changed {name} {}))", antt::pairs(&edits)),
     };
-    Ok(Given { words, text })
+    Ok(Given { message: to_bytes(&words), text })
+}
+
+/// The number that a sentence begins with, worked out by hand: `16: a weight is at least 1.`
+fn told_number(sentence: &str) -> Option<u32> {
+    sentence.split_once(':').and_then(|(number, _)| number.parse().ok())
 }
 
 /// The two tables: verdicts alone, and whole answers of safe messages.
@@ -61,10 +72,13 @@ struct Tables {
 impl Tables {
     /// A safe message goes with its listing where it is the section's own, and by its verdict alone where it is a changed one.
     fn take(&mut self, section: &Section, parts: &Parts, case: &Case) -> Result<Option<Vec<u32>>, String> {
-        let Given { words, text } = given(section, parts, case)?;
+        let Given { message, text } = given(section, parts, case)?;
         let mut lent = vec![0; 16_384];
-        let outcome = verify(&to_bytes(&words), &mut lent);
+        let outcome = verify(&message, &mut lent);
         let (sentence, name) = (antt::comment(&case.sentence, INDENT), &section.name);
+        if told_number(&case.sentence).is_some_and(|number| number != outcome.number) {
+            return Err(format!("{name} {}: {} at {}: {}", case.given, outcome.number, outcome.place, case.sentence));
+        }
         if outcome.number == 0 && case.given.is_empty() {
             lent.truncate(4 + 2 * lent[3] as usize);
             self.listed

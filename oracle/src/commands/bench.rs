@@ -68,16 +68,16 @@ fn columns(times: &Times) -> String {
 }
 
 fn sizes(message: &[u8]) -> String {
-    let [rows, flow, mail, states, ceilings, entries] = stress::sizes(message);
-    format!("{rows} | {flow} | {mail} | {states} | {ceilings} | {entries}")
+    let [rows, flow, mail, states, ceilings, entries, lines, weights] = stress::sizes(message);
+    format!("{rows} | {flow} | {mail} | {states} | {ceilings} | {entries} | {lines} | {weights}")
 }
 
-const SIZES: &str = "rows | flow | mail | states | ceilings | entries";
+const SIZES: &str = "rows | flow | mail | states | ceilings | entries | lines | weights";
 
 /// A table of messages, one a line.
 fn table(title: &str, samples: &[Sample], lent: &mut [u32]) -> Text {
     let mut text = format!("## {title}\n\n| message | verdict | {SIZES} | proved | oracle | ratio |\n");
-    text.push_str("|---|--:|--:|--:|--:|--:|--:|--:|--:|--:|--:|\n");
+    text.push_str("|---|--:|--:|--:|--:|--:|--:|--:|--:|--:|--:|--:|--:|\n");
     for Sample { name, verdict, message, .. } in samples {
         let times = measure(message, lent).map_err(|e| format!("{name}: {e}"))?;
         if times.outcome.number != *verdict {
@@ -97,7 +97,7 @@ fn table(title: &str, samples: &[Sample], lent: &mut [u32]) -> Text {
 /// A table of one family; `more` is the time against that of the line before.
 fn grown(family: &Family, lent: &mut [u32]) -> Text {
     let mut text = format!("### {}\n\n| size | {SIZES} | proved | oracle | ratio | more |\n", family.about);
-    text.push_str("|--:|--:|--:|--:|--:|--:|--:|--:|--:|--:|--:|\n");
+    text.push_str("|--:|--:|--:|--:|--:|--:|--:|--:|--:|--:|--:|--:|--:|\n");
     let mut before = None;
     for (size, message) in &family.messages {
         let times = measure(message, lent).map_err(|e| format!("{}: {e}", family.about))?;

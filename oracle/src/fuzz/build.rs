@@ -3,6 +3,7 @@
 use super::generate;
 use super::letters::{self, Crowd};
 use super::rng::Rng;
+use super::weights::{self, Ground};
 use crate::bads::{Bad, Item, Place};
 use crate::bounds::{self, Sum, item_counters};
 use crate::evidence;
@@ -55,6 +56,7 @@ fn known(message: &[u8]) -> Result<Station, String> {
 pub fn station(rng: &mut Rng) -> Station {
     loop {
         let made = match rng.below(80) {
+            78..=79 => weights::station(rng),
             0..=3 => {
                 let mailing = rng.chance(1, 3);
                 let rows = generate::crowded(rng, mailing);
@@ -97,6 +99,14 @@ fn finish(
     };
     let mut bads = random_bads(rng, &program, &tables, &system);
     let read = put_bads(&mut m, &program, &tables, &bads)?;
+    if rng.chance(2, 5) {
+        let start = tables.state(program.opening())?;
+        let ground = Ground { program: &program, tables: &tables, system: &system, start };
+        let lines = weights::evidence(rng, &ground, &mut bads)?;
+        put_bads(&mut m, &program, &tables, &bads)?;
+        evidence::put_weights(&mut m, &lines);
+        return Some(Station { message: m, words: system.words(), counters: system.counters() });
+    }
     let mut limits = match evidence::find_bounds(&program, &tables, &system, &read, budget(rng)) {
         Ok(limits) => limits,
         Err(_) => {
@@ -307,7 +317,7 @@ fn add_state(rng: &mut Rng, program: &Program, tables: &mut Tables) {
 }
 
 /// Items of each bad: class, then place as a row, then minimum.
-type Items = Vec<Vec<(usize, Place, usize)>>;
+pub type Items = Vec<Vec<(usize, Place, usize)>>;
 
 fn random_bads(rng: &mut Rng, program: &Program, tables: &Tables, system: &System) -> Items {
     let count = if rng.chance(1, 20) { rng.range(1, 16) } else { rng.range(1, 3) };
@@ -326,7 +336,7 @@ fn random_bads(rng: &mut Rng, program: &Program, tables: &Tables, system: &Syste
 }
 
 /// The rows of an item that say where.
-fn place_rows(program: &Program, place: Place) -> Vec<(usize, usize)> {
+pub fn place_rows(program: &Program, place: Place) -> Vec<(usize, usize)> {
     match place {
         Place::Head(head) => vec![(41, head)],
         Place::Kind(kind) => vec![(42, kind)],
@@ -337,7 +347,7 @@ fn place_rows(program: &Program, place: Place) -> Vec<(usize, usize)> {
 }
 
 /// Puts bads into the message and reads them back.
-fn put_bads(m: &mut Message, program: &Program, tables: &Tables, bads: &Items) -> Option<Vec<Bad>> {
+pub fn put_bads(m: &mut Message, program: &Program, tables: &Tables, bads: &Items) -> Option<Vec<Bad>> {
     let mut rows = Vec::new();
     for bad in bads {
         for &(class, place, minimum) in bad {
@@ -356,7 +366,7 @@ fn put_bads(m: &mut Message, program: &Program, tables: &Tables, bads: &Items) -
 }
 
 /// An item as a sum of counters, if it has any.
-fn sum(tables: &Tables, system: &System, class: usize, place: Place, minimum: usize) -> Option<Sum> {
+pub fn sum(tables: &Tables, system: &System, class: usize, place: Place, minimum: usize) -> Option<Sum> {
     let item = Item { class, place, minimum: minimum as u16 };
     item_counters(tables, system, &item).map(|counters| Sum { counters, minimum: item.minimum })
 }
@@ -405,7 +415,7 @@ fn harmless_item(
 }
 
 /// Class and place of an item: one that has a counter, or any.
-fn random_item(rng: &mut Rng, program: &Program, tables: &Tables, system: &System) -> (usize, Place) {
+pub fn random_item(rng: &mut Rng, program: &Program, tables: &Tables, system: &System) -> (usize, Place) {
     let classes: Vec<usize> = program.classes().collect();
     let class = rng.pick(&classes).copied().unwrap_or(program.rows);
     match rng.below(6) {
@@ -433,7 +443,7 @@ fn random_item(rng: &mut Rng, program: &Program, tables: &Tables, system: &Syste
 }
 
 /// Sets of counts that are tried: seldom many, as this takes most of a fuzz run's time.
-fn budget(rng: &mut Rng) -> usize {
+pub fn budget(rng: &mut Rng) -> usize {
     if rng.chance(1, 30) { 3000 } else { 400 }
 }
 

@@ -3,7 +3,7 @@
 use super::build;
 use super::damage::{self, Case};
 use super::rng::Rng;
-use super::{letters, returns};
+use super::{letters, returns, weights};
 use crate::counters::check_demand_3;
 use crate::held::check_names;
 use crate::message;
@@ -82,8 +82,8 @@ pub fn compare(first: Verifier, second: Verifier, case: &Case) -> Result<Outcome
 pub struct Tally {
     /// By the list of all verdicts.
     pub verdicts: [usize; VERDICTS.len()],
-    /// Rows, flow, mail, states, ceilings and their entries: the most of each.
-    pub largest: [usize; 6],
+    /// Rows, flow, mail, states, ceilings and their entries, lines and their weights: the most of each.
+    pub largest: [usize; 8],
     pub runs: usize,
     pub steps: usize,
     /// Runs, of safe messages and of refused ones, in which no process would read a name that holds nothing.
@@ -96,6 +96,12 @@ pub struct Tally {
     /// Messages whose tables are closed and whose mail has an argument of several heads, and those whose bads name heads.
     pub several_heads: usize,
     pub named_heads: usize,
+    /// Messages whose tables are closed and that have weights; of these, those with several lines, with items on the same
+    /// counters, and with a bad that weighs more than 32 bits hold.
+    pub weighed: usize,
+    pub several_lines: usize,
+    pub overlapping: usize,
+    pub past_32_bits: usize,
 }
 
 impl Tally {
@@ -117,6 +123,12 @@ impl Tally {
             self.summed += usize::from(read.as_ref().is_ok_and(returns::asked));
             self.several_heads += usize::from(read.as_ref().is_ok_and(letters::several));
             self.named_heads += usize::from(read.as_ref().is_ok_and(letters::named));
+            if let Some(m) = read.ok().filter(|m| m.weighed) {
+                self.weighed += 1;
+                self.several_lines += usize::from(m.lines > 1);
+                self.overlapping += usize::from(weights::overlapping(&m));
+                self.past_32_bits += usize::from(weights::passes_32_bits(&m, message));
+            }
         }
         if number == 0 {
             self.largest.iter_mut().zip(sizes).for_each(|(largest, size)| *largest = size.max(*largest));
@@ -130,12 +142,12 @@ impl Tally {
             text.push_str(&format!("{number:>3} {:<15} {count}\n", crate::explain::trade_word(number)));
         }
         let share = 100 * self.verdicts[0] / self.total().max(1);
-        let [rows, flow, mail, states, ceilings, entries] = self.largest;
+        let [rows, flow, mail, states, ceilings, entries, lines, weights] = self.largest;
         text.push_str(&format!("all {}, safe {share} %, runs {} with {} steps\n", self.total(), self.runs, self.steps));
         text.push_str(&format!("runs without an empty name, safe or not: {}\n", self.named));
         text.push_str(&format!(
             "the most in a safe message: {rows} rows, {flow} flow, {mail} mail, {states} states, {ceilings} ceilings, \
-             {entries} entries\n"
+             {entries} entries, {lines} lines, {weights} weights\n"
         ));
         text.push_str(&format!("with {} ceilings or more: {}\n", build::MANY_BOUNDS, self.many_bounds));
         text.push_str(&format!(
@@ -145,6 +157,10 @@ impl Tally {
         text.push_str(&format!(
             "closed, with an argument of several heads in the mail: {}, and a bad that names heads: {}\n",
             self.several_heads, self.named_heads
+        ));
+        text.push_str(&format!(
+            "closed, with weights: {}, with several lines: {}, with items on the same counters: {}, past 32 bits: {}\n",
+            self.weighed, self.several_lines, self.overlapping, self.past_32_bits
         ));
         text
     }

@@ -2,7 +2,7 @@
 
 use super::build::Station;
 use super::rng::Rng;
-use super::{letters, returns};
+use super::{letters, returns, weights};
 use crate::limits::{self, Limit};
 use crate::message::{self, Columns, Message};
 
@@ -103,9 +103,9 @@ fn length(rng: &mut Rng, bytes: &mut Vec<u8>) {
 }
 
 /// The words of all sizes with their limits.
-fn size_words(m: &Message) -> [(usize, Limit); 11] {
-    let (b, t, c) = (m.bads_at, m.tables_at, m.bounds_at);
-    [
+fn size_words(m: &Message) -> Vec<(usize, Limit)> {
+    let (b, t, c, w) = (m.bads_at, m.tables_at, m.bounds_at, m.weights_at);
+    let sizes = [
         (0, limits::ROWS),
         (1, limits::NAMES),
         (2, limits::CONSTRUCTORS),
@@ -117,7 +117,10 @@ fn size_words(m: &Message) -> [(usize, Limit); 11] {
         (t + 2, limits::STATES),
         (c, limits::BOUNDS),
         (c + 1, limits::BOUND_ENTRIES),
-    ]
+        (w, limits::LINES),
+        (w + 1, limits::WEIGHT_ENTRIES),
+    ];
+    sizes[..if m.weighed { 13 } else { 11 }].to_vec()
 }
 
 fn size(rng: &mut Rng, original: &Message, bytes: &mut Vec<u8>) {
@@ -138,7 +141,12 @@ fn size(rng: &mut Rng, original: &Message, bytes: &mut Vec<u8>) {
 }
 
 fn structured(rng: &mut Rng, m: &mut Message, station: &Station) {
-    match rng.below(44) {
+    if m.weighed && rng.chance(1, 4) {
+        return weights::damaged(rng, m, station.counters);
+    }
+    match rng.below(46) {
+        21..=34 if m.weighed => weights::damaged(rng, m, station.counters),
+        44..=45 => weights::other_evidence(rng, m, station.counters),
         32 => soup(rng, m),
         33 => deepen(rng, m),
         0..=1 => row(rng, m),
@@ -393,7 +401,7 @@ fn drop_bound(m: &mut Message, range: std::ops::Range<usize>) {
     m.bounds = m.bounds.saturating_sub(1);
 }
 
-fn bound_gone(rng: &mut Rng, m: &mut Message, counters: usize) {
+pub fn bound_gone(rng: &mut Rng, m: &mut Message, counters: usize) {
     let ranges = bounds(m, counters);
     let i = if rng.chance(1, 3) { 0 } else { rng.below(ranges.len()) };
     if let Some(range) = ranges.get(i) {
@@ -402,7 +410,7 @@ fn bound_gone(rng: &mut Rng, m: &mut Message, counters: usize) {
 }
 
 /// Only a few bounds stay.
-fn keep_bounds(rng: &mut Rng, m: &mut Message, counters: usize) {
+pub fn keep_bounds(rng: &mut Rng, m: &mut Message, counters: usize) {
     let mut ranges = bounds(m, counters);
     while ranges.len() > 1 && !rng.chance(1, 4) {
         let i = rng.below(ranges.len());
@@ -463,7 +471,7 @@ pub fn ask_at(m: &mut Message, (class, head): (u16, u16), minimum: u16) {
     }
 }
 
-fn bound_form(rng: &mut Rng, m: &mut Message, counters: usize) {
+pub fn bound_form(rng: &mut Rng, m: &mut Message, counters: usize) {
     if m.entries.is_empty() {
         return;
     }

@@ -9,3 +9,4 @@ pub mod letters;
 pub mod returns;
 pub mod rng;
 pub mod row_list;
+pub mod weights;

@@ -1,5 +1,5 @@
 //! What a run has come to, as text: of each process its class, place, pushed calls and mailbox. The model shows its runs in the same form
-//! (crates/model/specs/Shown.antt), so that the table of runs can be compared as it stands.
+//! (crates/cases/specs/Shown.antt), so that the table of runs can be compared as it stands.
 
 use super::{Bindings, Machine, Process, Value, ValueId};
 use std::iter::successors;

@@ -8,6 +8,7 @@ pub mod leak;
 pub mod parts;
 pub mod rows;
 pub mod rules;
+pub mod weights;
 
 use crate::bads::{self, Bad};
 use crate::bounds::{self, Bounds};
@@ -51,10 +52,14 @@ fn check(bytes: &[u8], lent: &mut [u32]) -> Result<usize, Refused> {
     if system.counters.len() > 1024 {
         return Err((9, m.tables_at + 2));
     }
-    parts::ceilings(&m, system.counters.len())?;
-    let limits = bounds::read(&m, system.counters.len()).map_err(|_| NO)?;
-    start_and_bads(&m, &program, &system, &bads, &limits)?;
-    leak::check(&m, &system, &limits)?;
+    if m.weighed {
+        weights::check(&m, &program, &system, &bads)?;
+    } else {
+        parts::ceilings(&m, system.counters.len())?;
+        let limits = bounds::read(&m, system.counters.len()).map_err(|_| NO)?;
+        start_and_bads(&m, &program, &system, &bads, &limits)?;
+        leak::check(&m, &system, &limits)?;
+    }
     write(&system, lent)?;
     Ok(m.program_bytes())
 }

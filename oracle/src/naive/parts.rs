@@ -10,14 +10,19 @@ type PartSizes = (&'static [(usize, usize)], &'static [usize], Option<usize>);
 /// Refusals 1 and 2.
 pub fn lengths(bytes: &[u8]) -> Result<(), Refused> {
     let word = |at: usize| Some(u16::from_le_bytes([*bytes.get(2 * at)?, *bytes.get(2 * at + 1)?]) as usize);
-    let parts: [PartSizes; 4] = [
+    let parts: [PartSizes; 5] = [
         (&[(1, 1536), (1, 512), (0, 64), (0, 64)], &[0], None),
         (&[(1, 16), (4, 256)], &[1], None),
         (&[(0, 4096), (0, 512), (0, 1024)], &[0, 1, 2], Some(2)),
         (&[(0, 256), (0, 8192)], &[1], None),
+        (&[(1, 16), (0, 8192)], &[1], None),
     ];
     let mut begin = 0;
-    for (limits, counted, third) in parts {
+    let mut before = Vec::new();
+    for (i, (limits, counted, third)) in parts.into_iter().enumerate() {
+        if i == 4 && (before != [0, 0] || bytes.len() == 2 * begin) {
+            break;
+        }
         let mut sizes = Vec::new();
         for i in 0..limits.len() {
             sizes.push(word(begin + i).ok_or((1, begin))?);
@@ -33,6 +38,7 @@ pub fn lengths(bytes: &[u8]) -> Result<(), Refused> {
             return Err((1, begin));
         }
         begin = end;
+        before = sizes;
     }
     if bytes.len() == 2 * begin { Ok(()) } else { Err((1, begin)) }
 }

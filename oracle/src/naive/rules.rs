@@ -74,8 +74,8 @@ impl Plain {
         self.counters.iter().position(|c| *c == counter).unwrap_or(usize::MAX)
     }
 
-    /// The sum of the limits of an item's counters; 0 if it has none, nothing if it is unbounded.
-    pub fn limit_of(&self, program: &Program, item: &Item, limits: &[u16]) -> Option<u64> {
+    /// The counters that an item counts.
+    pub fn counters_of(&self, program: &Program, item: &Item) -> Vec<usize> {
         let counted = |counter: &Counter| match (item.place, counter) {
             (Place::Head(head), Counter::State(state)) => (item.class, head) == (state.class, state.head),
             (Place::Kind(kind), Counter::Letter(class, other)) => item.class == *class && kind == other[0],
@@ -85,8 +85,13 @@ impl Plain {
             }
             _ => false,
         };
-        let counters = self.counters.iter().zip(limits).filter(|(counter, _)| counted(counter));
-        counters.map(|(_, &limit)| (limit != 65_535).then_some(limit as u64)).sum()
+        (0..self.counters.len()).filter(|&i| counted(&self.counters[i])).collect()
+    }
+
+    /// The sum of the limits of an item's counters; 0 if it has none, nothing if it is unbounded.
+    pub fn limit_of(&self, program: &Program, item: &Item, limits: &[u16]) -> Option<u64> {
+        let limits = self.counters_of(program, item).into_iter().map(|c| limits[c]);
+        limits.map(|limit| (limit != 65_535).then_some(limit as u64)).sum()
     }
 
     fn all_rules(&self, program: &Program, pairs: &Pairs) -> Vec<Rule> {

@@ -34,7 +34,8 @@ pub fn honest() -> Result<Vec<Sample>, String> {
 
 /// So many gauges, each spawned, polled and heard before the next; the ceilings are explored.
 fn polling(gauges: usize) -> Result<Vec<u8>, String> {
-    let mut text = "constructors poll/1, reading/1, low/0.
+    let mut text = "evidence ceilings.
+        constructors poll/1, reading/1, low/0.
         function gauge() -> receive poll(From) -> From ! reading(low) end.
         start ->\n"
         .to_string();

@@ -167,7 +167,7 @@ fn function_last() -> Result<Vec<u8>, String> {
 }
 
 /// 364 sends that each may put 512 letters (eight in each of 64 classes), then 146 receives of eight letters each.
-fn counters(bounds: impl Bounds) -> Result<Vec<u8>, String> {
+pub fn counters(bounds: impl Bounds) -> Result<Vec<u8>, String> {
     let mut list = RowList::default();
     let target = unused(&mut list, 7, 7, 63);
     let message = list.bind(7, &[]);

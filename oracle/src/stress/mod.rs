@@ -12,8 +12,9 @@ pub mod places;
 pub mod rows;
 pub mod sends;
 pub mod sums;
+pub mod weights;
 
-use crate::message;
+use crate::message::{self, Message};
 
 /// A message with the verdict it gets if enough words are lent.
 pub struct Sample {
@@ -40,11 +41,13 @@ pub fn hostile() -> Result<Vec<Sample>, String> {
         letters::hostile()?,
         places::hostile()?,
         long::hostile()?,
+        weights::hostile()?,
     ];
     Ok(kinds.into_iter().flatten().collect())
 }
 
-/// Rows, flow, mail, states, ceilings and ceiling entries of a message; zeros if it is not whole.
-pub fn sizes(message: &[u8]) -> [usize; 6] {
-    message::read(message).map_or([0; 6], |m| [m.rows, m.flow, m.mail, m.states, m.bounds, m.entries.len()])
+/// Rows, flow, mail, states, ceilings and their entries, lines and their weights of a message; zeros if it is not whole.
+pub fn sizes(message: &[u8]) -> [usize; 8] {
+    let sizes = |m: Message| [m.rows, m.flow, m.mail, m.states, m.bounds, m.entries.len(), m.lines, m.weights.len()];
+    message::read(message).map_or([0; 8], sizes)
 }

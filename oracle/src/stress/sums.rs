@@ -10,7 +10,7 @@ use crate::limits::{self, UNBOUNDED};
 use crate::tables::Tables;
 
 /// Calls of one routine, as many as rows, names and states allow.
-const CALLS: usize = 508;
+pub const CALLS: usize = 508;
 /// Items of the bad, as many as its rows allow.
 const ITEMS: usize = (limits::BAD_ROWS.1 as usize - 1) / 3;
 /// A limit of which two come to more than the greatest minimum.
@@ -40,7 +40,7 @@ fn rows() -> Rows {
 }
 
 /// The spare routine has a state that nothing leads to: the last item asks there.
-fn sums() -> Result<Vec<u8>, String> {
+pub fn sums() -> Result<Vec<u8>, String> {
     let rows = rows();
     let (program, _) = evidence::read(&rows.bare(&rows.any_bad())).map_err(refused)?;
     let bodies: Vec<usize> = program.functions.iter().map(|function| function.body).collect();

@@ -84,4 +84,25 @@ pub struct Station {
     pub functions: Vec<Function>,
     pub start: Option<Body>,
     pub bads: Vec<Bad>,
+    pub evidence: Evidence,
+    /// Lines of weights that the author gives.
+    pub lines: Vec<Vec<Weight>>,
+}
+
+/// A counter by its name, as it is shown, and what it weighs.
+#[derive(Clone, Debug, PartialEq, Eq)]
+pub struct Weight {
+    pub line: usize,
+    pub counter: String,
+    pub weight: usize,
+}
+
+/// Which evidence the author wants.
+#[derive(Clone, Copy, Debug, Default, PartialEq, Eq)]
+pub enum Evidence {
+    /// Whichever is smaller.
+    #[default]
+    Smaller,
+    Ceilings,
+    Weights,
 }

@@ -1,10 +1,11 @@
-//! Message to text, with tables and bounds (01: ceilings) as comments.
+//! Message to text, weights among it, with tables and bounds (01: ceilings) as comments.
 
 use crate::bads::Bad;
 use crate::limits::UNBOUNDED;
 use crate::program::{Branch, Head, Program, Row};
 use crate::symbols::Symbols;
 use crate::verify::{Read, inspect};
+use crate::wrap::wrapped;
 use std::fmt::Write;
 
 /// The text of a message, or a word if not even its rows can be read.
@@ -17,6 +18,12 @@ pub fn disassemble(bytes: &[u8]) -> Result<String, String> {
     let mut writer = Writer { program, symbols: &symbols, text: format!("% {verdict}\n") };
     writer.program();
     writer.bads(read.bads.as_deref().unwrap_or(&[]));
+    match &read.message {
+        Some(_) if read.weights.is_some() => writer.weights(&read),
+        Some(m) if m.weighed => writer.line(0, "evidence weights."),
+        Some(m) if m.bounds > 0 => writer.line(0, "evidence ceilings."),
+        _ => {}
+    }
     writer.evidence(&read);
     Ok(writer.text)
 }
@@ -141,6 +148,19 @@ impl Writer<'_> {
             let items = bad.items.iter().map(|item| self.symbols.item(item));
             let words = format!("bad b{i}: {}.", items.collect::<Vec<_>>().join(" and "));
             self.line(0, &words);
+        }
+    }
+
+    /// Each line of weights as the text has it.
+    fn weights(&mut self, read: &Read) {
+        let (Some(tables), Some(system), Some(weights)) = (&read.tables, &read.system, &read.weights) else { return };
+        for line in &weights.lines {
+            let held = line.iter().enumerate().filter(|&(_, &weight)| weight > 0);
+            let words: Vec<String> =
+                held.map(|(c, weight)| format!("{} {weight}", self.symbols.counter(tables, system, c))).collect();
+            let words =
+                if words.is_empty() { "weights.".to_string() } else { format!("weights {}.", words.join(", ")) };
+            self.text.push_str(&wrapped("", &words));
         }
     }
 

@@ -16,7 +16,7 @@ pub struct Placed {
     pub line: usize,
 }
 
-const SIGNS: [&str; 15] = ["->", ">=", "(", ")", ",", ";", ".", ":", "=", "!", "@", "/", "{", "}", "^"];
+const SIGNS: [&str; 16] = ["->", ">=", ">", "(", ")", ",", ";", ".", ":", "=", "!", "@", "/", "{", "}", "^"];
 
 /// All tokens, or a word on the first sign that can't be read.
 pub fn tokens(text: &str) -> Result<Vec<Placed>, String> {

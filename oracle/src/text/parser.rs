@@ -1,6 +1,6 @@
 //! Tokens to tree.
 
-use super::ast::{Bad, Body, Branch, Expr, Function, Item, Pattern, Station, Step, Term, What};
+use super::ast::{Bad, Body, Branch, Evidence, Expr, Function, Item, Pattern, Station, Step, Term, Weight, What};
 use super::lexer::{Placed, Token, tokens};
 
 type Parsed<T> = Result<T, String>;
@@ -9,6 +9,9 @@ const RESERVED: [&str; 10] = ["fun", "end", "case", "of", "receive", "spawn", "s
 
 /// Deepest nesting of expressions and patterns that is read; no legal program is deeper.
 const DEEPEST: usize = 1100;
+
+/// What a text is made of.
+const ITEMS: &str = "`constructors`, `names`, `function`, `start`, `bad`, `evidence` or `weights`";
 
 struct Parser {
     tokens: Vec<Placed>,
@@ -135,7 +138,7 @@ impl Parser {
 
     fn item(&mut self, station: &mut Station) -> Parsed<()> {
         let line = self.line();
-        match self.any_word("`constructors`, `names`, `function`, `start` or `bad`")?.as_str() {
+        match self.any_word(ITEMS)?.as_str() {
             "constructors" => station.constructors.extend(self.list(",", Self::constructor)?),
             "names" => station.names = Some(self.list(",", Self::name_or_word)?),
             "function" => {
@@ -147,13 +150,28 @@ impl Parser {
                 self.sign("->")?;
                 station.start = Some(self.body()?);
             }
+            "evidence" => {
+                station.evidence = match self.any_word("`ceilings` or `weights`")?.as_str() {
+                    "ceilings" => Evidence::Ceilings,
+                    "weights" => Evidence::Weights,
+                    _ => {
+                        self.at -= 1;
+                        return self.wrong("`ceilings` or `weights`");
+                    }
+                };
+            }
+            "weights" if self.is_sign(".") => station.lines.push(Vec::new()),
+            "weights" => {
+                let line = self.list(",", Self::weight)?;
+                station.lines.push(line);
+            }
             "bad" => {
                 let bad = self.bad()?;
                 station.bads.push(bad);
             }
             _ => {
                 self.at -= 1;
-                return self.wrong("`constructors`, `names`, `function`, `start` or `bad`");
+                return self.wrong(ITEMS);
             }
         }
         self.sign(".")
@@ -332,6 +350,26 @@ impl Parser {
             items.push(self.bad_item()?);
         }
         Ok(Bad { name, items })
+    }
+
+    /// `CLASS@LABEL`, `CLASS@LABEL>LABEL` or `CLASS!LETTER`, and a weight.
+    fn weight(&mut self) -> Parsed<Weight> {
+        let line = self.line();
+        let class = self.any_word("a class (`start` or a spawn's label)")?;
+        let counter = if self.skip(self.is_sign("@")) {
+            let label = self.any_word("a label")?;
+            let back =
+                if self.skip(self.is_sign(">")) { format!(">{}", self.any_word("a label")?) } else { String::new() };
+            format!("{class}@{label}{back}")
+        } else if self.skip(self.is_sign("!")) {
+            let kind = self.head_word()?;
+            let heads = if self.is_sign("(") { self.in_brackets(Self::head_word)? } else { Vec::new() };
+            let heads = if heads.is_empty() { String::new() } else { format!("({})", heads.join(",")) };
+            format!("{class}!{kind}{heads}")
+        } else {
+            return self.wrong("`@` and a label, or `!` and a letter");
+        };
+        Ok(Weight { line, counter, weight: self.number()? })
     }
 
     fn head_word(&mut self) -> Parsed<String> {

@@ -51,6 +51,15 @@ enum-known-v-14 c = search needs
 enum-known-v-15 : tie.Need-enum-known-v-15
 enum-known-v-15 c = search needs
 
+enum-known-v-16 : tie.Need-enum-known-v-16
+enum-known-v-16 c = search needs
+
+enum-known-v-17 : tie.Need-enum-known-v-17
+enum-known-v-17 c = search needs
+
+enum-known-v-18 : tie.Need-enum-known-v-18
+enum-known-v-18 c = search needs
+
 returns : tie.Need-returns
 unfolding number place
 returns c = search needs
@@ -115,6 +124,18 @@ returns-16 : tie.Need-returns-16
 unfolding number place
 returns-16 c = search needs
 
+returns-17 : tie.Need-returns-17
+unfolding number place
+returns-17 c = search needs
+
+returns-18 : tie.Need-returns-18
+unfolding number place
+returns-18 c = search needs
+
+returns-19 : tie.Need-returns-19
+unfolding number place
+returns-19 c = search needs
+
 pub told-of-spec : {M : Type 1} → statement M
 told-of-spec =
     tie.close
@@ -135,6 +156,9 @@ told-of-spec =
     enum-known-v-13
     enum-known-v-14
     enum-known-v-15
+    enum-known-v-16
+    enum-known-v-17
+    enum-known-v-18
     returns
     returns-2
     returns-3
@@ -150,4 +174,7 @@ told-of-spec =
     returns-13
     returns-14
     returns-15
-    returns-16)
+    returns-16
+    returns-17
+    returns-18
+    returns-19)

@@ -1,86 +1,27 @@
--- The loop's invariant: the ceilings before k are in the tables, and the parts of the others are blank.
-use Prim.Native.Nat.{_-_, _≤_, zero-le}
-use native.Mathlib.Nat.{le-refl}
-use native.Mathlib.Omega.{arith}
-use mathlib.Core.Path.{_≡_, refl, _∙_}
-use lib.ListN.{length, length-set}
 use borrow.Author.Needs.{needs}
-use Rattle.model.specs.Ceilings.{ceiling-entries}
-use Rattle.ceilings_form.proofs.Ceilings.{entries-size, stands, entry-inside}
-use Rattle.ceilings.proofs.Filling.{Filled, filled-start, filled-next, limits-table, starts-table}
+use Rattle.ceilings_form.proofs.Ceilings.{part-of, part-in}
+use Rattle.ceilings.proofs.Filling.{limits-table}
 use Rattle.ceilings.proofs.fill_limits.Statement.{statement}
 use Rattle.ceilings.proofs.fill_limits.Tie as tie
 
-abbrev Inv-loop : tie.InvT-loop
-Inv-loop ws s n limits₀ starts₀ e₀ k₀ k-end limits starts e k = Filled n (ceiling-entries ws s) (s .ceilings) k e limits starts × (k ≤ s .ceilings) × (length limits ≡ length limits₀) × (length starts ≡ length starts₀)
+ceilings-part-requires : tie.Need-ceilings-part-requires
+ceilings-part-requires c κs = c .before .before .before .pre .0 .limits
 
-abbrev μ-loop : tie.MeasureT-loop
-μ-loop ws s n limits₀ starts₀ e₀ k₀ k-end limits starts e k = s .ceilings - k
-
-loop-holds : tie.Need-loop-holds Inv-loop μ-loop
-loop-holds c = let p = c .before .before .before .pre in (filled-start _ _ _ (p .1 .1 .0) _ _ (p .1 .1 .1 .0), zero-le, refl, refl)
-
-cast-starts : tie.Need-cast-starts Inv-loop μ-loop
-cast-starts c = let a = c .before .before .before .before .before .args in let h = entry-inside _ _ _ _ _ (c .before .loop .inv .0 .walked) in omega (arith, h, entries-size (a .ws .now) (a .s), c .before .before .before .before .before .pre .0 .limits .entries)
-
-mul-starts : tie.Need-mul-starts Inv-loop μ-loop
-mul-starts c = record { fits = omega (arith, c .loop-test .taken, c .before .before .before .before .before .pre .0 .limits .ceilings) }
-
-slice-write-starts : tie.Need-slice-write-starts Inv-loop μ-loop
-slice-write-starts c = omega (arith, c .loop-test .taken, c .before .loop .inv .3, c .before .before .before .before .before .pre .1 .1 .1 .1 .1)
-
-fill-ceiling-requires : tie.Need-fill-ceiling-requires Inv-loop μ-loop
-fill-ceiling-requires c κs =
+fill-bounds-requires : tie.Need-fill-bounds-requires
+fill-bounds-requires c κs =
     let p = c .before .before .before .before .before .before .pre in
-    let h = c .before .before .loop .inv in
-    let below = c .before .loop-test .taken in
-    (p .0, ((p .1 .0, below), (stands _ _ _ _ _ (h .0 .walked) below, (h .0 .blank _ (le-refl _) below, omega (arith, h .2, p .1 .1 .1 .1 .0)))))
+    rw (c .before .before .ceilings-part .ensures, part-of) (part-in _ _ (p .0), p .1 .1)
 
-add-k : tie.Need-add-k Inv-loop μ-loop
-add-k c = record { fits = omega (arith, c .before .before .before .before .loop-test .taken, c .before .before .before .before .before .before .before .before .before .pre .0 .limits .ceilings) }
-
-loop-less : tie.Need-loop-less Inv-loop μ-loop
-loop-less c = omega (arith, c .before .before .before .before .loop-test .taken)
-
-loop-again : tie.Need-loop-again Inv-loop μ-loop
-loop-again c =
-    let h = c .before .before .before .before .before .loop in
-    let p = c .before .before .before .before .before .before .before .before .before .pre in
-    let below = c .before .before .before .before .loop-test .taken in
-    let b = c .before .before .fill-ceiling in (
-      rw (b .ensures .0) (filled-next _ _ _ _ _ _ _ _ below (omega (arith, below, h .inv .3, p .1 .1 .1 .1 .1)) (h .inv .0) (b .ensures .1)),
-      omega (arith, below),
-      b .kept .1 .1 .1 .1 .1 .0 ∙ h .inv .2,
-      length-set (h .starts) (h .k) (h .e) ∙ h .inv .3,
-    )
-
-same-length : tie.Need-same-length Inv-loop μ-loop
+same-length : tie.Need-same-length
 same-length c = search needs
 
-same-length-2 : tie.Need-same-length-2 Inv-loop μ-loop
+same-length-2 : tie.Need-same-length-2
 same-length-2 c = search needs
 
-returns : tie.Need-returns Inv-loop μ-loop
+returns : tie.Need-returns
 returns c =
-    let h = c .before .loop in
-    let p = c .before .before .before .before .before .pre .1 .1 .1 .1 in
-    let z : h .k ≡ c .before .before .before .before .before .args .s .ceilings = omega (arith, c .loop-test .left, h .inv .1) in
-    (limits-table _ _ _ _ _ _ _ z (h .inv .0) (omega (arith, h .inv .2, p .0)), starts-table _ _ _ _ _ _ _ z (h .inv .0) (omega (arith, h .inv .3, p .1)))
+    let (table, begun) = rw (c .before .before .before .before .before .before .before .ceilings-part .ensures, part-of) at (c .before .before .before .before .fill-bounds .ensures) in
+    (limits-table _ _ _ _ table, begun)
 
 pub fill-limits-spec : {M : Type 1} → statement M
-fill-limits-spec =
-    tie.close
-    (tie.spec
-    Inv-loop
-    μ-loop
-    loop-holds
-    cast-starts
-    mul-starts
-    slice-write-starts
-    fill-ceiling-requires
-    add-k
-    loop-less
-    loop-again
-    same-length
-    same-length-2
-    returns)
+fill-limits-spec = tie.close (tie.spec ceilings-part-requires fill-bounds-requires same-length same-length-2 returns)

@@ -1,6 +1,7 @@
 use Rattle.model.specs.Words.{right, columns}
-use Rattle.model.specs.Message.{bads-at, ceilings-at, end-at}
+use Rattle.model.specs.Message.{bads-at, ceilings-at, weights-at}
 use Rattle.model.specs.Bads.{bad-rows}
+use Rattle.model.proofs.Exact.Parts.{end-past}
 use borrow.Author.Needs.{needs}
 use Rattle.ceilings_met.proofs.bad_number.Statement.{statement}
 use Rattle.ceilings_met.proofs.bad_number.Tie as tie
@@ -18,8 +19,8 @@ add-column-3 : tie.Need-add-column-3
 add-column-3 c = search needs
 
 column-requires : tie.Need-column-requires
-unfolding end-at ceilings-at
-column-requires c κs = search needs
+unfolding weights-at ceilings-at
+column-requires c κs = let past = end-past (c .before .before .before .args .s) in search needs
 
 cast-result : tie.Need-cast-result
 cast-result c = search needs

@@ -1,25 +1,25 @@
 use lib.ListN.{getD}
 use native.Mathlib.Omega.{arith}
 use mathlib.Core.Path.{refl}
-use Rattle.ceilings_met.proofs.Meeting.{item-room, ends-room, sums-order, sum-told}
+use Rattle.ceilings_met.proofs.Meeting.{row-room, ends-room, sums-order, sum-told}
 use borrow.Author.Needs.{needs}
 use Rattle.ceilings_met.proofs.item_count.Statement.{statement}
 use Rattle.ceilings_met.proofs.item_count.Tie as tie
 
 mul-from : tie.Need-mul-from
-mul-from c = let h = item-room (c .args .ws .now) (c .args .s) (c .args .froms .now) (c .args .tos .now) (c .args .sums .now) (c .pre .0) (c .args .r) (c .pre .1) in search needs
+mul-from c = let h = row-room (c .args .ws .now) (c .args .s) (c .args .froms .now) (c .args .tos .now) (c .pre .0 .items-table) (c .args .r) (c .pre .1) in search needs
 
 shared-slice-read-from : tie.Need-shared-slice-read-from
-shared-slice-read-from c = item-room (c .before .args .ws .now) (c .before .args .s) (c .before .args .froms .now) (c .before .args .tos .now) (c .before .args .sums .now) (c .before .pre .0) (c .before .args .r) (c .before .pre .1) .0
+shared-slice-read-from c = row-room (c .before .args .ws .now) (c .before .args .s) (c .before .args .froms .now) (c .before .args .tos .now) (c .before .pre .0 .items-table) (c .before .args .r) (c .before .pre .1) .0
 
 cast-from : tie.Need-cast-from
 cast-from c = omega (arith, c .shared-slice-known .given (c .before .args .r))
 
 mul-to : tie.Need-mul-to
-mul-to c = let h = item-room (c .before .args .ws .now) (c .before .args .s) (c .before .args .froms .now) (c .before .args .tos .now) (c .before .args .sums .now) (c .before .pre .0) (c .before .args .r) (c .before .pre .1) in search needs
+mul-to c = let h = row-room (c .before .args .ws .now) (c .before .args .s) (c .before .args .froms .now) (c .before .args .tos .now) (c .before .pre .0 .items-table) (c .before .args .r) (c .before .pre .1) in search needs
 
 shared-slice-read-to : tie.Need-shared-slice-read-to
-shared-slice-read-to c = item-room (c .before .before .args .ws .now) (c .before .before .args .s) (c .before .before .args .froms .now) (c .before .before .args .tos .now) (c .before .before .args .sums .now) (c .before .before .pre .0) (c .before .before .args .r) (c .before .before .pre .1) .1
+shared-slice-read-to c = row-room (c .before .before .args .ws .now) (c .before .before .args .s) (c .before .before .args .froms .now) (c .before .before .args .tos .now) (c .before .before .pre .0 .items-table) (c .before .before .args .r) (c .before .before .pre .1) .1
 
 cast-to : tie.Need-cast-to
 cast-to c = omega (arith, c .shared-slice-known2 .given (c .before .before .args .r))

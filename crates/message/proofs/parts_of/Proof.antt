@@ -1,7 +1,7 @@
 -- Each return is the first check that refused, behind those that passed; the last ones by the bytes that are left.
+use native.Mathlib.Omega.{arith}
 use borrow.Author.Needs.{needs}
-use Rattle.model.specs.Message.{ceilings-at, end-at}
-use Rattle.message.proofs.Checks.{tests-of-parts}
+use Rattle.message.proofs.Checks.{end-small, tests-of-parts}
 use Rattle.message.proofs.parts_of.Statement.{statement}
 use Rattle.message.proofs.parts_of.Tie as tie
 
@@ -56,18 +56,29 @@ returns-4 c = search tests-of-parts
 enum-told-4 : tie.Need-enum-told-4
 enum-told-4 c = search needs
 
+weights-part-requires : tie.Need-weights-part-requires
+weights-part-requires c κs = search needs
+
+enum-known-v-5 : tie.Need-enum-known-v-5
+enum-known-v-5 c = search needs
+
+returns-5 : tie.Need-returns-5
+returns-5 c = search tests-of-parts depth 7
+
+enum-told-5 : tie.Need-enum-told-5
+enum-told-5 c = search needs
+
 end-at-requires : tie.Need-end-at-requires
 end-at-requires c κs = search needs
 
 mul-if1 : tie.Need-mul-if1
-unfolding end-at ceilings-at
-mul-if1 c = search needs
-
-returns-5 : tie.Need-returns-5
-returns-5 c = search tests-of-parts depth 6
+mul-if1 c = omega (arith, end-small _ _ (c .end-at .ensures) (c .before .before .before .before .before .before .before .before .before .before .before .before .before .before .before .before .sizes-of .ensures .1))
 
 returns-6 : tie.Need-returns-6
-returns-6 c = search tests-of-parts depth 6
+returns-6 c = search tests-of-parts depth 7
+
+returns-7 : tie.Need-returns-7
+returns-7 c = search tests-of-parts depth 7
 
 pub parts-of-spec : {M : Type 1} → statement M
 parts-of-spec =
@@ -90,7 +101,11 @@ parts-of-spec =
     enum-known-v-4
     returns-4
     enum-told-4
+    weights-part-requires
+    enum-known-v-5
+    returns-5
+    enum-told-5
     end-at-requires
     mul-if1
-    returns-5
-    returns-6)
+    returns-6
+    returns-7)

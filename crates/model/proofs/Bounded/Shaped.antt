@@ -26,35 +26,35 @@ use Rattle.model.proofs.Numbering.Choices.{where-allowed}
 use Rattle.model.proofs.Bounded.Fire.{Shaped}
 
 -- each element of a list has the property; what the ways to make a list hand on
-abbrev Each : {A : Type 0} → (A → Type 0) → List A → Type 0
+abbrev pub Each : {A : Type 0} → (A → Type 0) → List A → Type 0
 Each {A} P xs = (x : A) → List·Memᴰ x xs → P x
 
-each-none : {A : Type 0} (P : A → Type 0) → Each P []
+pub each-none : {A : Type 0} (P : A → Type 0) → Each P []
 each-none P x m = absurd (List·Memᴰ·not-nil m)
 
-each-one : {A : Type 0} (P : A → Type 0) (a : A) → P a → Each P (a ∷ [])
+pub each-one : {A : Type 0} (P : A → Type 0) (a : A) → P a → Each P (a ∷ [])
 each-one P a h x m = subst P (sym (List·Memᴰ·eq-of-singleton m)) h
 
-each-only : {A : Type 0} (P : A → Type 0) (b : Bool) (a : A) → (b ≡ true → P a) → Each P (only b a)
+pub each-only : {A : Type 0} (P : A → Type 0) (b : Bool) (a : A) → (b ≡ true → P a) → Each P (only b a)
 each-only P b a h x m = let (e, same) = only-elim b a x m in subst P (sym same) (h e)
 
-each-where : {A : Type 0} (P : A → Type 0) (b : Bool) (xs : List A) → Each P xs → Each P (elim b [ true ↦ xs | false ↦ [] ])
+pub each-where : {A : Type 0} (P : A → Type 0) (b : Bool) (xs : List A) → Each P xs → Each P (elim b [ true ↦ xs | false ↦ [] ])
 each-where P true xs h = h
 each-where P false xs h = each-none P
 
-each-gather : {A : Type 0} (P : A → Type 0) (i e : ℕ) (f : ℕ → List A) → ((k : ℕ) → k < e → Each P (f k)) → Each P (gather i e f)
+pub each-gather : {A : Type 0} (P : A → Type 0) (i e : ℕ) (f : ℕ → List A) → ((k : ℕ) → k < e → Each P (f k)) → Each P (gather i e f)
 each-gather P i e f h x m = let (k, w, n) = gather-elim i e f x m in h k (w .1) x n
 
-each-from-each : {A : Type 0} (P : A → Type 0) (c : Columns) (a : ℕ) (f : ℕ → List A) → ((v : ℕ) → Each P (f v)) → Each P (from-each c a f)
+pub each-from-each : {A : Type 0} (P : A → Type 0) (c : Columns) (a : ℕ) (f : ℕ → List A) → ((v : ℕ) → Each P (f v)) → Each P (from-each c a f)
 unfolding from-each
 each-from-each P c a f h = each-gather P 0 (c .size) _ (λ k below. each-where P (eqb (left c k) a) (f (right c k)) (h (right c k)))
 
-each-from-all : {A B : Type 0} (P : A → Type 0) (bs : List B) (f : B → List A) → ((b : B) → Each P (f b)) → Each P (from-all bs f)
+pub each-from-all : {A B : Type 0} (P : A → Type 0) (bs : List B) (f : B → List A) → ((b : B) → Each P (f b)) → Each P (from-all bs f)
 unfolding from-all
 each-from-all P [] f h = each-none P
 each-from-all P (b ∷ bs) f h = λ x m. ⊎-elim (λ n. h b x n) (λ n. each-from-all P bs f h x n) (List·Memᴰ·append-cases (f b) m)
 
-each-map : {A B : Type 0} (P : A → Type 0) (bs : List B) (f : B → A) → ((b : B) → List·Memᴰ b bs → P (f b)) → Each P (map f bs)
+pub each-map : {A B : Type 0} (P : A → Type 0) (bs : List B) (f : B → A) → ((b : B) → List·Memᴰ b bs → P (f b)) → Each P (map f bs)
 each-map P bs f h x m = let (b, n, e) = Memᴰ·of-map f bs m in subst P e (h b n)
 
 -- from a list's pairs

@@ -1,20 +1,20 @@
 -- No refusal is the verdict safe, so a message is safe exactly where nothing is refused.
 use Prim.Native.Nat.{ℕ, _+_}
 use mathlib.Core.Path.{_≡_, refl, ap, subst}
-use mathlib.Core.Bool.{Bool, _&&_}
+use mathlib.Core.Bool.{Bool, true, false, _&&_}
 use mathlib.Core.Logic.{_↔_, ⊎-elim}
 use mathlib.Core.List.{List, [], _∷_}
 use mathlib.Core.Option.{Option, some, none, Option·map, Option·some-injective, Option·none-ne-some, Option·some-ne-none, map-eq-some-iff}
 use lib.ListN.{replicate}
-use lib.Dec.{T, leb, ltb}
+use lib.Dec.{T, leb, ltb, eqb}
 use Rattle.model.specs.declared.Sizes.{Sizes}
 use Rattle.model.specs.declared.Verdict.{Verdict}
-use Rattle.model.specs.declared.Verdict.the-variants.{Safe, Length, Size, Row, Name, Scope, Bad, Entry, Open, Counters, Ceiling, Start, Met, Leak, Space, FunctionMailed}
+use Rattle.model.specs.declared.Verdict.the-variants.{Safe, Length, Size, Row, Name, Scope, Bad, Entry, Open, Counters, Ceiling, Start, Met, Leak, Space, FunctionMailed, Weights, Rise, Light}
 use Rattle.model.specs.Limits.{Limits}
 use Rattle.model.specs.Words.{Columns}
 use Rattle.model.specs.Keys.{Key}
 use Rattle.model.specs.Verdict.{Check, _>>_, unless, number}
-use Rattle.model.specs.Message.{Limited, sizes-check, part-check, program-part, bads-part, tables-part, ceilings-part, nothing-left, parts-check, bads-at, ceilings-at}
+use Rattle.model.specs.Message.{Limited, sizes-check, part-check, program-part, bads-part, tables-part, ceilings-part, goes-on, weights-part, nothing-left, parts-check, bads-at, ceilings-at, weights-at}
 use Rattle.model.specs.Reader.{first-wrong}
 use Rattle.model.specs.Rows.{Program, step, whole, row-check}
 use Rattle.model.specs.Scopes.{name-check, scope-check}
@@ -22,9 +22,11 @@ use Rattle.model.specs.Bads.{bad, bad-step, bad-rows, bad-check}
 use Rattle.model.specs.Tables.{Tables, list-check, entry-check, mailed-check}
 use Rattle.model.specs.Closed.{open-check}
 use Rattle.model.specs.Counters.{counter-check}
+use Rattle.model.specs.Rules.{Rule}
 use Rattle.model.specs.Listing.{space-check}
 use Rattle.model.specs.Ceilings.{Ceilings, ceiling-entries, ceiling-step, ceilings-ahead, ceiling-check, start-check, met-check, leak-check}
-use Rattle.model.specs.Verify.{Message, program-check, evidence-check, ceilings-check, message-check, check, answer, verdict-within}
+use Rattle.model.specs.Weights.{Lines, weight-entries, weight-step, lines-ahead, weight-check, rise-check, light-check}
+use Rattle.model.specs.Verify.{Message, program-check, evidence-check, ceilings-check, weights-check, bounds-check, message-check, check, answer, verdict-within}
 use Rattle.model.proofs.Logic.{test}
 use Rattle.model.proofs.Exact.Checks.{then-some, unless-some}
 
@@ -59,11 +61,20 @@ part-refuses ws at ls n =
     then-refuses _ _ (unless-refuses _ (Length at) tt)
     (then-refuses _ _ (sizes-refuses at ls) (unless-refuses _ (Length at) tt))
 
+-- of two checks, whichever it is
+either-refuses : (b : Bool) (c d : Check) → Refuses c → Refuses d → Refuses (elim b [ true ↦ c | false ↦ d ])
+either-refuses true c d hc hd = hc
+either-refuses false c d hc hd = hd
+
+weights-refuse : (bytes ws : List ℕ) (s : Sizes) → Refuses (weights-part bytes ws s)
+unfolding weights-part
+weights-refuse bytes ws s = either-refuses (goes-on bytes s) _ none (part-refuses _ _ _ _) (Option·none-ne-some Safe)
+
 parts-refuse : (most : Limits) (bytes : List ℕ) → Refuses (parts-check most bytes)
 unfolding parts-check program-part bads-part tables-part ceilings-part nothing-left number
 parts-refuse most bytes =
     then-refuses _ _ (part-refuses _ _ _ _) (then-refuses _ _ (part-refuses _ _ _ _) (then-refuses _ _ (part-refuses _ _ _ _)
-    (then-refuses _ _ (part-refuses _ _ _ _) (unless-refuses _ (Length _) tt))))
+    (then-refuses _ _ (part-refuses _ _ _ _) (then-refuses _ _ (weights-refuse _ _ _) (unless-refuses _ (Length _) tt)))))
 
 pub row-refuses : (p : Program) → Refuses (row-check p)
 unfolding row-check number
@@ -132,12 +143,34 @@ ceilings-refuse m =
     then-refuses _ _ (ceiling-refuses _ _ _)
     (then-refuses _ _ (start-refuses _ _ _ _) (then-refuses _ _ (met-refuses _ _ _ _ _) (unless-refuses _ (Leak _) tt)))
 
+pub weight-refuses : (ws : List ℕ) (s : Sizes) (counters : ℕ) → Refuses (weight-check ws s counters)
+unfolding weight-check number
+weight-refuses ws s counters =
+    map-refuses (λ e. Weights (weights-at s + 2 + e)) (first-wrong (weight-step counters) (weight-entries ws s) (lines-ahead (s .lines))) (λ r. tt)
+
+pub rise-refuses : (ws : List ℕ) (s : Sizes) (ls : Lines) (ρs : List Rule) → Refuses (rise-check ws s ls ρs)
+unfolding rise-check number
+rise-refuses ws s ls ρs = unless-refuses _ (Rise _) tt
+
+pub light-refuses : (s : Sizes) (p : Program) (t : Tables) (ls : Lines) (rows : Columns) → Refuses (light-check s p t ls rows)
+unfolding light-check number
+light-refuses s p t ls rows = unless-refuses _ (Light _) tt
+
+pub weights-check-refuses : (m : Message) → Refuses (weights-check m)
+unfolding weights-check
+weights-check-refuses m =
+    then-refuses _ _ (weight-refuses _ _ _) (then-refuses _ _ (rise-refuses _ _ _ _) (light-refuses _ _ _ _ _))
+
+pub bounds-refuse : (m : Message) → Refuses (bounds-check m)
+unfolding bounds-check
+bounds-refuse m = either-refuses (eqb (m .sizes .lines) 0) _ _ (ceilings-refuse m) (weights-check-refuses m)
+
 pub check-refuses : (most : Limits) (bytes : List ℕ) (lent : ℕ) → Refuses (check most bytes lent)
 unfolding check message-check space-check number
 check-refuses most bytes lent =
     then-refuses _ _ (parts-refuse most bytes)
     (then-refuses _ _ (program-refuses _)
-    (then-refuses _ _ (evidence-refuses _ _) (then-refuses _ _ (ceilings-refuse _) (unless-refuses _ (Space _) tt))))
+    (then-refuses _ _ (evidence-refuses _ _) (then-refuses _ _ (bounds-refuse _) (unless-refuses _ (Space _) tt))))
 
 pub answer-safe : (c : Check) → Refuses c → (answer c ≡ Safe) ↔ (c ≡ none)
 unfolding answer

@@ -2,24 +2,24 @@
 use Prim.Native.Nat.{ℕ, zero, suc, _+_, _-_, _≤_, _<_}
 use native.Mathlib.Omega.{arith}
 use mathlib.Core.Path.{_≡_, refl, sym, _∙_, ap, subst}
-use mathlib.Core.Bool.{true, false}
-use mathlib.Core.Logic.{_⊎_, inl, inr}
+use mathlib.Core.Bool.{true, false, _&&_}
+use mathlib.Core.Logic.{_⊎_, inl, inr, ⊎-elim}
 use mathlib.Core.List.{List, [], _∷_, _++_}
 use mathlib.Core.Option.{some, none}
 use lib.ListN.{length, replicate, length-replicate, replicate-append-replicate}
-use lib.Dec.{eqb}
-use borrow.Author.Tests.{eqb-true, eq-eqb, ne-eqb}
+use lib.Dec.{leb, eqb}
+use borrow.Author.Tests.{leb-true, eqb-true, eq-eqb, ne-eqb}
 use Rattle.model.specs.Words.{Columns, left, right}
 use Rattle.model.specs.Reader.{past, read, first-wrong}
 use Rattle.model.specs.Rows.{Program}
 use Rattle.model.specs.Bads.{Part, bad, subject, minimum, detail, further, item, letter-arity, subject-step, detail-step, bad-step, bad-row}
 use Rattle.model.specs.Met.{closed-before}
 use Rattle.model.specs.Refusals.{Ahead, at-first, after-row}
-use Rattle.model.proofs.Logic.{test}
+use Rattle.model.proofs.Logic.{test, and-right}
 use Rattle.model.proofs.Index.{count-end, count-split, count-last, count-last-miss}
 use Rattle.model.proofs.Reader.{read-range, read-split, after-past, first-wrong-none, fits-some}
 use Rattle.model.proofs.Parse.Grammar.{fits-tag}
-use Rattle.model.proofs.Exact.Reading.{ahead-past, ahead-next}
+use Rattle.model.proofs.Exact.Reading.{ahead-past, ahead-next, ahead-taken, first-wrong-iff}
 
 -- a row that a part takes: its tag, and what follows it
 pub data Taken (t : ℕ) (more : List Part) : Part → Type 0 where
@@ -80,6 +80,27 @@ taken-last (detailed-least e q) = (e, q)
 
 pub taken-next : {a t : ℕ} {more : List Part} → Taken t more (detail (suc a)) → (t ≡ 45) × (detail a ∷ [] ≡ more)
 taken-next (next-detail e q) = (e, q)
+
+-- a minimum that is taken is from 1
+minimum-least : (p : Program) (t n : ℕ) (more : List Part) → detail-step p 0 t n ≡ some more → 1 ≤ n
+unfolding detail-step
+minimum-least p t n more h = leb-true 1 n (and-right (eqb t 43) (leb 1 n) (fits-some (eqb t 43 && leb 1 n) [] more h .0))
+
+minimum-taken : (p : Program) (x : Part) (t n : ℕ) (more : List Part) → t ≡ 43 → bad-step p x t n ≡ some more → 1 ≤ n
+unfolding bad-step
+minimum-taken p bad t n more e h = other (taken p bad t n more h)
+  where
+    other : Taken t more bad → 1 ≤ n
+    other (first-item z q) = absurd (omega arith)
+minimum-taken p subject t n more e h = ⊎-elim (λ z. absurd (omega (arith, z .0))) (λ z. absurd (omega (arith, z .1 .0))) (taken-subject (taken p subject t n more h))
+minimum-taken p (minimum a) t n more e h = minimum-least p t n more (rw (ne-eqb t 45 (λ z. omega arith), bad-step) at h)
+minimum-taken p (detail zero) t n more e h = minimum-least p t n more h
+minimum-taken p (detail (suc a)) t n more e h = absurd (omega (arith, taken-next (taken p (detail (suc a)) t n more h) .0))
+minimum-taken p further t n more e h = other (taken p further t n more h)
+  where
+    other : Taken t more further → 1 ≤ n
+    other (another z q) = absurd (omega arith)
+    other (closing z q) = absurd (omega arith)
 
 -- how many bads are closed before a row: one more behind a closing row, as many behind any other
 module _ (rows : Columns) where
@@ -209,3 +230,9 @@ module _ (p : Program) (rows : Columns) (bads : ℕ) (fit : first-wrong (bad-ste
         row = taken p x (left rows r) (right rows r) (n .more) (n .said);
         rest = λ xs q. subst (λ ys. Before (r + 1) (ys ++ items)) (sym q) (n .ahead);
       }
+
+  -- "(43, minimum from 1)": every minimum is
+  pub minimum-from-one : (r : ℕ) → r < rows .size → left rows r ≡ 43 → 1 ≤ right rows r
+  minimum-from-one r b e =
+      let x = ahead-taken (bad-step p) rows (replicate bads bad) (rows .size) [] r (first-wrong-iff (bad-step p) rows (replicate bads bad) .0 fit) b in
+      minimum-taken p (x .item) (left rows r) (right rows r) (x .more) e (x .said)

@@ -1,4 +1,4 @@
--- Refusals 6, 7, 22 and 10: nothing is refused exactly where the bads, the tables and the ceilings are in form, and where no function is mailed.
+-- Refusals 6, 7, 22, 10 and 16: nothing is refused exactly where the bads, the tables, the ceilings and the weights are in form, and where no function is mailed.
 use Prim.Native.Nat.{ℕ, zero, suc, _+_, _-_, _<_}
 use native.Mathlib.Decide.{ℕ-discrete}
 use native.Mathlib.Omega.{arith}
@@ -11,9 +11,9 @@ use lib.ListN.{replicate, getD}
 use lib.Dec.{eqb}
 use Rattle.model.specs.declared.Sizes.{Sizes}
 use Rattle.model.specs.declared.Verdict.{Verdict}
-use Rattle.model.specs.declared.Verdict.the-variants.{Bad, Ceiling, FunctionMailed}
+use Rattle.model.specs.declared.Verdict.the-variants.{Bad, Ceiling, FunctionMailed, Weights}
 use Rattle.model.specs.Words.{Columns, left, right}
-use Rattle.model.specs.Message.{bads-at, tables-at, ceilings-at}
+use Rattle.model.specs.Message.{bads-at, tables-at, ceilings-at, weights-at}
 use Rattle.model.specs.Keys.{Key, below}
 use Rattle.model.specs.Reader.{first-wrong}
 use Rattle.model.specs.Rows.{Program, tag, is-head, is-name, size}
@@ -22,6 +22,7 @@ use Rattle.model.specs.Bads.{bad, bad-step, bad-rows, bad-check}
 use Rattle.model.specs.Tables.{Tables, is-value, first-misplaced, list-check, entry-check, mailed-check}
 use Rattle.model.specs.Tables.{state-at, pair-key, state-key, is-return, is-pair, is-state}
 use Rattle.model.specs.Ceilings.{ceiling-entries, ceiling-step, ceilings-ahead, ceiling-check}
+use Rattle.model.specs.Weights.{weight-entries, weight-step, lines-ahead, weight-check}
 use Rattle.model.specs.Demands.{Listed, Mails-function, Mails-no-function, Below, Legal-pair, Pairs-listed}
 use Rattle.model.specs.Demands.{Legal-state, States-listed}
 use Rattle.model.specs.Refusals.{First-such, Placed}
@@ -106,3 +107,8 @@ pub ceiling-none : (ws : List ℕ) (s : Sizes) (counters : ℕ) → (ceiling-che
 unfolding ceiling-check
 ceiling-none ws s counters =
     map-eq-none-iff (λ e. Ceiling (ceilings-at s + 2 + e)) (first-wrong (ceiling-step counters) (ceiling-entries ws s) (ceilings-ahead (s .ceilings)))
+
+pub weight-none : (ws : List ℕ) (s : Sizes) (counters : ℕ) → (weight-check ws s counters ≡ none) ↔ (first-wrong (weight-step counters) (weight-entries ws s) (lines-ahead (s .lines)) ≡ none)
+unfolding weight-check
+weight-none ws s counters =
+    map-eq-none-iff (λ e. Weights (weights-at s + 2 + e)) (first-wrong (weight-step counters) (weight-entries ws s) (lines-ahead (s .lines)))

@@ -5,7 +5,7 @@ use native.Mathlib.Omega.{arith}
 use mathlib.Core.Path.{_≡_, refl, sym, _∙_, ap, subst}
 use mathlib.Core.Bool.{true, not}
 use mathlib.Core.Logic.{_↔_, Iff·trans, Iff·and, Iff·rfl, _⊎_, inl, inr, ⊎-elim}
-use mathlib.Core.List.{List, [], _∷_, _++_}
+use mathlib.Core.List.{List, [], _∷_, _++_, List·Memᴰ, List·Memᴰ·not-nil, List·Memᴰ·cases-cons}
 use mathlib.Core.Option.{none}
 use lib.ListN.{replicate}
 use lib.Dec.{eqb}
@@ -14,12 +14,13 @@ use Rattle.model.specs.Words.{Columns, left, right}
 use Rattle.model.specs.Reader.{first-wrong}
 use Rattle.model.specs.Rows.{Program}
 use Rattle.model.specs.Bads.{Part, bad, subject, minimum, detail, further, item, bad-step, bad-row, Subject, at-head, of-letters, of-letter, past-heads, numbers, subject-at, item-at, items-from, items, met}
+use Rattle.model.specs.Bads.{Item as Bad-item}
 use Rattle.model.specs.Met.{Item, of-states, of-sum, of-one, closed-before, All-met, Met-exactly}
 use Rattle.model.specs.Refusals.{Ahead}
 use Rattle.model.proofs.Logic.{not-passes, not-fails}
 use Rattle.model.proofs.Index.{first-unique}
 use Rattle.model.proofs.Exact.Tests.{leb-iff, and-iff}
-use Rattle.model.proofs.Exact.Bads.{Taken, first-item, another, closing, taken-subject, taken-alone, taken-minimum, taken-last, taken-next, closed-on, closed-same, closed-rises, stands, Takes, takes}
+use Rattle.model.proofs.Exact.Bads.{Taken, first-item, another, closing, taken-subject, taken-alone, taken-minimum, taken-last, taken-next, closed-on, closed-same, closed-rises, stands, Takes, takes, minimum-from-one}
 
 -- The rows of the item whose first row is r: its minimum stands in row e, and between there are heads.
 record Item-rows (rows : Columns) (r e : ℕ) : Type 0 where
@@ -183,6 +184,31 @@ module _ (p : Program) (rows : Columns) (bads : ℕ) (fit : first-wrong (bad-ste
       by-row : Taken (left rows r) (h .more) further → Next-item r items ⊎ (left rows r ≡ 44)
       by-row (another e q) = inl (begins-item r items e (h .within) (h .rest item q))
       by-row (closing e q) = inr e
+
+  -- the items from an item on
+  items-next : (n r e : ℕ) → left rows r ≡ 40 → past-heads rows (r + 2) ≡ e → items-from rows (suc n) r ≡ item-at rows r e ∷ items-from rows n (e + 1)
+  unfolding items-from
+  items-next n r e z past = rw (eq-eqb _ 40 z, items-from, past)
+
+  -- the minimum of each is from 1
+  low-there : (n r : ℕ) (x : Part) (items : List Part) → Opens x → r ≤ rows .size → rows .size ≤ r + n → Before r (x ∷ items) → (i : Bad-item) → List·Memᴰ i (items-from rows n r) → 1 ≤ i .minimum
+  unfolding items-from item-at
+  low-there zero r x items o b l a i m = absurd (List·Memᴰ·not-nil m)
+  low-there (suc n) r x items o b l a i m =
+      ⊎-elim
+      (λ y. let past = past-is rows r (y .at) (omega (arith, y .upto)) (y .here) in
+      ⊎-elim
+      (λ e. subst (λ (u : Bad-item). 1 ≤ u .minimum) (sym e) (minimum-from-one p rows bads fit (y .at) (omega (arith, y .upto)) (y .here .last)))
+      (λ j. low-there n (y .at + 1) further items opens-further (y .upto) (omega (arith, y .here .behind)) (y .rest) i j)
+      (List·Memᴰ·cases-cons (subst (λ (is : List Bad-item). List·Memᴰ i is) (items-next n r (y .at) (y .here .first) past) m)))
+      (λ e. absurd (List·Memᴰ·not-nil (rw (ne-eqb (left rows r) 40 (λ z. omega arith), items-from) at m)))
+      (opened r x items o (takes p rows bads fit r x items b a))
+
+  pub items-low : (j : ℕ) → j < bads → (i : Bad-item) → List·Memᴰ i (items p rows j) → 1 ≤ i .minimum
+  unfolding items
+  items-low j b =
+      let s = stands p rows bads fit j (bads - (j + 1)) (omega arith) in
+      low-there (rows .size - bad-row p rows j) (bad-row p rows j) bad _ opens-bad (s .within) (omega (arith, s .within)) (s .ahead)
 
   module _ (counts : Subject → ℕ) where
     -- the items of the same bad from row r on are met

@@ -1,23 +1,25 @@
 -- Refusals 1 and 2: nothing is refused exactly where the message has the length that its sizes say, and these are within their limits.
 use Prim.Native.Nat.{ℕ, _+_, _*_, _≤_, _<_}
+use native.Mathlib.Decide.{decLt}
 use native.Mathlib.Omega.{arith}
-use mathlib.Core.Path.{_≡_, refl, _∙_, ap}
+use mathlib.Core.Path.{_≡_, refl, sym, _∙_, ap}
 use mathlib.Core.Bool.{Bool, true, false, _&&_}
 use mathlib.Core.Logic.{_↔_, Iff·trans, Iff·and, Iff·rfl, _⊎_, inl, inr, ⊎-elim}
 use mathlib.Core.List.{List, [], _∷_}
 use mathlib.Core.Option.{some, none, Option·some-ne-none, Option·none-ne-some, Option·some-injective}
-use lib.ListN.{length}
-use lib.Dec.{leb}
+use lib.ListN.{length, getD, List·getD-eq-default}
+use lib.Dec.{leb, eqb}
+use borrow.Author.Tests.{eqb-true, eq-eqb, ne-eqb, ltb-true, ltb-false}
 use Rattle.model.specs.declared.Sizes.{Sizes}
 use Rattle.model.specs.declared.Verdict.{Verdict}
 use Rattle.model.specs.declared.Verdict.the-variants.{Length, Size}
-use Rattle.model.specs.Limits.{Limits}
+use Rattle.model.specs.Limits.{Limits, present}
 use Rattle.model.specs.Words.{words}
 use Rattle.model.specs.Verdict.{Check, _>>_}
-use Rattle.model.specs.Message.{Limited, sizes, bads-at, tables-at, ceilings-at, end-at, sizes-check, part-check, program-part, bads-part, tables-part, ceilings-part, nothing-left, parts-check}
+use Rattle.model.specs.Message.{maxWords, Limited, sizes, bads-at, tables-at, ceilings-at, weights-at, end-at, fifth-size, sizes-check, part-check, program-part, bads-part, tables-part, ceilings-part, goes-on, weights-sizes, weights-part, nothing-left, parts-check}
 use Rattle.model.specs.Demands.{Within-limits}
-use Rattle.model.specs.Refusals.{Behind, here, there, Message-part, parts, Within, Each-within, Sizes-whole, Arrays-whole, Whole}
-use Rattle.model.proofs.Logic.{true-false, test}
+use Rattle.model.specs.Refusals.{Behind, here, there, Message-part, weights-parts, parts, Within, Each-within, Sizes-whole, Arrays-whole, Whole}
+use Rattle.model.proofs.Logic.{true-false, test, chosen-true, chosen-false, and-right, and-false-right}
 use Rattle.model.proofs.Exact.Tests.{fails-iff, leb-iff, and-iff}
 use Rattle.model.proofs.Exact.Checks.{then-iff, then-some, then-some-iff, unless-iff, unless-refutes}
 
@@ -122,6 +124,72 @@ checks-last : (ws : List ℕ) (xs : List Message-part) (last : Check) (v : Verdi
 checks-last ws [] last v w h = h
 checks-last ws (x ∷ xs) last v w h = then-some _ _ v .1 (inr (part-none ws x .1 (w .0), checks-last ws xs last v (w .1) h))
 
+-- The fifth part: where the ceilings' sizes are not 0, and where no bytes are left, its sizes are 0
+
+fifth-there : (ceilings entries size : ℕ) → eqb (ceilings + entries) 0 ≡ true → fifth-size ceilings entries size ≡ size
+unfolding fifth-size
+fifth-there ceilings entries size e = rw (e, fifth-size)
+
+fifth-none : (ceilings entries size : ℕ) → eqb (ceilings + entries) 0 ≡ false → fifth-size ceilings entries size ≡ 0
+unfolding fifth-size
+fifth-none ceilings entries size e = rw (e, fifth-size)
+
+lines-are : (ws : List ℕ) → sizes ws .lines ≡ fifth-size (sizes ws .ceilings) (sizes ws .entries) (getD ws (ceilings-at (sizes ws) + 2) 0)
+unfolding sizes ceilings-at
+lines-are ws = refl
+
+weights-are : (ws : List ℕ) → sizes ws .weights ≡ fifth-size (sizes ws .ceilings) (sizes ws .entries) (getD ws (ceilings-at (sizes ws) + 3) 0)
+unfolding sizes ceilings-at
+weights-are ws = refl
+
+-- where there are lines, there are no ceilings
+pub no-ceilings : (ws : List ℕ) → 1 ≤ sizes ws .lines → (sizes ws .ceilings ≡ 0) × (sizes ws .entries ≡ 0)
+no-ceilings ws h =
+    let k : ℕ = sizes ws .ceilings in
+    let e : ℕ = sizes ws .entries in
+    test (eqb (k + e) 0)
+    (λ b. let z = eqb-true (k + e) 0 b in (omega arith, omega arith))
+    (λ b. let z = fifth-none k e (getD ws (ceilings-at (sizes ws) + 2) 0) b in absurd (omega (arith, lines-are ws)))
+
+pub end-none : (s : Sizes) → s .lines ≡ 0 → end-at s ≡ weights-at s
+unfolding end-at
+end-none s h = chosen-true (eqb (s .lines) 0) _ _ (eq-eqb (s .lines) 0 h)
+
+pub end-some : (s : Sizes) → 1 ≤ s .lines → end-at s ≡ weights-at s + 2 + 2 * s .weights
+unfolding end-at
+end-some s h = chosen-false (eqb (s .lines) 0) _ _ (ne-eqb (s .lines) 0 (λ z. omega arith))
+
+-- the end is past the ceilings
+pub end-past : (s : Sizes) → weights-at s ≤ end-at s
+end-past s = elim (decLt 0 (s .lines)) [
+  | yes h ↦ omega (arith, end-some s h)
+  | no h ↦ omega (arith, end-none s (omega arith))
+]
+
+-- no message within the present limits is longer than the longest
+pub end-upto : (ws : List ℕ) → Within-limits present (sizes ws) → end-at (sizes ws) ≤ maxWords
+unfolding weights-at ceilings-at
+end-upto ws w = elim (decLt 0 (sizes ws .lines)) [
+  | yes h ↦ let (k, e) = no-ceilings ws h in omega (arith, end-some (sizes ws) h, w)
+  | no h ↦ omega (arith, end-none (sizes ws) (omega arith), w)
+]
+
+-- no bytes behind the ceilings: no lines and no weights
+pub no-fifth : (bytes : List ℕ) → length bytes ≤ 2 * weights-at (sizes (words bytes)) → (sizes (words bytes) .lines ≡ 0) × (sizes (words bytes) .weights ≡ 0)
+unfolding weights-at
+no-fifth bytes h =
+    let ws : List ℕ = words bytes in
+    let k : ℕ = sizes ws .ceilings in
+    let e : ℕ = sizes ws .entries in
+    let at : ℕ = ceilings-at (sizes ws) in
+    test (eqb (k + e) 0)
+    (λ b. let z = eqb-true (k + e) 0 b in
+    let l = words-length bytes .0 in
+    let p = List·getD-eq-default ws 0 {n = at + 2} (omega arith) in
+    let q = List·getD-eq-default ws 0 {n = at + 3} (omega arith) in
+    (lines-are ws ∙ (fifth-there k e (getD ws (at + 2) 0) b ∙ p), weights-are ws ∙ (fifth-there k e (getD ws (at + 3) 0) b ∙ q)))
+    (λ b. (lines-are ws ∙ fifth-none k e (getD ws (at + 2) 0) b, weights-are ws ∙ fifth-none k e (getD ws (at + 3) 0) b))
+
 -- Refusals 1 and 2 of a message
 module _ (most : Limits) (bytes : List ℕ) where
   abbrev ws : List ℕ
@@ -130,23 +198,83 @@ module _ (most : Limits) (bytes : List ℕ) where
   abbrev s : Sizes
   s = sizes ws
 
-  pub parts-none : (parts-check most bytes ≡ none) ↔ ((length bytes ≡ 2 * end-at s) × Within-limits most s)
-  unfolding parts-check program-part bads-part tables-part ceilings-part nothing-left end-at ceilings-at tables-at bads-at
-  parts-none =
-      Iff·trans
-      (Iff·trans (checks-none ws (parts most s) (nothing-left bytes s))
-      (Iff·and Iff·rfl (unless-iff _ _ (leb-iff (length bytes) (2 * end-at s)))))
-      (λ h. omega (arith, words-length bytes), λ h. omega (arith, words-length bytes))
+  -- a message that goes on has bytes behind the ceilings; one that does not has no lines
+  on-bytes : goes-on bytes s ≡ true → 2 * weights-at s < length bytes
+  unfolding goes-on
+  on-bytes h = ltb-true _ _ (and-right (eqb (s .ceilings + s .entries) 0) _ h)
 
-  pub parts-some : (v : Verdict) → (parts-check most bytes ≡ some v) ↔ (((k : ℕ) × (x : Message-part) × Behind (Whole ws) (parts most s) k x × Part-wrong ws x v) ⊎ (Within-limits most s × (2 * end-at s < length bytes) × (Length (end-at s) ≡ v)))
-  unfolding parts-check program-part bads-part tables-part ceilings-part nothing-left end-at ceilings-at tables-at bads-at
-  parts-some v = (
-    λ h. ⊎-elim (λ x. let (k, y, b, e) = x in inl (k, y, b, part-some ws y v .0 e))
-        (λ x. let w = x .0 in let (n, q) = remain .0 (x .1) in inr (omega arith, omega arith, q))
-        (checks-some ws (parts most s) (nothing-left bytes s) v h),
-    ⊎-elim (λ x. let (k, y, b, e) = x in checks-stop ws (parts most s) (nothing-left bytes s) v k y b (part-some ws y v .1 e))
-        (λ x. let (w, l, q) = x in checks-last ws (parts most s) (nothing-left bytes s) v (omega (arith, words-length bytes)) (remain .1 (λ z. omega arith, q))),
-  )
+  off-none : goes-on bytes s ≡ false → (s .lines ≡ 0) × (s .weights ≡ 0)
+  unfolding goes-on
+  off-none h =
+      let k : ℕ = s .ceilings in
+      let e : ℕ = s .entries in
+      test (eqb (k + e) 0)
+      (λ b. no-fifth bytes (ltb-false _ _ (and-false-right (eqb (k + e) 0) _ h b)))
+      (λ b. (
+        lines-are ws ∙ fifth-none k e (getD ws (ceilings-at s + 2) 0) b,
+        weights-are ws ∙ fifth-none k e (getD ws (ceilings-at s + 3) 0) b,
+      ))
+
+  abbrev On : Type 0
+  On = goes-on bytes s ≡ true → 1 ≤ s .lines
+
+  -- all parts whole and within their limits
+  all-within : All-whole ws (parts most bytes s) → Within-limits most s × ((end-at s ≤ length ws) × On)
+  unfolding weights-at ceilings-at tables-at bads-at
+  all-within h =
+      test (goes-on bytes s)
+      (λ b. let w : All-whole ws (weights-parts true s) = rw b at (h .1 .1 .1 .1) in
+      let e = end-some s (w .0 .0 .0 .0) in
+      (omega (arith, h, w), (omega (arith, w, e), λ z. w .0 .0 .0 .0)))
+      (λ b. let z = off-none b in
+      let e = end-none s (z .0) in
+      (omega (arith, h, z), (omega (arith, h, e), λ y. true-false y b)))
+
+  within-all : Within-limits most s → On → 2 * end-at s ≤ length bytes → All-whole ws (parts most bytes s)
+  unfolding weights-at ceilings-at tables-at bads-at
+  within-all w on l =
+      let (a, b) = words-length bytes in
+      let e = end-past s in
+      let fifth : All-whole ws (weights-parts (goes-on bytes s) s) =
+      test (goes-on bytes s)
+      (λ g. let z = on g in
+      let f = end-some s z in
+      rw g (omega (arith, w)))
+      (λ g. rw g tt) in
+      (omega (arith, w), (omega (arith, w), (omega (arith, w), (omega (arith, w), fifth))))
+
+  parts-are : parts-check most bytes ≡ checks-of ws (parts most bytes s) (nothing-left bytes s)
+  unfolding parts-check program-part bads-part tables-part ceilings-part weights-part _>>_
+  parts-are =
+      ap (λ c. program-part most ws s >> (bads-part ws s >> (tables-part most ws s >> (ceilings-part ws s >> c))))
+      (fifth-check (goes-on bytes s) (nothing-left bytes s))
+    where
+      fifth-check : (on : Bool) (last : Check) → (elim on [ true ↦ part-check ws (weights-at s) (weights-sizes s) (2 * s .weights) | false ↦ none ] >> last) ≡ checks-of ws (weights-parts on s) last
+      fifth-check true last = refl
+      fifth-check false last = refl
+
+  pub parts-none : (parts-check most bytes ≡ none) ↔ ((length bytes ≡ 2 * end-at s) × Within-limits most s)
+  unfolding nothing-left
+  parts-none =
+      Iff·trans (λ h. sym parts-are ∙ h, λ h. parts-are ∙ h)
+      (Iff·trans
+      (Iff·trans (checks-none ws (parts most bytes s) (nothing-left bytes s))
+      (Iff·and Iff·rfl (unless-iff _ _ (leb-iff (length bytes) (2 * end-at s))))) (
+        λ h. let (w, (l, on)) = all-within (h .0) in let (a, b) = words-length bytes in (omega (arith, h .1), w),
+        λ h. let on : On = λ g. elim (decLt 0 (s .lines)) [ yes z ↦ z | no z ↦ absurd (omega (arith, on-bytes g, end-none s (omega arith), h .0)) ] in
+            (within-all (h .1) on (omega (arith, h .0)), omega (arith, h .0)),
+      ))
+
+  pub parts-some : (v : Verdict) → (parts-check most bytes ≡ some v) ↔ (((k : ℕ) × (x : Message-part) × Behind (Whole ws) (parts most bytes s) k x × Part-wrong ws x v) ⊎ (Within-limits most s × (On × ((2 * end-at s < length bytes) × (Length (end-at s) ≡ v)))))
+  unfolding nothing-left
+  parts-some v =
+      Iff·trans (λ h. sym parts-are ∙ h, λ h. parts-are ∙ h) (
+        λ h. ⊎-elim (λ x. let (k, y, b, e) = x in inl (k, y, b, part-some ws y v .0 e))
+            (λ x. let (w, (l, on)) = all-within (x .0) in let (n, q) = remain .0 (x .1) in inr (w, (on, (omega arith, q))))
+            (checks-some ws (parts most bytes s) (nothing-left bytes s) v h),
+        ⊎-elim (λ x. let (k, y, b, e) = x in checks-stop ws (parts most bytes s) (nothing-left bytes s) v k y b (part-some ws y v .1 e))
+            (λ x. let (w, (on, (l, q))) = x in checks-last ws (parts most bytes s) (nothing-left bytes s) v (within-all w on (omega arith)) (remain .1 (λ z. omega arith, q))),
+      )
     where
       remain : (nothing-left bytes s ≡ some v) ↔ ((length bytes ≤ 2 * end-at s → ⊥) × (Length (end-at s) ≡ v))
       remain = unless-refutes _ (Length (end-at s)) v (leb-iff (length bytes) (2 * end-at s))

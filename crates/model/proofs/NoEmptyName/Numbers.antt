@@ -7,11 +7,12 @@ use mathlib.Core.List.{List, [], _∷_}
 use mathlib.Core.Logic.{_⊎_, ⊎-elim}
 use mathlib.Core.Option.{some, none, Option·some-injective, Option·none-ne-some}
 use lib.Dec.{leb}
+use Rattle.model.specs.declared.Sizes.{Sizes}
 use Rattle.model.specs.declared.Verdict.{Verdict}
 use Rattle.model.specs.declared.Verdict.the-variants.{Length, Size, Row, Name, Scope}
 use Rattle.model.specs.Limits.{Limits}
 use Rattle.model.specs.Reader.{first-wrong}
-use Rattle.model.specs.Message.{Limited, sizes-check, part-check, program-part, bads-part, tables-part, ceilings-part, nothing-left, parts-check}
+use Rattle.model.specs.Message.{Limited, sizes-check, part-check, program-part, bads-part, tables-part, ceilings-part, goes-on, weights-part, nothing-left, parts-check}
 use Rattle.model.specs.Verdict.{Check, _>>_, unless, number}
 use Rattle.model.specs.Rows.{Program, step, whole, row-check}
 use Rattle.model.specs.Scopes.{name-check, scope-check}
@@ -53,11 +54,15 @@ low-part ws at ls n =
     low-then _ _ (low-unless _ (Length at) (omega arith) (omega arith))
     (low-then _ _ (low-sizes at ls) (low-unless _ (Length at) (omega arith) (omega arith)))
 
+low-fifth : (bytes ws : List ℕ) (s : Sizes) → Low (weights-part bytes ws s)
+unfolding weights-part
+low-fifth bytes ws s = test (goes-on bytes s) (λ e. rw (e, weights-part) (low-part _ _ _ _)) (λ e. rw (e, weights-part) low-none)
+
 low-parts : (most : Limits) (bytes : List ℕ) → Low (parts-check most bytes)
 unfolding parts-check program-part bads-part tables-part ceilings-part nothing-left number
 low-parts most bytes =
     low-then _ _ (low-part _ _ _ _)
-    (low-then _ _ (low-part _ _ _ _) (low-then _ _ (low-part _ _ _ _) (low-then _ _ (low-part _ _ _ _) (low-unless _ (Length _) (omega arith) (omega arith)))))
+    (low-then _ _ (low-part _ _ _ _) (low-then _ _ (low-part _ _ _ _) (low-then _ _ (low-part _ _ _ _) (low-then _ _ (low-fifth _ _ _) (low-unless _ (Length _) (omega arith) (omega arith))))))
 
 low-rows : (p : Program) → Low (row-check p)
 unfolding row-check number

@@ -1,4 +1,4 @@
--- The promise of a process and the test of it (specs/NameCases.antt) say the same.
+-- The promise of a process and the test of it (specs/NamesHeld.antt) say the same.
 use Prim.Native.Nat.{ℕ, _+_, _≤_, _<_}
 use native.Mathlib.Omega.{arith}
 use mathlib.Core.Path.{_≡_, refl, sym, subst}
@@ -14,7 +14,7 @@ use Rattle.model.specs.Heads.{head-at, branch-body}
 use Rattle.model.specs.Values.{Value, closure, built, address, Bindings, empty, bind, value-of, Frame, Process}
 use Rattle.model.specs.Transitions.{read-at}
 use Rattle.model.specs.NoEmptyName.{Holds-something, branches-at, Reads, in-expression, in-pattern, Reads-from-outside, Keeps, the-function, in-bindings, in-arguments, Some-keeps, the-newest, an-older, Kept-in, bound, pushed, mailed, No-name-empty}
-use Rattle.model.specs.NameCases.{each-passes, holds-some, pattern-held, reads-held, outside-held, value-held, bindings-held, names-held, Names-held-exactly}
+use Rattle.model.specs.NamesHeld.{each-passes, holds-some, pattern-held, reads-held, outside-held, value-held, bindings-held, names-held, Names-held-exactly}
 use Rattle.model.proofs.Logic.{test, true-false, and-left, and-right, and-intro, implies-elim, implies-intro, not-passes}
 use Rattle.model.proofs.Index.{all-elim, all-intro, any-none, none-any}
 use Rattle.model.proofs.Reader.{by-option}

@@ -1,5 +1,5 @@
 use native.Mathlib.Omega.{arith}
-use Rattle.checks.proofs.Laying.{limits-room, mask-room, rule-room, few-counters, all-cells}
+use Rattle.checks.proofs.Laying.{bounds-room, mask-room, rule-room, few-counters, all-cells}
 use borrow.Author.Needs.{needs}
 use Rattle.checks.proofs.leaks.all_limits.Statement.{statement}
 use Rattle.checks.proofs.leaks.all_limits.Tie as tie
@@ -71,7 +71,7 @@ ceilings-on-requires c κs =
       (
         c .before .before .before .before .before .before .before .before .before .before .before .before .before .before .before .before .before .before .before .before .before .before .before .before .before .before .before .before .before .before .pre .1,
         (
-          (limits-room _ _ _ _ _ _ (all-cells _ _ (few-counters _ _ _ n (c .before .before .before .before .before .before .before .before .before .before .before .before .before .before .before .before .before .before .before .before .before .before .before .before .before .before .before .before .before .before .pre .0 .few)) (c .before .before .before .before .before .before .before .before .before .before .before .before .before .before .before .before .before .before .before .before .before .before .before .before .before .before .before .before .before .before .pre .0 .ready .limits)) (omega (arith, c .before .before .before .before .before .before .before .before .before .before .before .before .before .before .before .before .before .before .before .before .before .before .before .before .before .before .before .before .before .before .pre .0 .ready .limits .ceilings)) (c .before .before .before .before .before .before .before .before .before .before .before .before .before .before .before .before .before .before .before .before .limit-words .ensures) (c .before .before .before .before .before .before .before .before .before .before .before .before .before .before .before .before .before .before .before .words16-258 .ensures), omega (arith, few-counters _ _ _ n (c .before .before .before .before .before .before .before .before .before .before .before .before .before .before .before .before .before .before .before .before .before .before .before .before .before .before .before .before .before .before .pre .0 .few), c .before .before .before .before .before .before .before .before .before .before .before .before .before .before .before .before .before .before .row-words32 .ensures .room)),
+          (bounds-room _ _ _ _ _ _ (all-cells _ _ (few-counters _ _ _ n (c .before .before .before .before .before .before .before .before .before .before .before .before .before .before .before .before .before .before .before .before .before .before .before .before .before .before .before .before .before .before .pre .0 .few)) (c .before .before .before .before .before .before .before .before .before .before .before .before .before .before .before .before .before .before .before .before .before .before .before .before .before .before .before .before .before .before .pre .0 .ready .limits)) (omega (arith, c .before .before .before .before .before .before .before .before .before .before .before .before .before .before .before .before .before .before .before .before .before .before .before .before .before .before .before .before .before .before .pre .0 .ready .limits .ceilings)) (c .before .before .before .before .before .before .before .before .before .before .before .before .before .before .before .before .before .before .before .before .limit-words .ensures) (c .before .before .before .before .before .before .before .before .before .before .before .before .before .before .before .before .before .before .before .words16-258 .ensures), omega (arith, few-counters _ _ _ n (c .before .before .before .before .before .before .before .before .before .before .before .before .before .before .before .before .before .before .before .before .before .before .before .before .before .before .before .before .before .before .pre .0 .few), c .before .before .before .before .before .before .before .before .before .before .before .before .before .before .before .before .before .before .row-words32 .ensures .room)),
           (
             mask-room _ _ _ _ _ _ _ _ (omega (arith, few-counters _ _ _ n (c .before .before .before .before .before .before .before .before .before .before .before .before .before .before .before .before .before .before .before .before .before .before .before .before .before .before .before .before .before .before .pre .0 .few))) (omega (arith, few-counters _ _ _ n (c .before .before .before .before .before .before .before .before .before .before .before .before .before .before .before .before .before .before .before .before .before .before .before .before .before .before .before .before .before .before .pre .0 .few))) (c .before .before .before .before .before .before .before .before .before .before .before .before .before .before .before .before .before .holder-masks .ensures) (c .before .before .before .before .before .before .before .before .before .before .before .before .before .before .before .before .counter-masks .ensures) (c .before .before .before .before .before .before .before .before .before .before .before .before .before .before .before .holder-masks2 .ensures) (c .before .before .before .before .before .before .before .before .before .before .before .before .before .before .counter-masks2 .ensures) (c .before .before .before .before .before .before .before .before .before .before .before .before .before .counter-masks3 .ensures),
             (rule-room _ _ _ _ _ _ n (omega (arith, c .before .before .before .before .before .before .before .before .before .before .before .before .before .before .before .before .before .before .before .before .before .before .before .before .before .before .before .before .before .before .pre .0 .ready .limits .rows .1)) (omega (arith, few-counters _ _ _ n (c .before .before .before .before .before .before .before .before .before .before .before .before .before .before .before .before .before .before .before .before .before .before .before .before .before .before .before .before .before .before .pre .0 .few))) (omega arith) (c .before .before .before .before .before .before .before .before .before .before .before .before .words16-16384 .ensures) (c .before .before .before .before .before .before .before .before .before .before .before .words16-163842 .ensures), omega (arith, c .before .before .before .before .before .before .before .before .before .before .before .before .words16-16384 .ensures .room)),

@@ -1,5 +1,5 @@
 use native.Mathlib.Omega.{arith}
-use Rattle.checks.proofs.Laying.{limits-room, mask-room, rule-room}
+use Rattle.checks.proofs.Laying.{bounds-room, mask-room, rule-room}
 use borrow.Author.Needs.{needs}
 use Rattle.checks.proofs.leaks.few_limits.Statement.{statement}
 use Rattle.checks.proofs.leaks.few_limits.Tie as tie
@@ -71,7 +71,7 @@ ceilings-on-requires c κs =
       (
         c .before .before .before .before .before .before .before .before .before .before .before .before .before .before .before .before .before .before .before .before .before .before .before .before .before .before .before .before .before .before .pre .1 .0,
         (
-          (limits-room _ _ _ _ _ _ (c .before .before .before .before .before .before .before .before .before .before .before .before .before .before .before .before .before .before .before .before .before .before .before .before .before .before .before .before .before .before .pre .1 .1 .1) (omega (arith, c .before .before .before .before .before .before .before .before .before .before .before .before .before .before .before .before .before .before .before .before .before .before .before .before .before .before .before .before .before .before .pre .0 .ready .limits .ceilings)) (c .before .before .before .before .before .before .before .before .before .before .before .before .before .before .before .before .before .before .before .before .words16-2048 .ensures) (c .before .before .before .before .before .before .before .before .before .before .before .before .before .before .before .before .before .before .before .words16-258 .ensures), omega (arith, c .before .before .before .before .before .before .before .before .before .before .before .before .before .before .before .before .before .before .before .before .before .before .before .before .before .before .before .before .before .before .pre .1 .1 .0, c .before .before .before .before .before .before .before .before .before .before .before .before .before .before .before .before .before .before .words32-66 .ensures .room)),
+          (bounds-room _ _ _ _ _ _ (c .before .before .before .before .before .before .before .before .before .before .before .before .before .before .before .before .before .before .before .before .before .before .before .before .before .before .before .before .before .before .pre .1 .1 .1) (omega (arith, c .before .before .before .before .before .before .before .before .before .before .before .before .before .before .before .before .before .before .before .before .before .before .before .before .before .before .before .before .before .before .pre .0 .ready .limits .ceilings)) (c .before .before .before .before .before .before .before .before .before .before .before .before .before .before .before .before .before .before .before .before .words16-2048 .ensures) (c .before .before .before .before .before .before .before .before .before .before .before .before .before .before .before .before .before .before .before .words16-258 .ensures), omega (arith, c .before .before .before .before .before .before .before .before .before .before .before .before .before .before .before .before .before .before .before .before .before .before .before .before .before .before .before .before .before .before .pre .1 .1 .0, c .before .before .before .before .before .before .before .before .before .before .before .before .before .before .before .before .before .before .words32-66 .ensures .room)),
           (
             mask-room _ _ _ _ _ _ _ _ (omega (arith, c .before .before .before .before .before .before .before .before .before .before .before .before .before .before .before .before .before .before .before .before .before .before .before .before .before .before .before .before .before .before .pre .1 .1 .0)) (omega (arith, c .before .before .before .before .before .before .before .before .before .before .before .before .before .before .before .before .before .before .before .before .before .before .before .before .before .before .before .before .before .before .pre .1 .1 .0)) (c .before .before .before .before .before .before .before .before .before .before .before .before .before .before .before .before .before .words64-256 .ensures) (c .before .before .before .before .before .before .before .before .before .before .before .before .before .before .before .before .words64-130 .ensures) (c .before .before .before .before .before .before .before .before .before .before .before .before .before .before .before .words64-2562 .ensures) (c .before .before .before .before .before .before .before .before .before .before .before .before .before .before .words64-1302 .ensures) (c .before .before .before .before .before .before .before .before .before .before .before .before .before .words64-1303 .ensures),
             (rule-room _ _ _ _ _ _ n (omega (arith, c .before .before .before .before .before .before .before .before .before .before .before .before .before .before .before .before .before .before .before .before .before .before .before .before .before .before .before .before .before .before .pre .0 .ready .limits .rows .1)) (omega (arith, c .before .before .before .before .before .before .before .before .before .before .before .before .before .before .before .before .before .before .before .before .before .before .before .before .before .before .before .before .before .before .pre .1 .1 .0)) (omega arith) (c .before .before .before .before .before .before .before .before .before .before .before .before .row-words16 .ensures) (c .before .before .before .before .before .before .before .before .before .before .before .row-words162 .ensures), omega (arith, c .before .before .before .before .before .before .before .before .before .before .before .before .row-words16 .ensures .room)),

@@ -2,13 +2,11 @@ use native.Mathlib.Omega.{arith}
 use mathlib.Core.Path.{refl, sym, ap, _∙_}
 use borrow.Author.Tests.{not-true, not-false}
 use Rattle.model.specs.Verify.{answer}
-use Rattle.model.proofs.Exact.Answer.{ceiling-refuses}
-use Rattle.model.proofs.Exact.Entries.{ceiling-none}
 use Rattle.answers.proofs.Passing.{passed}
 use Rattle.letter_codes.proofs.Capped.{capped-most}
 use Rattle.mailed.proofs.Mailing.{then-counters-refuse, counters-fit}
 use Rattle.checks.specs.Order.{from-22, from-10}
-use Rattle.checks.proofs.Answering.{goes-by, ends-with, ceiling-told}
+use Rattle.checks.proofs.Answering.{goes-by, ends-with, form-refuses, form-told}
 use Rattle.checks.proofs.Laying.{all-counted}
 use borrow.Author.Needs.{needs}
 use Rattle.checks.proofs.system.named_verdict.Statement.{statement}
@@ -48,8 +46,8 @@ returns c = ends-with _ _ _ _ _ _ _ _ refl (c .before .before .counters-verdict 
 add-n : tie.Need-add-n
 add-n c = record { fits = omega (arith, capped-most _ _ _ (c .before .before .before .before .before .before .fill-codes .ensures .0), c .before .before .before .before .before .before .before .before .before .before .before .before .before .before .before .before .before .before .before .before .before .before .before .pre .0 .ready .limits .states) }
 
-ceiling-check-requires : tie.Need-ceiling-check-requires
-ceiling-check-requires c κs = (c .before .before .before .before .before .before .before .before .before .before .before .before .before .before .before .before .before .before .before .before .before .before .before .pre .0 .whole, omega (arith, all-counted _ _ _ (c .before .before .before .before .before .before .fill-codes .ensures .0) (counters-fit _ _ _ (passed _ _ _ (then-counters-refuse _ _ _) (c .before .before .before .counters-verdict .ensures) (c .before .before .is-safe .ensures) (not-false _ (c .before .if1 .left)))) .1))
+form-verdict-requires : tie.Need-form-verdict-requires
+form-verdict-requires c κs = (c .before .before .before .before .before .before .before .before .before .before .before .before .before .before .before .before .before .before .before .before .before .before .before .pre .0 .whole, omega (arith, all-counted _ _ _ (c .before .before .before .before .before .before .fill-codes .ensures .0) (counters-fit _ _ _ (passed _ _ _ (then-counters-refuse _ _ _) (c .before .before .before .counters-verdict .ensures) (c .before .before .is-safe .ensures) (not-false _ (c .before .if1 .left)))) .1))
 
 is-safe-requires-2 : tie.Need-is-safe-requires-2
 is-safe-requires-2 c κs = search needs
@@ -62,7 +60,7 @@ unfolding from-22 from-10
 returns-2 c =
     let both = passed _ _ _ (then-counters-refuse _ _ _) (c .before .before .before .before .before .before .counters-verdict .ensures) (c .before .before .before .before .before .is-safe .ensures) (not-false _ (c .before .before .before .before .if1 .left)) in
     let all = all-counted _ _ _ (c .before .before .before .before .before .before .before .before .before .fill-codes .ensures .0) (counters-fit _ _ _ both) in
-    ends-with _ _ _ _ _ _ _ _ (goes-by _ _ _ refl both) (ceiling-told _ _ _ _ (c .before .before .ceiling-check .ensures) (all .0)) (c .before .is-safe2 .ensures) (not-true _ (c .if2 .taken))
+    ends-with _ _ _ _ _ _ _ _ (goes-by _ _ _ refl both) (form-told _ _ _ _ (c .before .before .form-verdict .ensures) (all .0)) (c .before .is-safe2 .ensures) (not-true _ (c .if2 .taken))
 
 slice-aggregate-sets-verdict : tie.Need-slice-aggregate-sets-verdict
 slice-aggregate-sets-verdict c = search needs
@@ -73,7 +71,7 @@ slice-aggregate-sets-verdict-2 c = search needs
 sets-verdict-requires : tie.Need-sets-verdict-requires
 sets-verdict-requires c κs =
     let all = all-counted _ _ _ (c .before .before .before .before .before .before .before .before .before .before .before .before .before .fill-codes .ensures .0) (counters-fit _ _ _ (passed _ _ _ (then-counters-refuse _ _ _) (c .before .before .before .before .before .before .before .before .before .before .counters-verdict .ensures) (c .before .before .before .before .before .before .before .before .before .is-safe .ensures) (not-false _ (c .before .before .before .before .before .before .before .before .if1 .left)))) in
-    (omega arith, (c .before .before .before .before .before .before .before .before .before .before .before .before .before .before .before .before .before .before .before .before .before .before .before .before .before .before .before .before .before .before .pre .0, (c .before .before .before .before .before .before .before .before .before .before .before .before .before .before .before .before .before .before .before .before .before .fill-names .ensures, (c .before .before .before .before .before .before .before .before .before .before .before .before .before .fill-codes .ensures .1 .0 (omega (arith, all .1)), (c .before .before .before .before .before .before .before .before .before .before .before .before .before .fill-codes .ensures .1 .1 (omega (arith, all .1)), (record { counted = all .0; in-form = ceiling-none _ _ _ .0 (passed _ _ _ (ceiling-refuses _ _ _) (c .before .before .before .before .before .before .ceiling-check .ensures) (c .before .before .before .before .before .is-safe2 .ensures) (not-false _ (c .before .before .before .before .if2 .left))); bads = c .before .before .before .before .before .before .before .before .before .before .before .before .before .before .before .before .before .before .before .before .before .before .before .before .before .before .before .before .before .before .pre .0 .bads }, all .1))))))
+    (omega arith, (c .before .before .before .before .before .before .before .before .before .before .before .before .before .before .before .before .before .before .before .before .before .before .before .before .before .before .before .before .before .before .pre .0, (c .before .before .before .before .before .before .before .before .before .before .before .before .before .before .before .before .before .before .before .before .before .fill-names .ensures, (c .before .before .before .before .before .before .before .before .before .before .before .before .before .fill-codes .ensures .1 .0 (omega (arith, all .1)), (c .before .before .before .before .before .before .before .before .before .before .before .before .before .fill-codes .ensures .1 .1 (omega (arith, all .1)), (record { counted = all .0; in-form = passed _ _ _ (form-refuses _ _ _) (c .before .before .before .before .before .before .form-verdict .ensures) (c .before .before .before .before .before .is-safe2 .ensures) (not-false _ (c .before .before .before .before .if2 .left)); bads = c .before .before .before .before .before .before .before .before .before .before .before .before .before .before .before .before .before .before .before .before .before .before .before .before .before .before .before .before .before .before .pre .0 .bads }, all .1))))))
 
 same-length-3 : tie.Need-same-length-3
 same-length-3 c = c .before .before .before .before .before .before .before .before .before .before .before .before .before .before .before .before .before .before .before .before .before .before .before .before .fill-names .kept .1 .1 .0
@@ -86,7 +84,7 @@ unfolding from-22 from-10
 returns-3 c =
     let both = passed _ _ _ (then-counters-refuse _ _ _) (c .before .before .before .before .before .before .before .before .before .before .before .before .before .counters-verdict .ensures) (c .before .before .before .before .before .before .before .before .before .before .before .before .is-safe .ensures) (not-false _ (c .before .before .before .before .before .before .before .before .before .before .before .if1 .left)) in
     let all = all-counted _ _ _ (c .before .before .before .before .before .before .before .before .before .before .before .before .before .before .before .before .fill-codes .ensures .0) (counters-fit _ _ _ both) in
-    let form = passed _ _ _ (ceiling-refuses _ _ _) (ceiling-told _ _ _ _ (c .before .before .before .before .before .before .before .before .before .ceiling-check .ensures) (all .0)) (c .before .before .before .before .before .before .before .before .is-safe2 .ensures) (not-false _ (c .before .before .before .before .before .before .before .if2 .left)) in
+    let form = passed _ _ _ (form-refuses _ _ _) (form-told _ _ _ _ (c .before .before .before .before .before .before .before .before .before .form-verdict .ensures) (all .0)) (c .before .before .before .before .before .before .before .before .is-safe2 .ensures) (not-false _ (c .before .before .before .before .before .before .before .if2 .left)) in
     (c .before .before .sets-verdict .ensures .0 ∙ sym (ap answer (goes-by _ _ _ (goes-by _ _ _ refl both) form)), c .before .before .sets-verdict .ensures .1)
 
 pub named-verdict-spec : {M : Type 1} → statement M
@@ -104,7 +102,7 @@ named-verdict-spec =
     same-length
     returns
     add-n
-    ceiling-check-requires
+    form-verdict-requires
     is-safe-requires-2
     same-length-2
     returns-2

@@ -1,0 +1,12 @@
+pub mod Cases
+pub mod Shown
+pub mod RunCases
+pub mod VerdictCases
+pub mod CounterCases
+pub mod LongerCases
+pub mod HeldCases
+pub mod MailedCases
+pub mod NameCases
+pub mod ReturnCases
+pub mod LetterCases
+pub mod WeightCases

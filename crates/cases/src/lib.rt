@@ -1,0 +1,1 @@
+// The tables of cases of the model's definitions, computed: no code here.

@@ -1,0 +1,3 @@
+pub mod Lightest
+pub mod Filling
+pub mod Items
