@@ -1,6 +1,6 @@
 -- A ceiling that is left, and open to a rule, covers the counts after it.
 use Prim.Native.Nat.{ℕ, _+_, _*_, _-_, _≤_, _<_}
-use native.Mathlib.Decide.{ℕ-discrete}
+use native.Mathlib.Decide.{ℕ-discrete, decLt}
 use native.Mathlib.Omega.{arith}
 use mathlib.Core.Path.{_≡_, refl, sym, _∙_, ap}
 use mathlib.Core.Bool.{Bool, true, false, not, _&&_, _||_}
@@ -28,10 +28,10 @@ use Rattle.steps.proofs.Stepping.{fire-fewer, less-pass, less-fail}
 use Rattle.ceilings.specs.Table.{held}
 use Rattle.ceilings_form.proofs.Limited.{highest-limit}
 use Rattle.ceilings_masks.specs.declared.Over.{Over}
-use Rattle.ceilings_masks.specs.Compared.{reaches, most, exceeds, Counted}
+use Rattle.ceilings_masks.specs.Compared.{reaches, most, More-from, Raised}
 use Rattle.ceilings_covers.specs.Covers.{Left}
 use Rattle.ceilings_covers.proofs.Covering.{allowed-lower, fits-not, adds-elim, adds-apart, fire-once, more-allows}
-use Rattle.ceilings_groups.specs.Groups.{table-ceilings, escapes, Open-step, Open-to, Groups-upto, Group-put}
+use Rattle.ceilings_groups.specs.Groups.{table-ceilings, escapes, Open-at, Open-step, Open-all, Open-to, Sets-open, Groups-upto, Group-put, in-sets}
 use Rattle.ceilings_groups.proofs.Leading.{any-same, leads-none}
 
 -- a limit that reaches more than the count allows it
@@ -42,10 +42,10 @@ reached-allows limits ceilings y least count k low h =
     let z = leb-true least l (and-right (ltb k ceilings) _ h) in
     or-right (eqb l omega-limit) _ (le-leb count l (omega arith))
 
--- a step is open to a ceiling that allows the count where it adds
-pub step-open : (limits : List ℕ) (ceilings n count k : ℕ) (σ : Step) → σ .kind ≤ 3 → Open-step limits ceilings n count k (σ .kind) (σ .to) (σ .other) → Open-to limits ceilings n count k (rule-of-step σ)
+-- a step is open to a ceiling that is open where it adds
+pub step-open : (limits : List ℕ) (ceilings n low k : ℕ) (σ : Step) → σ .kind ≤ 3 → Open-step limits ceilings n low k (σ .kind) (σ .to) (σ .other) → Open-to limits ceilings n low k (rule-of-step σ)
 unfolding rule-of-step
-step-open limits ceilings n count k σ small (to, other) m y h =
+step-open limits ceilings n low k σ small (to, other) m y h =
     test (eqb y (σ .to))
     (λ e. let z = eqb-true y (σ .to) e in
     inl (rw z (to (omega arith)), fire-once σ m y small (inr (adds-apart σ y (λ two w. other two .1 (sym z ∙ w))))))
@@ -65,13 +65,27 @@ and-none : (b : Bool) → (b && false) ≡ false
 and-none true = refl
 and-none false = refl
 
-module _ (limits : List ℕ) (ceilings n k i : ℕ) (left : Mask) (l : Left limits ceilings n k i left) where
-  -- a ceiling that is left and open to the rule, where the count that it allows is one more than the highest
-  open-covers : (ρ : Rule) (j count : ℕ) → j < ceilings → has left j ≡ true → ρ .from ≡ i → Open-to limits ceilings n count j ρ → ((y : ℕ) → y < n → allowed (held limits ceilings j y) count ≡ true → allowed (held limits ceilings j y) (most limits ceilings k y + 1) ≡ true) → under n (held limits ceilings j) (fire ρ (highest (held limits ceilings k))) ≡ true
+module _ (limits : List ℕ) (ceilings n k i : ℕ) (left : Mask) (l : Left limits ceilings n k i left) (words : (z : ℕ) → getD limits z 0 < 65536) where
+  -- where a ceiling is open it allows one more than the highest: below `low` it has no bound; behind it ceiling k has no
+  -- limit, and one more is one, or the ceiling is of those that hold one more
+  open-more : (low : ℕ) (mask : Mask) → More-from limits ceilings low n k mask → (j y : ℕ) → j < 256 → y < n → has mask j ≡ true → Open-at limits ceilings low j y → allowed (held limits ceilings j y) (most limits ceilings k y + 1) ≡ true
+  unfolding More-from
+  open-more low mask up j y few inside h o = elim (decLt y low) [
+    | yes b ↦ unbounded-allows _ _ (words (y * ceilings + j)) (o .no-bound b)
+    | no b ↦ elim (ℕ-discrete (held limits ceilings k y) 0) [
+      | yes z ↦
+          let none = highest-limit (held limits ceilings k) y 0 (sym z) (λ w. omega arith) in
+          allowed-lower (held limits ceilings j y) 1 _ (o .one (omega arith)) (omega (arith, none))
+      | no z ↦ more-allows limits ceilings k y j (up y j (omega arith) inside (omega arith) few h)
+    ]
+  ]
+
+  -- a ceiling that is left and open to the rule, where it then allows one more than the highest
+  open-covers : (ρ : Rule) (j low : ℕ) → j < ceilings → has left j ≡ true → ρ .from ≡ i → Open-to limits ceilings n low j ρ → ((y : ℕ) → y < n → Open-at limits ceilings low j y → allowed (held limits ceilings j y) (most limits ceilings k y + 1) ≡ true) → under n (held limits ceilings j) (fire ρ (highest (held limits ceilings k))) ≡ true
   unfolding under
-  open-covers ρ j count b h from opens more =
+  open-covers ρ j low b h from opens more =
       all-intro 0 n _
-      (λ y low inside. ⊎-elim
+      (λ y start inside. ⊎-elim
       (λ e. allowed-lower (held limits ceilings j y) (highest (held limits ceilings k) y + 1) _ (more y inside (e .0)) (e .1))
       (λ e. elim (ℕ-discrete y i) [
         | yes z ↦
@@ -82,50 +96,58 @@ module _ (limits : List ℕ) (ceilings n k i : ℕ) (left : Mask) (l : Left limi
             allowed-lower (held limits ceilings j y) (highest (held limits ceilings k) y) _ (fits-not limits ceilings n k j y (l .others j y b h inside z)) (omega (arith, e, less))
       ]) (opens (highest (held limits ceilings k)) y inside))
 
-  -- where ceiling k has no limit, one more is one; elsewhere a ceiling of `above` holds it
-  one-more : (over : Over) → Counted limits ceilings n k over → (j y : ℕ) → j < 256 → y < n → has (over .above) j ≡ true → allowed (held limits ceilings j y) 1 ≡ true → allowed (held limits ceilings j y) (most limits ceilings k y + 1) ≡ true
-  one-more over counted j y few inside up one = elim (ℕ-discrete (held limits ceilings k y) 0) [
-    | yes z ↦
-        let none = highest-limit (held limits ceilings k) y 0 (sym z) (λ w. omega arith) in
-        allowed-lower (held limits ceilings j y) 1 _ one (omega (arith, none))
-    | no z ↦ more-allows limits ceilings k y j (counted .above y j inside (omega arith) few up)
-  ]
-
   covered-in : (ρ : Rule) (j : ℕ) → j < ceilings → under n (held limits ceilings j) (fire ρ (highest (held limits ceilings k))) ≡ true → escapes (table-ceilings ceilings n limits) ρ (highest (held limits ceilings k)) ≡ false
   unfolding escapes under-some
   covered-in ρ j b u =
       ap (λ z. usable ρ (highest (held limits ceilings k)) && not z) (any-intro 0 ceilings j (λ x. under n (held limits ceilings x) (fire ρ (highest (held limits ceilings k)))) (omega arith) b u) ∙
       and-none (usable ρ (highest (held limits ceilings k)))
 
-  pub settles : (over : Over) → Counted limits ceilings n k over → ((z : ℕ) → getD limits z 0 < 65536) → (p : Program) (t : Tables) (S : ℕ) (group : List ℕ) → i < S → Groups-upto p t limits ceilings n S group → any 0 256 (λ j. has left j && (member group 4 (2 * i) j || has (over .above) j && member group 4 (2 * i + 1) j)) ≡ true → leads-out (table-ceilings ceilings n limits) (state-rules p t i (state-at t i)) (highest (held limits ceilings k)) ≡ false
-  settles over counted words p t S group inside g some =
-      let (j, w, e) = any-elim 0 256 (λ j. has left j && (member group 4 (2 * i) j || has (over .above) j && member group 4 (2 * i + 1) j)) some in
+  -- a ceiling that is left, of those that hold one more from `low` on, and open from there on to the rule
+  set-covers : (low : ℕ) (mask : Mask) → More-from limits ceilings low n k mask → (ρ : Rule) (j : ℕ) → j < 256 → has left j ≡ true → has mask j ≡ true → ρ .from ≡ i → Open-to limits ceilings n low j ρ → escapes (table-ceilings ceilings n limits) ρ (highest (held limits ceilings k)) ≡ false
+  set-covers low mask up ρ j few h of from opens =
+      let b = l .few j few h in
+      covered-in ρ j b (open-covers ρ j low b h from opens (λ y inside. open-more low mask up j y few inside of))
+
+  -- no counter is from n on
+  more-none : (mask : Mask) → More-from limits ceilings n n k mask
+  unfolding More-from
+  more-none mask x j from inside = absurd (omega arith)
+
+  pub settles : (states : ℕ) (over : Over) → Raised limits ceilings states n k over → (p : Program) (t : Tables) (S : ℕ) (group : List ℕ) → i < S → Groups-upto p t limits ceilings states n S group → any 0 256 (λ j. has left j && in-sets over group i j) ≡ true → leads-out (table-ceilings ceilings n limits) (state-rules p t i (state-at t i)) (highest (held limits ceilings k)) ≡ false
+  unfolding in-sets
+  settles states over up p t S group inside g some =
+      let (j, w, e) = any-elim 0 256 (λ j. has left j && in-sets over group i j) some in
       let h = and-left (has left j) _ e in
-      let b = l .few j (w .1) h in
       leads-none (table-ceilings ceilings n limits) (highest (held limits ceilings k)) _
-      (λ ρ r. covered-in ρ j b
-      (⊎-elim
-      (λ a. open-covers ρ j omega-limit b h (g .leaves i ρ inside r) (g .opens i j ρ inside (w .1) a r) (λ y low z. unbounded-allows _ _ (words (y * ceilings + j)) z))
-      (λ a. open-covers ρ j 1 b h (g .leaves i ρ inside r) (g .opens-one i j ρ inside (w .1) (and-right (has (over .above) j) _ a) r) (λ y low z. one-more over counted j y (w .1) low (and-left (has (over .above) j) _ a) z))
-      (or-cases (member group 4 (2 * i) j) _ (and-right (has left j) _ e))))
+      (λ ρ r. ⊎-elim
+      (λ a. set-covers n left (more-none left) ρ j (w .1) h h (g .leaves i ρ inside r) (g .opens i inside j ρ (w .1) a r))
+      (λ a. ⊎-elim
+      (λ d. set-covers states (over .letters) (up .letters) ρ j (w .1) h (and-left (has (over .letters) j) _ d) (g .leaves i ρ inside r) (g .opens-letters i inside j ρ (w .1) (and-right (has (over .letters) j) _ d) r))
+      (λ d. set-covers 0 (over .above) (up .above) ρ j (w .1) h (and-left (has (over .above) j) _ d) (g .leaves i ρ inside r) (g .opens-one i inside j ρ (w .1) (and-right (has (over .above) j) _ d) r))
+      (or-cases (has (over .letters) j && member group 4 (3 * i + 1) j) _ a))
+      (or-cases (member group 4 (3 * i) j) _ (and-right (has left j) _ e)))
 
 -- the rules before number j are open to the ceilings of the mask
 unfoldable pub Open-upto : List ℕ → ℕ → ℕ → ℕ → ℕ → List ℕ → List ℕ → ℕ → Mask → Type 0
-Open-upto limits ceilings n count kind tos others j m =
-    (k a : ℕ) → k < 256 → a < j → has m k ≡ true → Open-step limits ceilings n count k kind (getD tos a 0) (getD others a 0)
+Open-upto limits ceilings n low kind tos others j m = Open-all limits ceilings n low kind tos others j (has m)
 
-module _ (limits : List ℕ) (ceilings n count kind : ℕ) (tos others : List ℕ) where
-  pub open-start : (m : Mask) → Open-upto limits ceilings n count kind tos others 0 m
+module _ (limits : List ℕ) (ceilings n low kind : ℕ) (tos others : List ℕ) where
+  pub open-start : (m : Mask) → Open-upto limits ceilings n low kind tos others 0 m
   unfolding Open-upto
   open-start m k a h l = absurd (omega arith)
 
-  pub open-next : (j : ℕ) (m r : Mask) → Open-upto limits ceilings n count kind tos others j m → ((k : ℕ) → has r k ≡ true → has m k ≡ true) → ((k : ℕ) → k < 256 → has r k ≡ true → Open-step limits ceilings n count k kind (getD tos j 0) (getD others j 0)) → Open-upto limits ceilings n count kind tos others (j + 1) r
+  pub open-next : (j : ℕ) (m r : Mask) → Open-upto limits ceilings n low kind tos others j m → ((k : ℕ) → has r k ≡ true → has m k ≡ true) × ((k : ℕ) → k < 256 → has r k ≡ true → Open-step limits ceilings n low k kind (getD tos j 0) (getD others j 0)) → Open-upto limits ceilings n low kind tos others (j + 1) r
   unfolding Open-upto
-  open-next j m r o kept here k a h l t = elim (ℕ-discrete a j) [ yes e ↦ rw e (here k h t) | no e ↦ o k a h (omega arith) (kept k t) ]
+  open-next j m r o (kept, here) k a h l t = elim (ℕ-discrete a j) [ yes e ↦ rw e (here k h t) | no e ↦ o k a h (omega arith) (kept k t) ]
+
+  pub open-all : (j m : ℕ) (r : Mask) → m ≤ j → Open-upto limits ceilings n low kind tos others j r → Open-all limits ceilings n low kind tos others m (has r)
+  unfolding Open-upto
+  open-all j m r all o k a h l = o k a h (omega arith)
 
 -- a bit of the masks by which a state is settled
-pub settled-bit : (l a first raised either all p q r : Bool) → all ≡ (l && either) → either ≡ (first || raised) → first ≡ p → raised ≡ (a && r) → r ≡ q → all ≡ (l && (p || a && q))
-settled-bit l a first raised either all p q r e f g h i = e ∙ rw (f, g, h, i)
+pub settled-bit : (over : Over) (group : List ℕ) (i k : ℕ) (l first second third lettered raised held-by either all : Bool) → all ≡ (l && either) → either ≡ (first || held-by) → held-by ≡ (lettered || raised) → first ≡ member group 4 (3 * i) k → lettered ≡ (has (over .letters) k && second) → second ≡ member group 4 (3 * i + 1) k → raised ≡ (has (over .above) k && third) → third ≡ member group 4 (3 * i + 2) k → all ≡ (l && in-sets over group i k)
+unfolding in-sets
+settled-bit over group i k l first second third lettered raised held-by either all e f g h i₁ i₂ j₁ j₂ = e ∙ rw (f, g, h, i₁, i₂, j₁, j₂)
 
 -- the mask has the ceilings that have no bound at the counters before x
 unfoldable pub Boundless-upto : List ℕ → ℕ → Mask → Type 0
@@ -151,11 +173,14 @@ module _ (unbounded : List ℕ) where
   boundless-some n x m r e b is = ap not is ∙ (not-not _ ∙ (any-same 0 256 _ _ b ∙ rw e))
 
 -- the sets of one state, stored one behind the other
-pub sets-put : (limits : List ℕ) (ceilings n kind : ℕ) (tos others : List ℕ) (m i : ℕ) (group group′ group″ : List ℕ) (q r : Mask) → ((k j : ℕ) → k < 256 → j < m → has q k ≡ true → Open-step limits ceilings n omega-limit k kind (getD tos j 0) (getD others j 0)) → ((k j : ℕ) → k < 256 → j < m → has r k ≡ true → Open-step limits ceilings n 1 k kind (getD tos j 0) (getD others j 0)) → Set-is 4 (2 * i) (has q) group group′ → Set-is 4 (2 * i + 1) (has r) group′ group″ → Group-put limits ceilings n kind tos others m i group group″
-sets-put limits ceilings n kind tos others m i group group′ group″ q r first second set set′ =
+pub sets-put : (limits : List ℕ) (ceilings states n kind : ℕ) (tos others : List ℕ) (m i : ℕ) (group group₁ group₂ group₃ : List ℕ) (q r u : Mask) → Sets-open limits ceilings states n kind tos others m (has q) (has r) (has u) → Set-is 4 (3 * i) (has q) group group₁ → Set-is 4 (3 * i + 1) (has r) group₁ group₂ → Set-is 4 (3 * i + 2) (has u) group₂ group₃ → Group-put limits ceilings states n kind tos others m i group group₃
+sets-put limits ceilings states n kind tos others m i group group₁ group₂ group₃ q r u sets set₁ set₂ set₃ =
     record {
-      opens = λ k j l b t. first k j l b (sym (set .here k l) ∙ (sym (set′ .others (2 * i) k l (λ e. omega arith)) ∙ t));
-      opens-one = λ k j l b t. second k j l b (sym (set′ .here k l) ∙ t);
-      stays = λ x k h l. set′ .others x k l (λ e. omega arith) ∙ set .others x k l (λ e. omega arith);
-      long = set′ .long ∙ set .long;
+      sets = record {
+        opens = λ k j l b t. sets .opens k j l b (sym (set₁ .here k l) ∙ (sym (set₂ .others (3 * i) k l (λ e. omega arith)) ∙ (sym (set₃ .others (3 * i) k l (λ e. omega arith)) ∙ t)));
+        opens-letters = λ k j l b t. sets .opens-letters k j l b (sym (set₂ .here k l) ∙ (sym (set₃ .others (3 * i + 1) k l (λ e. omega arith)) ∙ t));
+        opens-one = λ k j l b t. sets .opens-one k j l b (sym (set₃ .here k l) ∙ t);
+      };
+      stays = λ x k h l. set₃ .others x k l (λ e. omega arith) ∙ (set₂ .others x k l (λ e. omega arith) ∙ set₁ .others x k l (λ e. omega arith));
+      long = set₃ .long ∙ (set₂ .long ∙ set₁ .long);
     }

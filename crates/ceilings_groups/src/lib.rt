@@ -1,4 +1,6 @@
-// The rules of a state as one: the ceilings that allow a count at every counter to which one of them adds.
+// The rules of a state as one: the ceilings that are open at every counter to which one of them adds. A ceiling is open
+// from `low` on at a counter: it has no bound there if the counter is below `low`, and holds one there if it is not.
+use ceilings_masks::Over;
 use masks::Mask;
 use masks::and;
 use masks::below;
@@ -7,62 +9,58 @@ use masks::load;
 use masks::none;
 use masks::or;
 use masks::store;
-use model::OMEGA;
 ghost use mathlib.Core.Path.{_≡_};
-ghost use mathlib.Core.Bool.{true, _&&_, _||_};
+ghost use mathlib.Core.Bool.{true, _&&_};
 ghost use Prim.Native.Nat.{ℕ, _+_, _*_, _≤_, _<_};
-ghost use lib.ListN.{length, getD};
-ghost use Rattle.model.specs.Limits.{omega-limit};
+ghost use lib.ListN.{length};
 ghost use Rattle.model.specs.Index.{any, all};
 ghost use Rattle.bits.specs.Bits.{member};
 ghost use Rattle.masks.specs.Masks.{has};
 ghost use Rattle.ceilings_masks.specs.Compared.{Holders};
-ghost use Rattle.ceilings_groups.specs.Groups.{Allowed-at, Open-step, Group-put};
+ghost use Rattle.ceilings_groups.specs.Groups.{Allowed-at, Open-step, Open-all, Sets-open};
+ghost use Rattle.ceilings_groups.specs.Groups.{Group-put, in-sets};
 
-// Ceilings that allow the count at counter y: for 1 those that hold it, for every other count those where it is
-// unbounded; all where it is none of the n.
+// Ceilings that are open from `low` on at counter y; all where it is none of the n.
 fn open_at(
     limits: &[u16],
     ceilings: usize,
     n: usize,
     holders: &[u64],
     unbounded: &[u64],
-    count: usize,
+    low: usize,
     y: usize,
 ) -> Mask
-    requires { ⌜ count ≤ omega-limit ⌝ }
     requires { ⌜ Holders (now limits) ceilings n (now holders) (now unbounded) ⌝ }
-    ensures { λ r. ⌜ ((k : ℕ) → k < 256 → has r k ≡ true → Allowed-at (now (limits .entry)) ceilings n count k y) ⌝ }
+    ensures { λ r. ⌜ ((k : ℕ) → k < 256 → has r k ≡ true → Allowed-at (now (limits .entry)) ceilings n low k y) ⌝ }
 {
     if n <= y {
         return below(256);
     }
-    if count == 1 {
+    if low <= y {
         let first = 2 * y;
         return load(holders, first);
     }
     load(unbounded, y)
 }
 
-// Ceilings that allow the count where a rule of this kind adds: where it leads, and what it puts or starts. None
-// where these are one counter, which then gets two.
+// Ceilings that are open from `low` on where a rule of this kind adds: where it leads, and what it puts or starts.
+// None where these are one counter, which then gets two.
 fn open_to(
     limits: &[u16],
     ceilings: usize,
     n: usize,
     holders: &[u64],
     unbounded: &[u64],
-    count: usize,
+    low: usize,
     kind: usize,
     to: usize,
     other: usize,
 ) -> Mask
-    requires { ⌜ count ≤ omega-limit ⌝ }
     requires { ⌜ Holders (now limits) ceilings n (now holders) (now unbounded) ⌝ }
     ensures { λ r. ⌜
-        ((k : ℕ) → k < 256 → has r k ≡ true → Open-step (now (limits .entry)) ceilings n count k kind to other) ⌝ }
+        ((k : ℕ) → k < 256 → has r k ≡ true → Open-step (now (limits .entry)) ceilings n low k kind to other) ⌝ }
 {
-    let at_to = open_at(limits, ceilings, n, holders, unbounded, count, to);
+    let at_to = open_at(limits, ceilings, n, holders, unbounded, low, to);
     if kind < 2 {
         return at_to;
     }
@@ -71,60 +69,94 @@ fn open_to(
     }
     and(
         at_to,
-        open_at(limits, ceilings, n, holders, unbounded, count, other),
+        open_at(limits, ceilings, n, holders, unbounded, low, other),
     )
 }
 
-// Ceilings that allow the count where the m rules add, all of one kind: where they lead, and what they put or
-// start.
+// Of the ceilings of a mask those that are open from `low` on where a rule of this kind adds.
+fn narrowed(
+    all: Mask,
+    limits: &[u16],
+    ceilings: usize,
+    n: usize,
+    holders: &[u64],
+    unbounded: &[u64],
+    low: usize,
+    kind: usize,
+    to: usize,
+    other: usize,
+) -> Mask
+    requires { ⌜ Holders (now limits) ceilings n (now holders) (now unbounded) ⌝ }
+    ensures { λ r. ⌜ ((k : ℕ) → has r k ≡ true → has all k ≡ true) ⌝ }
+    ensures { λ r. ⌜
+        ((k : ℕ) → k < 256 → has r k ≡ true → Open-step (now (limits .entry)) ceilings n low k kind to other) ⌝ }
+{
+    and(
+        all,
+        open_to(
+            limits,
+            ceilings,
+            n,
+            holders,
+            unbounded,
+            low,
+            kind,
+            to,
+            other,
+        ),
+    )
+}
+
+// Ceilings without a bound where the m rules add, all of one kind: where they lead, and what they put or start.
 fn open_to_all(
     limits: &[u16],
     ceilings: usize,
     n: usize,
     holders: &[u64],
     unbounded: &[u64],
-    count: usize,
     kind: usize,
     tos: &[u16],
     others: &[u16],
     m: usize,
 ) -> Mask
-    requires { ⌜ count ≤ omega-limit ⌝ }
     requires { ⌜ Holders (now limits) ceilings n (now holders) (now unbounded) ⌝ }
     requires { ⌜ (m ≤ length (now tos)) × (m ≤ length (now others)) ⌝ }
     ensures { λ r. ⌜
-        ((k j : ℕ) → k < 256 → j < m → has r k ≡ true →
-        Open-step (now (limits .entry)) ceilings n count k kind (getD (now (tos .entry)) j 0)
-        (getD (now (others .entry)) j 0)) ⌝ }
+        Open-all (now (limits .entry)) ceilings n n kind (now (tos .entry)) (now (others .entry)) m (has r) ⌝ }
 {
     let mut all = below(256);
     for j in 0..m {
         let to = tos[j] as usize;
         let other = others[j] as usize;
-        all = and(
+        all = narrowed(
             all,
-            open_to(
-                limits,
-                ceilings,
-                n,
-                holders,
-                unbounded,
-                count,
-                kind,
-                to,
-                other,
-            ),
+            limits,
+            ceilings,
+            n,
+            holders,
+            unbounded,
+            n,
+            kind,
+            to,
+            other,
         );
     }
     all
 }
 
-// The same for the count 1, but none where some ceiling has no bound at all: that one is open to every rule and left
-// beside every ceiling, so that a second set would settle nothing more.
-fn held_to_all(
-    boundless: bool,
+// Ceilings without a bound where the rules of a state add; without a bound at states and with one at letters; and with
+// one.
+struct Sets {
+    free: Mask,
+    lettered: Mask,
+    held: Mask,
+}
+
+// The three sets of m rules, all of one kind. Made in one loop: what is looked up for one set serves the others.
+fn sets_to_all(
     limits: &[u16],
     ceilings: usize,
+    states: usize,
     n: usize,
     holders: &[u64],
     unbounded: &[u64],
@@ -132,24 +164,107 @@ fn held_to_all(
     tos: &[u16],
     others: &[u16],
     m: usize,
-) -> Mask
+) -> Sets
     requires { ⌜ Holders (now limits) ceilings n (now holders) (now unbounded) ⌝ }
     requires { ⌜ (m ≤ length (now tos)) × (m ≤ length (now others)) ⌝ }
-    ensures { λ r. ⌜
-        ((k j : ℕ) → k < 256 → j < m → has r k ≡ true →
-        Open-step (now (limits .entry)) ceilings n 1 k kind (getD (now (tos .entry)) j 0)
-        (getD (now (others .entry)) j 0)) ⌝ }
+    ensures { λ r. ⌜ Sets-open (now (limits .entry)) ceilings states n kind (now (tos .entry)) (now (others .entry)) m
+        (has (r .free)) (has (r .lettered)) (has (r .held)) ⌝ }
+{
+    let mut free = below(256);
+    let mut lettered = below(256);
+    let mut held = below(256);
+    for j in 0..m {
+        let to = tos[j] as usize;
+        let other = others[j] as usize;
+        free = narrowed(
+            free,
+            limits,
+            ceilings,
+            n,
+            holders,
+            unbounded,
+            n,
+            kind,
+            to,
+            other,
+        );
+        lettered = narrowed(
+            lettered,
+            limits,
+            ceilings,
+            n,
+            holders,
+            unbounded,
+            states,
+            kind,
+            to,
+            other,
+        );
+        held = narrowed(
+            held,
+            limits,
+            ceilings,
+            n,
+            holders,
+            unbounded,
+            0,
+            kind,
+            to,
+            other,
+        );
+    }
+    Sets {
+        free,
+        lettered,
+        held,
+    }
+}
+
+// The same, but the second and third set are empty where some ceiling has no bound at all: that one is open to every
+// rule and left beside every ceiling, so that they would settle nothing more.
+fn state_sets(
+    boundless: bool,
+    limits: &[u16],
+    ceilings: usize,
+    states: usize,
+    n: usize,
+    holders: &[u64],
+    unbounded: &[u64],
+    kind: usize,
+    tos: &[u16],
+    others: &[u16],
+    m: usize,
+) -> Sets
+    requires { ⌜ Holders (now limits) ceilings n (now holders) (now unbounded) ⌝ }
+    requires { ⌜ (m ≤ length (now tos)) × (m ≤ length (now others)) ⌝ }
+    ensures { λ r. ⌜ Sets-open (now (limits .entry)) ceilings states n kind (now (tos .entry)) (now (others .entry)) m
+        (has (r .free)) (has (r .lettered)) (has (r .held)) ⌝ }
 {
     if boundless {
-        return none();
+        let free = open_to_all(
+            limits,
+            ceilings,
+            n,
+            holders,
+            unbounded,
+            kind,
+            tos,
+            others,
+            m,
+        );
+        return Sets {
+            free: free,
+            lettered: none(),
+            held: none(),
+        };
     }
-    open_to_all(
+    sets_to_all(
         limits,
         ceilings,
+        states,
         n,
         holders,
         unbounded,
-        1,
         kind,
         tos,
         others,
@@ -157,11 +272,12 @@ fn held_to_all(
     )
 }
 
-// The two sets of state i, whose m rules are all of this kind: one behind the other.
+// The three sets of state i, whose m rules are all of this kind, one behind the other.
 pub fn put_group(
     boundless: bool,
     limits: &[u16],
     ceilings: usize,
+    states: usize,
     n: usize,
     holders: &[u64],
     unbounded: &[u64],
@@ -174,28 +290,15 @@ pub fn put_group(
 )
     requires { ⌜ Holders (now limits) ceilings n (now holders) (now unbounded) ⌝ }
     requires { ⌜ (m ≤ length (now tos)) × (m ≤ length (now others)) ⌝ }
-    requires { ⌜ (i < 65536) × (i * 8 + 8 ≤ length (now group)) ⌝ }
-    ensures { λ _. ⌜ Group-put (now (limits .entry)) ceilings n kind (now (tos .entry)) (now (others .entry)) m i
-        (now (group .entry)) (now (group .exit)) ⌝ }
+    requires { ⌜ (i < 65536) × (i * 12 + 12 ≤ length (now group)) ⌝ }
+    ensures { λ _. ⌜ Group-put (now (limits .entry)) ceilings states n kind (now (tos .entry)) (now (others .entry)) m
+        i (now (group .entry)) (now (group .exit)) ⌝ }
 {
-    let open = open_to_all(
-        limits,
-        ceilings,
-        n,
-        holders,
-        unbounded,
-        OMEGA,
-        kind,
-        tos,
-        others,
-        m,
-    );
-    let first = 2 * i;
-    store(group, first, open);
-    let held = held_to_all(
+    let sets = state_sets(
         boundless,
         limits,
         ceilings,
+        states,
         n,
         holders,
         unbounded,
@@ -204,8 +307,12 @@ pub fn put_group(
         others,
         m,
     );
-    let second = 2 * i + 1;
-    store(group, second, held);
+    let first = 3 * i;
+    store(group, first, sets.free);
+    let second = 3 * i + 1;
+    store(group, second, sets.lettered);
+    let third = 3 * i + 2;
+    store(group, third, sets.held);
 }
 
 // Some ceiling has no bound at any of the n counters.
@@ -220,15 +327,16 @@ pub fn is_boundless(unbounded: &[u64], n: usize) -> bool
     !is_none(left)
 }
 
-// Some ceiling of the mask is in the first set of state i; or in the second, and in `above`.
-pub fn settled(left: Mask, above: Mask, group: &[u64], i: usize) -> bool
-    requires { ⌜ i * 8 + 8 ≤ length (now group) ⌝ }
-    ensures { λ r. ⌜ r ≡
-        any 0 256 (λ k. has left k &&
-        (member (now (group .entry)) 4 (2 * i) k || has above k && member (now (group .entry)) 4 (2 * i + 1) k)) ⌝ }
+// Some ceiling of the mask is in the first set of state i; or in the second, and in `letters`; or in the third, and in
+// `above`.
+pub fn settled(left: Mask, over: Over, group: &[u64], i: usize) -> bool
+    requires { ⌜ i * 12 + 12 ≤ length (now group) ⌝ }
+    ensures { λ r. ⌜ r ≡ any 0 256 (λ k. has left k && in-sets over (now (group .entry)) i k) ⌝ }
 {
-    let first = 2 * i;
-    let second = 2 * i + 1;
-    let raised = and(above, load(group, second));
-    !is_none(and(left, or(load(group, first), raised)))
+    let first = 3 * i;
+    let second = 3 * i + 1;
+    let third = 3 * i + 2;
+    let lettered = and(over.letters, load(group, second));
+    let raised = and(over.above, load(group, third));
+    !is_none(and(left, or(load(group, first), or(lettered, raised))))
 }

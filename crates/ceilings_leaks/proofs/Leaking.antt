@@ -41,10 +41,10 @@ use Rattle.ceilings_form.proofs.Limited.{highest-limit}
 use Rattle.ceilings.specs.Table.{held, Limits-table}
 use Rattle.ceilings.proofs.Ahead.{Ahead, Counter-here, ahead-counter, ahead-none}
 use Rattle.ceilings_masks.specs.declared.Over.{Over}
-use Rattle.ceilings_masks.specs.Compared.{Holders, Counted, Neighbours}
+use Rattle.ceilings_masks.specs.Compared.{Holders, Counted, Raised, Neighbours}
 use Rattle.ceilings_covers.specs.Covers.{Beside, covers, passes, named, Candidates, Exact, sure, Step-apart}
 use Rattle.ceilings_covers.proofs.Covering.{covers-pass, pass-covers}
-use Rattle.ceilings_groups.specs.Groups.{table-ceilings, escapes, Open-step, Open-to, Groups-upto, Group-put, step}
+use Rattle.ceilings_groups.specs.Groups.{table-ceilings, escapes, Open-all, Rules-open, Groups-upto, Group-put, step}
 use Rattle.ceilings_groups.proofs.Settling.{step-open}
 use Rattle.bits.specs.Bits.{member}
 use Rattle.ceilings_leaks.proofs.Holding.{is-held, leads-held, held-member}
@@ -66,8 +66,8 @@ pub beside-at : (limits : List ℕ) (ceilings n k k₀ : ℕ) (holders unbounded
 beside-at limits ceilings n k k₀ holders unbounded over short more e room few below h c m a b =
     rw e (record { room = room; few = few; ceiling = below; held-by = h; counted = c; near = m; short-room = a; more-room = b })
 
-pub counted-at : (limits : List ℕ) (ceilings n k k₀ : ℕ) (over : Over) → k ≡ k₀ → Counted limits ceilings n k₀ over → Counted limits ceilings n k over
-counted-at limits ceilings n k k₀ over e c = rw e c
+pub raised-at : (limits : List ℕ) (ceilings states n k k₀ : ℕ) (over : Over) → k ≡ k₀ → Raised limits ceilings states n k₀ over → Raised limits ceilings states n k over
+raised-at limits ceilings states n k k₀ over e c = rw e c
 
 -- the counters that a step names, one more
 pub named-next : (limits : List ℕ) (ceilings n k k′ : ℕ) (σ : Step) (b y : ℕ) → y ≡ named σ b → (y < n → passes limits ceilings k k′ σ y ≡ true) → ((x : ℕ) → x < b → named σ x < n → passes limits ceilings k k′ σ (named σ x) ≡ true) → (x : ℕ) → x < b + 1 → named σ x < n → passes limits ceilings k k′ σ (named σ x) ≡ true
@@ -125,7 +125,7 @@ module _ (ws : List ℕ) (s : Sizes) (n : ℕ) (limits : List ℕ) where
     pub so-far : any 0 (s .ceilings) (covers limits (s .ceilings) n k (rule-of-step σ)) ≡ any a 256 (λ x. has mask x && covers limits (s .ceilings) n k (rule-of-step σ) x)
 
   -- the states, entry by entry
-  module _ (group : List ℕ) (g : Groups-upto p t limits (s .ceilings) n (s .states) group) (k : ℕ) where
+  module _ (group : List ℕ) (g : Groups-upto p t limits (s .ceilings) (s .states) n (s .states) group) (k : ℕ) where
     -- a state without a limit
     blank-state : (i : ℕ) → i < s .states → held limits (s .ceilings) k i ≡ 0 → by-state k i ≡ false
     unfolding by-state escapes usable
@@ -325,8 +325,14 @@ listed-elim h i tos others m ρ r =
     (j, w .1, List·Memᴰ·eq-of-singleton e)
 
 module _ (ws : List ℕ) (s : Sizes) (n : ℕ) (limits : List ℕ) where
-  pub groups-start : (group : List ℕ) → Groups-upto (program ws s) (tables ws s) limits (s .ceilings) n 0 group
-  groups-start group = record { leaves = λ i ρ h. absurd (omega arith); opens = λ i k ρ h. absurd (omega arith); opens-one = λ i k ρ h. absurd (omega arith) }
+  pub groups-start : (group : List ℕ) → Groups-upto (program ws s) (tables ws s) limits (s .ceilings) (s .states) n 0 group
+  groups-start group =
+      record {
+        leaves = λ i ρ h. absurd (omega arith);
+        opens = λ i h. absurd (omega arith);
+        opens-letters = λ i h. absurd (omega arith);
+        opens-one = λ i h. absurd (omega arith);
+      }
 
   module _ (i m kd : ℕ) (tos others : List ℕ) (rs : State-rules (program ws s) (tables ws s) i tos others m) where
     abbrev tg : ℕ
@@ -339,28 +345,37 @@ module _ (ws : List ℕ) (s : Sizes) (n : ℕ) (limits : List ℕ) where
     unfolding listed-rule
     rules-leave ρ w = let (j, b, e) = found ρ w in ap (λ σ. σ .from) e
 
-    rules-open : (count k : ℕ) → kd ≡ effect-kind tg → kd ≤ 3 → ((j : ℕ) → j < m → Open-step limits (s .ceilings) n count k kd (getD tos j 0) (getD others j 0)) → (ρ : Rule) → List·Memᴰ ρ (state-rules (program ws s) (tables ws s) i (state-at (tables ws s) i)) → Open-to limits (s .ceilings) n count k ρ
-    rules-open count k is small opens ρ w =
-        let (j, b, e) = found ρ w in
-        let same : ρ ≡ rule-of-step (step i (getD tos j 0) kd (getD others j 0)) = e ∙ (listed-step tg i tos others j ∙ ap (λ x. rule-of-step (step i (getD tos j 0) x (getD others j 0))) (sym is)) in
-        rw same (step-open limits (s .ceilings) n count k (step i (getD tos j 0) kd (getD others j 0)) small (opens j b))
+    module _ (is : kd ≡ effect-kind tg) (small : kd ≤ 3) where
+      rules-open : (low : ℕ) (f : ℕ → Bool) → Open-all limits (s .ceilings) n low kd tos others m f → Rules-open (program ws s) (tables ws s) limits (s .ceilings) n low i f
+      rules-open low f opens k ρ l x w =
+          let (j, b, e) = found ρ w in
+          let same : ρ ≡ rule-of-step (step i (getD tos j 0) kd (getD others j 0)) = e ∙ (listed-step tg i tos others j ∙ ap (λ y. rule-of-step (step i (getD tos j 0) y (getD others j 0))) (sym is)) in
+          rw same (step-open limits (s .ceilings) n low k (step i (getD tos j 0) kd (getD others j 0)) small (opens k j l b x))
 
-    pub groups-next : (group group′ : List ℕ) → kd ≡ effect-kind tg → kd ≤ 3 → Group-put limits (s .ceilings) n kd tos others m i group group′ → Groups-upto (program ws s) (tables ws s) limits (s .ceilings) n i group → Groups-upto (program ws s) (tables ws s) limits (s .ceilings) n (i + 1) group′
-    groups-next group group′ is small put g =
-        record {
-          leaves = λ x ρ h w. elim (ℕ-discrete x i) [
-            | yes z ↦ rw z (rules-leave ρ (rw (← z) w))
-            | no z ↦ g .leaves x ρ (omega arith) w
-          ];
-          opens = λ x k ρ h l t w. elim (ℕ-discrete x i) [
-            | yes z ↦ rules-open omega-limit k is small (λ j below. put .opens k j l below (ap (λ y. member group′ 4 (2 * y) k) (sym z) ∙ t)) ρ (rw (← z) w)
-            | no z ↦ g .opens x k ρ (omega arith) l (sym (put .stays (2 * x) k (omega arith) l) ∙ t) w
-          ];
-          opens-one = λ x k ρ h l t w. elim (ℕ-discrete x i) [
-            | yes z ↦ rules-open 1 k is small (λ j below. put .opens-one k j l below (ap (λ y. member group′ 4 (2 * y + 1) k) (sym z) ∙ t)) ρ (rw (← z) w)
-            | no z ↦ g .opens-one x k ρ (omega arith) l (sym (put .stays (2 * x + 1) k (omega arith) l) ∙ t) w
-          ];
-        }
+      -- the sets of one more state, which stand at a place of their own
+      set-next : (low : ℕ) (at : ℕ → ℕ) (group group′ : List ℕ) → ((x : ℕ) → x < i → at x < 3 * i) → ((x k : ℕ) → x < 3 * i → k < 256 → member group′ 4 x k ≡ member group 4 x k) → Open-all limits (s .ceilings) n low kd tos others m (member group′ 4 (at i)) → ((x : ℕ) → x < i → Rules-open (program ws s) (tables ws s) limits (s .ceilings) n low x (member group 4 (at x))) → (x : ℕ) → x < i + 1 → Rules-open (program ws s) (tables ws s) limits (s .ceilings) n low x (member group′ 4 (at x))
+      set-next low at group group′ before stays here g x h k ρ l u w = elim (ℕ-discrete x i) [
+        | yes z ↦ rules-open low (member group′ 4 (at i)) here k ρ l (ap (λ y. member group′ 4 (at y) k) (sym z) ∙ u) (rw (← z) w)
+        | no z ↦ g x (omega arith) k ρ l (sym (stays (at x) k (before x (omega arith)) l) ∙ u) w
+      ]
 
-  pub groups-all : (i : ℕ) (group : List ℕ) → s .states ≤ i → Groups-upto (program ws s) (tables ws s) limits (s .ceilings) n i group → Groups-upto (program ws s) (tables ws s) limits (s .ceilings) n (s .states) group
-  groups-all i group h g = record { leaves = λ x ρ l. g .leaves x ρ (omega arith); opens = λ x k ρ l. g .opens x k ρ (omega arith); opens-one = λ x k ρ l. g .opens-one x k ρ (omega arith) }
+      pub groups-next : (group group′ : List ℕ) → Group-put limits (s .ceilings) (s .states) n kd tos others m i group group′ → Groups-upto (program ws s) (tables ws s) limits (s .ceilings) (s .states) n i group → Groups-upto (program ws s) (tables ws s) limits (s .ceilings) (s .states) n (i + 1) group′
+      groups-next group group′ put g =
+          record {
+            leaves = λ x ρ h w. elim (ℕ-discrete x i) [
+              | yes z ↦ rw z (rules-leave ρ (rw (← z) w))
+              | no z ↦ g .leaves x ρ (omega arith) w
+            ];
+            opens = set-next n (λ x. 3 * x) group group′ (λ x h. omega arith) (put .stays) (put .sets .opens) (g .opens);
+            opens-letters = set-next (s .states) (λ x. 3 * x + 1) group group′ (λ x h. omega arith) (put .stays) (put .sets .opens-letters) (g .opens-letters);
+            opens-one = set-next 0 (λ x. 3 * x + 2) group group′ (λ x h. omega arith) (put .stays) (put .sets .opens-one) (g .opens-one);
+          }
+
+  pub groups-all : (i : ℕ) (group : List ℕ) → s .states ≤ i → Groups-upto (program ws s) (tables ws s) limits (s .ceilings) (s .states) n i group → Groups-upto (program ws s) (tables ws s) limits (s .ceilings) (s .states) n (s .states) group
+  groups-all i group h g =
+      record {
+        leaves = λ x ρ l. g .leaves x ρ (omega arith);
+        opens = λ x l. g .opens x (omega arith);
+        opens-letters = λ x l. g .opens-letters x (omega arith);
+        opens-one = λ x l. g .opens-one x (omega arith);
+      }

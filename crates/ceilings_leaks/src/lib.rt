@@ -72,9 +72,10 @@ pub struct Gathered {
     pub kept: Kept,
 }
 
-// For each state the ceilings that have no bound where its rules add, and those that hold one there. The rules are
-// counted here too; and where they are few they are kept, within the first `spare` words of the lists, so that the leak
-// test does not derive them again for each ceiling that does not settle their state.
+// For each state the ceilings that have no bound where its rules add, those that have none at states and hold one at
+// letters, and those that hold one. The rules are counted here too; and where they are few they are kept, within the
+// first `spare` words of the lists, so that the leak test does not derive them again for each ceiling that does not
+// settle their state.
 pub fn fill_groups(
     ws: &[u16],
     s: Sizes,
@@ -102,9 +103,9 @@ pub fn fill_groups(
         (now «letter_at») (now letters) (now branches) ⌝ }
     requires { ⌜ Ceilings-ready (now ws) s n (now limits) (now starts) (now holders) (now unbounded) ⌝ }
     requires { ⌜ Room-from (now ws) s spare (now tos) (now others) × (length (now tos) ≤ 65536) ⌝ }
-    requires { ⌜ s .states * 8 ≤ length (now group) ⌝ }
+    requires { ⌜ s .states * 12 ≤ length (now group) ⌝ }
     ensures { λ _. ⌜ Groups-upto (program (now (ws .entry)) s) (tables (now (ws .entry)) s) (now (limits .entry))
-        (s .ceilings) n (s .states) (now (group .exit)) ⌝ }
+        (s .ceilings) (s .states) n (s .states) (now (group .exit)) ⌝ }
     ensures { λ g. ⌜ Totalled (program (now (ws .entry)) s) (tables (now (ws .entry)) s) (g .totals) ⌝ }
     ensures { λ g. ⌜ Kept-rules (program (now (ws .entry)) s) (tables (now (ws .entry)) s) (s .states) (g .kept)
         (now («first_at» .exit)) (now (tos .exit)) (now (others .exit)) ⌝ }
@@ -140,6 +141,7 @@ pub fn fill_groups(
             boundless,
             limits,
             s.ceilings,
+            s.states,
             n,
             holders,
             unbounded,
@@ -216,11 +218,11 @@ pub fn leak_check(
     requires { ⌜ Rule-tables (now ws) s (now afters) (now «flow_at») w (now fitting) (now names)
         (now «letter_at») (now letters) (now branches) ⌝ }
     requires { ⌜ Ceilings-ready (now ws) s n (now limits) (now starts) (now holders) (now unbounded) ⌝ }
-    requires { ⌜ Groups-upto (program (now ws) s) (tables (now ws) s) (now limits) (s .ceilings) n (s .states)
-        (now group) ⌝ }
+    requires { ⌜ Groups-upto (program (now ws) s) (tables (now ws) s) (now limits) (s .ceilings) (s .states) n
+        (s .states) (now group) ⌝ }
     requires { ⌜ Kept-rules (program (now ws) s) (tables (now ws) s) (s .states) kept (now «first_at») (now tos)
         (now others) ⌝ }
-    requires { ⌜ s .states * 8 ≤ length (now group) ⌝ }
+    requires { ⌜ s .states * 12 ≤ length (now group) ⌝ }
     requires { ⌜ Rooms (now ws) s n (now tos) (now others) (now short) (now more) ⌝ }
     ensures { λ r. ⌜ r ≡
         answer (leak-check (now (ws .entry)) s (ceilings-of (now (ws .entry)) s n)
@@ -251,7 +253,7 @@ pub fn leak_check(
                 k,
                 i,
             );
-            if settled(left, over.above, group, i) {
+            if settled(left, over, group, i) {
                 continue 'states;
             }
             let found = rules_again(

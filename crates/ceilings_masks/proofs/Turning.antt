@@ -12,7 +12,7 @@ use Rattle.model.specs.Limits.{omega-limit}
 use Rattle.model.specs.Index.{count}
 use Rattle.model.specs.Words.{Columns, left}
 use Rattle.model.specs.Ceilings.{allowed, highest}
-use Rattle.model.proofs.Logic.{test, not-fails, and-left, and-right}
+use Rattle.model.proofs.Logic.{test, not-fails}
 use Rattle.model.proofs.Index.{count-end, count-last, count-last-miss}
 use Rattle.bits.specs.Bits.{member, Set-is}
 use Rattle.masks.specs.declared.Mask.{Mask}
@@ -23,7 +23,7 @@ use Rattle.ceilings.proofs.Ahead.{Ahead, Counter-here, ahead-counter, ahead-non
 use Rattle.ceilings_masks.specs.declared.Over.{Over}
 use Rattle.steps.specs.Steps.{raised, as-limit}
 use Rattle.steps.proofs.Raising.{next-allowed}
-use Rattle.ceilings_masks.specs.Compared.{allows, most, exceeds, exceeds-by-one, takes-more, exceeded, Counted, Neighbours}
+use Rattle.ceilings_masks.specs.Compared.{allows, most, exceeds, exceeds-by-one, takes-more, exceeded, Counted, More-from, More-at, Raised, Neighbours}
 
 -- a set said in other words
 pub set-as : (x : ℕ) (f g : ℕ → Bool) (u t : List ℕ) → Set-is 4 x f u t → ((k : ℕ) → k < 256 → f k ≡ g k) → Set-is 4 x g u t
@@ -100,7 +100,7 @@ module _ (limits : List ℕ) (ceilings k : ℕ) where
   pub counted-start : (over : Over) → ((j : ℕ) → has (over .once) j ≡ false) → ((j : ℕ) → has (over .twice) j ≡ false) → ((j : ℕ) → has (over .thrice) j ≡ false) → Counted limits ceilings 0 k over
   counted-start over a b c =
       let none : (j m : ℕ) → 1 ≤ m → leb m (exceeded limits ceilings 0 k j) ≡ false = λ j m h. rw (count-end 0 0 (exceeds limits ceilings k j) (omega arith)) (lt-leb m 0 (omega arith)) in
-      record { once = λ j h. a j ∙ sym (none j 1 (omega arith)); twice = λ j h. b j ∙ sym (none j 2 (omega arith)); thrice = λ j h. c j ∙ sym (none j 3 (omega arith)); above = λ x j l. absurd (omega arith) }
+      record { once = λ j h. a j ∙ sym (none j 1 (omega arith)); twice = λ j h. b j ∙ sym (none j 2 (omega arith)); thrice = λ j h. c j ∙ sym (none j 3 (omega arith)) }
 
   -- counters without a limit change nothing
   pub counted-gap : (a b : ℕ) (over : Over) → a ≤ b → ((x : ℕ) → a ≤ x → x < b → held limits ceilings k x ≡ 0) → Counted limits ceilings a k over → Counted limits ceilings b k over
@@ -110,23 +110,45 @@ module _ (limits : List ℕ) (ceilings k : ℕ) where
         once = λ j h. c .once j h ∙ ap (leb 1) (same j);
         twice = λ j h. c .twice j h ∙ ap (leb 2) (same j);
         thrice = λ j h. c .thrice j h ∙ ap (leb 3) (same j);
-        above = λ x j h one. elim (decLt x a) [ yes w ↦ c .above x j w one | no w ↦ absurd (let z = gap x (omega arith) h in omega arith) ];
       }
 
   -- one counter more
-  pub counted-next : (x : ℕ) (o r : Over) (m next : Mask) → ceilings ≤ 256 → ((j : ℕ) → j < 256 → has m j ≡ (ltb j ceilings && exceeds limits ceilings k j x)) → ((j : ℕ) → has (r .once) j ≡ (has (o .once) j || has m j)) → ((j : ℕ) → has (r .twice) j ≡ (has (o .twice) j || has (o .once) j && has m j)) → ((j : ℕ) → has (r .thrice) j ≡ (has (o .thrice) j || has (o .twice) j && has m j)) → ((j : ℕ) → j < 256 → has next j ≡ takes-more limits ceilings k x j) → ((j : ℕ) → has (r .above) j ≡ (has (o .above) j && has next j)) → Counted limits ceilings x k o → Counted limits ceilings (x + 1) k r
-  counted-next x o r m next few is a b d more-is both c =
+  pub counted-next : (x : ℕ) (o r : Over) (m : Mask) → ceilings ≤ 256 → ((j : ℕ) → j < 256 → has m j ≡ (ltb j ceilings && exceeds limits ceilings k j x)) → ((j : ℕ) → has (r .once) j ≡ (has (o .once) j || has m j)) → ((j : ℕ) → has (r .twice) j ≡ (has (o .twice) j || has (o .once) j && has m j)) → ((j : ℕ) → has (r .thrice) j ≡ (has (o .thrice) j || has (o .twice) j && has m j)) → Counted limits ceilings x k o → Counted limits ceilings (x + 1) k r
+  counted-next x o r m few is a b d c =
       let here : (j : ℕ) → j < ceilings → has m j ≡ exceeds limits ceilings k j x = λ j h. is j (omega arith) ∙ rw (lt-ltb j ceilings h) in
       let more : (j : ℕ) → exceeded limits ceilings x k j + (elim (exceeds limits ceilings k j x) [ true ↦ 1 | false ↦ 0 ]) ≡ exceeded limits ceilings (x + 1) k j = λ j. sym (count-more x (exceeds limits ceilings k j)) in
       record {
         once = λ j h. a j ∙ (rw (c .once j h, here j h) (once-more (exceeded limits ceilings x k j) (exceeds limits ceilings k j x)) ∙ ap (leb 1) (more j));
         twice = λ j h. b j ∙ (rw (c .twice j h, c .once j h, here j h) (twice-more (exceeded limits ceilings x k j) (exceeds limits ceilings k j x)) ∙ ap (leb 2) (more j));
         thrice = λ j h. d j ∙ (rw (c .thrice j h, c .twice j h, here j h) (thrice-more (exceeded limits ceilings x k j) (exceeds limits ceilings k j x)) ∙ ap (leb 3) (more j));
-        above = λ y j l one h t. elim (ℕ-discrete y x) [
-          | yes z ↦ rw z (sym (more-is j h) ∙ and-right (has (o .above) j) (has next j) (sym (both j) ∙ t))
-          | no z ↦ c .above y j (omega arith) one h (and-left (has (o .above) j) (has next j) (sym (both j) ∙ t))
-        ];
       }
+
+  -- the same of the ceilings that hold one more, from any counter on
+  module _ (low : ℕ) where
+    more-start : (m : Mask) → More-from limits ceilings low 0 k m
+    unfolding More-from
+    more-start m x j from l = absurd (omega arith)
+
+    more-gap : (a b : ℕ) (m : Mask) → ((x : ℕ) → a ≤ x → x < b → held limits ceilings k x ≡ 0) → More-from limits ceilings low a k m → More-from limits ceilings low b k m
+    unfolding More-from
+    more-gap a b m gap c x j from h one = elim (decLt x a) [ yes w ↦ c x j from w one | no w ↦ absurd (let z = gap x (omega arith) h in omega arith) ]
+
+    more-next : (x : ℕ) (m next r : Mask) → ((j : ℕ) → j < 256 → has next j ≡ takes-more limits ceilings k x j) → More-at low x m next r → More-from limits ceilings low x k m → More-from limits ceilings low (x + 1) k r
+    unfolding More-from More-at
+    more-next x m next r is at c y j from l one h t = elim (ℕ-discrete y x) [
+      | yes z ↦ rw z (sym (is j h) ∙ at j t .1 (omega arith))
+      | no z ↦ c y j from (omega arith) one h (at j t .0)
+    ]
+
+  module _ (states : ℕ) where
+    raised-start : (over : Over) → Raised limits ceilings states 0 k over
+    raised-start over = record { above = more-start 0 _; letters = more-start states _ }
+
+    raised-gap : (a b : ℕ) (over : Over) → ((x : ℕ) → a ≤ x → x < b → held limits ceilings k x ≡ 0) → Raised limits ceilings states a k over → Raised limits ceilings states b k over
+    raised-gap a b over gap c = record { above = more-gap 0 a b _ gap (c .above); letters = more-gap states a b _ gap (c .letters) }
+
+    raised-next : (x : ℕ) (o r : Over) (next : Mask) → ((j : ℕ) → j < 256 → has next j ≡ takes-more limits ceilings k x j) → More-at 0 x (o .above) next (r .above) → More-at states x (o .letters) next (r .letters) → Raised limits ceilings states x k o → Raised limits ceilings states (x + 1) k r
+    raised-next x o r next is a l c = record { above = more-next 0 x _ next _ is a (c .above); letters = more-next states x _ next _ is l (c .letters) }
 
   pub near-gap : (a b : ℕ) (short more : List ℕ) → ((x : ℕ) → a ≤ x → x < b → held limits ceilings k x ≡ 0) → Neighbours limits ceilings a k short more → Neighbours limits ceilings b k short more
   near-gap a b short more gap c =
@@ -143,38 +165,40 @@ module _ (limits : List ℕ) (ceilings k : ℕ) where
       }
 
 -- the counters of the entries before i are done
-pub record Turning (n : ℕ) (entries : Columns) (limits : List ℕ) (ceilings k end i : ℕ) (over : Over) (short more : List ℕ) : Type 0 where
+pub record Turning (n : ℕ) (entries : Columns) (limits : List ℕ) (ceilings states k end i : ℕ) (over : Over) (short more : List ℕ) : Type 0 where
   pub least : ℕ
   pub low : least ≤ n
   pub ahead : Ahead n entries (held limits ceilings k) end i least
   pub counted : Counted limits ceilings least k over
+  pub rising : Raised limits ceilings states least k over
   pub near : Neighbours limits ceilings least k short more
 
-module _ (n : ℕ) (entries : Columns) (limits : List ℕ) (ceilings k end i : ℕ) (over : Over) (short more : List ℕ) where
-  pub turning-start : Ahead n entries (held limits ceilings k) end i 0 → Counted limits ceilings 0 k over → Turning n entries limits ceilings k end i over short more
+module _ (n : ℕ) (entries : Columns) (limits : List ℕ) (ceilings states k end i : ℕ) (over : Over) (short more : List ℕ) where
+  pub turning-start : Ahead n entries (held limits ceilings k) end i 0 → Counted limits ceilings 0 k over → Turning n entries limits ceilings states k end i over short more
   turning-start a c =
       record {
         least = 0;
         low = omega arith;
         ahead = a;
         counted = c;
+        rising = raised-start limits ceilings k states over;
         near = record { by-one = λ x j l. absurd (omega arith); one-more = λ x j l. absurd (omega arith) };
       }
 
-  module _ (t : Turning n entries limits ceilings k end i over short more) where
+  module _ (t : Turning n entries limits ceilings states k end i over short more) where
     pub turning-inside : i < entries .size
     turning-inside = ahead-inside n entries _ end i _ (t .ahead)
 
     pub turning-counter : (left entries i ≡ n → ⊥) → left entries i < n
     turning-counter h = ahead-counter n entries _ end i _ (t .ahead) h .below
 
-    pub turning-end : left entries i ≡ n → Counted limits ceilings n k over × Neighbours limits ceilings n k short more
+    pub turning-end : left entries i ≡ n → Counted limits ceilings n k over × (Raised limits ceilings states n k over × Neighbours limits ceilings n k short more)
     turning-end h =
         let gap = ahead-none n entries _ end i _ (t .ahead) h in
-        (counted-gap limits ceilings k (t .least) n over (t .low) gap (t .counted), near-gap limits ceilings k (t .least) n short more gap (t .near))
+        (counted-gap limits ceilings k (t .least) n over (t .low) gap (t .counted), (raised-gap limits ceilings k states (t .least) n over gap (t .rising), near-gap limits ceilings k (t .least) n short more gap (t .near)))
 
-    pub turning-next : (r : Over) (m next : Mask) (short′ more′ : List ℕ) (x : ℕ) → x ≡ left entries i → (left entries i ≡ n → ⊥) → ceilings ≤ 256 → ((j : ℕ) → j < 256 → has m j ≡ (ltb j ceilings && exceeds limits ceilings k j x)) → ((j : ℕ) → has (r .once) j ≡ (has (over .once) j || has m j)) → ((j : ℕ) → has (r .twice) j ≡ (has (over .twice) j || has (over .once) j && has m j)) → ((j : ℕ) → has (r .thrice) j ≡ (has (over .thrice) j || has (over .twice) j && has m j)) → ((j : ℕ) → j < 256 → has next j ≡ member more′ 4 x j) → ((j : ℕ) → has (r .above) j ≡ (has (over .above) j && has next j)) → Set-is 4 x (exceeds-by-one limits ceilings k x) short short′ → Set-is 4 x (takes-more limits ceilings k x) more more′ → Turning n entries limits ceilings k end (i + 1) r short′ more′
-    turning-next r m next short′ more′ x z h few is a b d is-more both s m′ =
+    pub turning-next : (r : Over) (m next : Mask) (short′ more′ : List ℕ) (x : ℕ) → x ≡ left entries i → (left entries i ≡ n → ⊥) → ceilings ≤ 256 → ((j : ℕ) → j < 256 → has m j ≡ (ltb j ceilings && exceeds limits ceilings k j x)) → ((j : ℕ) → has (r .once) j ≡ (has (over .once) j || has m j)) → ((j : ℕ) → has (r .twice) j ≡ (has (over .twice) j || has (over .once) j && has m j)) → ((j : ℕ) → has (r .thrice) j ≡ (has (over .thrice) j || has (over .twice) j && has m j)) → ((j : ℕ) → j < 256 → has next j ≡ member more′ 4 x j) → More-at 0 x (over .above) next (r .above) → More-at states x (over .letters) next (r .letters) → Set-is 4 x (exceeds-by-one limits ceilings k x) short short′ → Set-is 4 x (takes-more limits ceilings k x) more more′ → Turning n entries limits ceilings states k end (i + 1) r short′ more′
+    turning-next r m next short′ more′ x z h few is a b d is-more above letters s m′ =
         let here : Counter-here n entries (held limits ceilings k) end i (t .least) = ahead-counter n entries _ end i _ (t .ahead) h in
         let gap : (y : ℕ) → t .least ≤ y → y < x → held limits ceilings k y ≡ 0 = λ y l b. here .gap y l (omega arith) in
         let low : t .least ≤ x = let w = here .low in omega arith in
@@ -182,6 +206,7 @@ module _ (n : ℕ) (entries : Columns) (limits : List ℕ) (ceilings k end i : �
           least = x + 1;
           low = let w = here .below in omega arith;
           ahead = rw z (here .next);
-          counted = counted-next limits ceilings k x over r m next few is a b d (λ j l. is-more j l ∙ m′ .here j l) both (counted-gap limits ceilings k (t .least) x over low gap (t .counted));
+          counted = counted-next limits ceilings k x over r m few is a b d (counted-gap limits ceilings k (t .least) x over low gap (t .counted));
+          rising = raised-next limits ceilings k states x over r next (λ j l. is-more j l ∙ m′ .here j l) above letters (raised-gap limits ceilings k states (t .least) x over gap (t .rising));
           near = near-next limits ceilings k x short more short′ more′ s m′ (near-gap limits ceilings k (t .least) x short more gap (t .near));
         }

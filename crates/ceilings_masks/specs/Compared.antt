@@ -52,15 +52,28 @@ takes-more limits ceilings k x k′ = allows limits ceilings x (most limits ceil
 abbrev pub exceeded : List ℕ → ℕ → ℕ → ℕ → ℕ → ℕ
 exceeded limits ceilings e k k′ = count 0 e (exceeds limits ceilings k k′)
 
--- the ceilings that ceiling k exceeds at one, two and three counters below e; and none but those that hold one more at
--- each counter below e with a limit from 1 under ceiling k
+-- the ceilings that ceiling k exceeds at one, two and three counters below e
 pub record Counted (limits : List ℕ) (ceilings e k : ℕ) (over : Over) : Type 0 where
   pub once : (k′ : ℕ) → k′ < ceilings → has (over .once) k′ ≡ leb 1 (exceeded limits ceilings e k k′)
   pub twice : (k′ : ℕ) → k′ < ceilings → has (over .twice) k′ ≡ leb 2 (exceeded limits ceilings e k k′)
   pub thrice : (k′ : ℕ) → k′ < ceilings → has (over .thrice) k′ ≡ leb 3 (exceeded limits ceilings e k k′)
-  pub above :
-      (x k′ : ℕ) → x < e → 1 ≤ held limits ceilings k x → k′ < 256 → has (over .above) k′ ≡ true →
-      takes-more limits ceilings k x k′ ≡ true
+
+-- each ceiling of the mask holds one more at each counter from `low` up to e with a limit from 1 under ceiling k
+unfoldable pub More-from : List ℕ → ℕ → ℕ → ℕ → ℕ → Mask → Type 0
+More-from limits ceilings low e k mask =
+    (x k′ : ℕ) → low ≤ x → x < e → 1 ≤ held limits ceilings k x → k′ < 256 → has mask k′ ≡ true →
+    takes-more limits ceilings k x k′ ≡ true
+
+-- the ceilings after counter x are of those before it; and of those that hold one more at x, where that is one from
+-- `low` on
+unfoldable pub More-at : ℕ → ℕ → Mask → Mask → Mask → Type 0
+More-at low x above next r = (k′ : ℕ) → has r k′ ≡ true → (has above k′ ≡ true) × (low ≤ x → has next k′ ≡ true)
+
+-- none but ceilings that hold one more than ceiling k at each counter below e; and at each letter below e: the letters
+-- are the counters behind the states
+pub record Raised (limits : List ℕ) (ceilings states e k : ℕ) (over : Over) : Type 0 where
+  pub above : More-from limits ceilings 0 e k (over .above)
+  pub letters : More-from limits ceilings states e k (over .letters)
 
 -- the sets of two tables, for each counter below e with a limit from 1 under ceiling k
 pub record Neighbours (limits : List ℕ) (ceilings e k : ℕ) (short more : List ℕ) : Type 0 where

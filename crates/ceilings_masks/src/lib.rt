@@ -28,15 +28,16 @@ ghost use Rattle.ceilings_form.specs.Limits.{In-form};
 ghost use Rattle.ceilings_form.specs.Parts.{Whole};
 ghost use Rattle.ceilings.specs.Table.{Limits-table};
 ghost use Rattle.ceilings_masks.specs.Compared.{reaches, allows, Holders, exceeds, exceeds-by-one, takes-more};
-ghost use Rattle.ceilings_masks.specs.Compared.{Counted, Neighbours};
+ghost use Rattle.ceilings_masks.specs.Compared.{More-at, Counted, Raised, Neighbours};
 
-// The ceilings that one ceiling exceeds at a counter, at two of them and at three; and those that hold one more than it
-// at every counter that it limits.
+// The ceilings that one ceiling exceeds at a counter, at two of them and at three; those that hold one more than it at
+// every counter that it limits, and those that do so at every letter that it limits.
 pub struct Over {
     pub once: Mask,
     pub twice: Mask,
     pub thrice: Mask,
     pub above: Mask,
+    pub letters: Mask,
 }
 
 // How many of the ceilings stand in word i of a mask.
@@ -147,18 +148,31 @@ pub fn allowing(
     limits_from(limits, ceilings, x, count)
 }
 
-// What is known so far, and one counter more: m are exceeded there, and `next` hold one more there.
-fn over_more(o: Over, m: Mask, next: Mask) -> Over
+// Of the ceilings of a mask those that hold one more at counter x too, as `next` do; all where x is below `low`.
+fn more_from(low: usize, above: Mask, x: usize, next: Mask) -> Mask
+    ensures { λ r. ⌜ More-at low x above next r ⌝ }
+{
+    if x < low {
+        return above;
+    }
+    and(above, next)
+}
+
+// What is known so far, and counter x more: m are exceeded there, and `next` hold one more there. The letters are the
+// counters behind the states.
+fn over_more(states: usize, o: Over, m: Mask, x: usize, next: Mask) -> Over
     ensures { λ r. ⌜ ((k : ℕ) → has (r .once) k ≡ (has (o .once) k || has m k)) ⌝ }
     ensures { λ r. ⌜ ((k : ℕ) → has (r .twice) k ≡ (has (o .twice) k || has (o .once) k && has m k)) ⌝ }
     ensures { λ r. ⌜ ((k : ℕ) → has (r .thrice) k ≡ (has (o .thrice) k || has (o .twice) k && has m k)) ⌝ }
-    ensures { λ r. ⌜ ((k : ℕ) → has (r .above) k ≡ (has (o .above) k && has next k)) ⌝ }
+    ensures { λ r. ⌜ More-at 0 x (o .above) next (r .above) ⌝ }
+    ensures { λ r. ⌜ More-at states x (o .letters) next (r .letters) ⌝ }
 {
     Over {
         once: or(o.once, m),
         twice: or(o.twice, and(o.once, m)),
         thrice: or(o.thrice, and(o.twice, m)),
-        above: and(o.above, next),
+        above: more_from(0, o.above, x, next),
+        letters: more_from(states, o.letters, x, next),
     }
 }
 
@@ -224,6 +238,7 @@ pub fn compare(
     requires { ⌜ (k < s .ceilings) × (e ≡ ceiling-entry n (ceiling-entries (now ws) s) k) ⌝ }
     requires { ⌜ (n * 4 ≤ length (now short)) × (n * 4 ≤ length (now more)) ⌝ }
     ensures { λ r. ⌜ Counted (now (limits .entry)) (s .ceilings) n k r ⌝ }
+    ensures { λ r. ⌜ Raised (now (limits .entry)) (s .ceilings) (s .states) n k r ⌝ }
     ensures { λ _. ⌜ Neighbours (now (limits .entry)) (s .ceilings) n k (now (short .exit)) (now (more .exit)) ⌝ }
 {
     let mut over = Over {
@@ -231,6 +246,7 @@ pub fn compare(
         twice: none(),
         thrice: none(),
         above: below(256),
+        letters: below(256),
     };
     let mut i = e;
     loop {
@@ -239,7 +255,7 @@ pub fn compare(
             return over;
         }
         let m = put_counter(limits, s.ceilings, n, holders, unbounded, k, x, short, more);
-        over = over_more(over, m, load(more, x));
+        over = over_more(s.states, over, m, x, load(more, x));
         i += 1;
     }
 }

@@ -144,8 +144,8 @@ pub line-cells : (s : Sizes) (n m k : ℕ) → n ≤ m → m * maxLines ≤ k �
 line-cells s n m k h fit l = let z = product-most n (s .lines) m maxLines h (l .lines) in omega arith
 
 -- sets of ceilings for n counters
-pub mask-room : (j k n : ℕ) (holders unbounded group short more : List ℕ) → n * 8 ≤ j → n * 4 ≤ k → Cleared j holders → Cleared k unbounded → Cleared j group → Cleared k short → Cleared k more → Mask-room n holders unbounded group short more
-mask-room j k n holders unbounded group short more g h a b c d e =
+pub mask-room : (j k l n : ℕ) (holders unbounded group short more : List ℕ) → n * 8 ≤ j → n * 4 ≤ k → n * 12 ≤ l → Cleared j holders → Cleared k unbounded → Cleared l group → Cleared k short → Cleared k more → Mask-room n holders unbounded group short more
+mask-room j k l n holders unbounded group short more g h i a b c d e =
     record {
       held = let q = a .room in omega arith;
       free = let q = b .room in omega arith;

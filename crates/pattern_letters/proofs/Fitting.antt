@@ -12,7 +12,7 @@ use Rattle.bits.specs.Bits.{member, Row}
 use Rattle.bits.proofs.Loops.{both}
 use Rattle.model.specs.declared.Sizes.{Sizes}
 use Rattle.model.specs.Limits.{maxArity, maxDepth, maxRows}
-use Rattle.model.specs.Index.{implies}
+use Rattle.model.specs.Index.{implies, first}
 use Rattle.model.specs.Words.{columns}
 use Rattle.model.specs.Rows.{Program, program, size, tag, num, arity, constructor, is-head}
 use Rattle.model.specs.Heads.{is-class, is-function}
@@ -22,7 +22,7 @@ use Rattle.model.specs.Wanted.{Member}
 use Rattle.model.specs.Closed.{argument, subpattern, same-constructor, may-equal, may-match, may-take}
 use Rattle.model.proofs.Logic.{test, true-false, and-left, and-right, and-intro, or-cases, or-left, or-right, or-false-left, or-false-right, implies-intro}
 use Rattle.model.proofs.Rows.{program-end}
-use Rattle.model.proofs.Index.{all-end}
+use Rattle.model.proofs.Index.{all-end, First, first-is}
 use Rattle.model.proofs.Exact.Members.{has-iff, some-of-iff}
 use Rattle.model.proofs.Numbering.Choices.{built-head}
 use Rattle.model.proofs.Parse.Lengths.{row-location}
@@ -330,6 +330,17 @@ module _ {ws : List ℕ} {s : Sizes} {w : ℕ} {fitting names : List ℕ} (g : M
   pub unfit-lost : (a b : Bool) → a ≡ member names 2 n h → not a ≡ false → b ≡ head-fits (program ws s) (tables ws s) n q h → b ≡ false → leaves-head (program ws s) (tables ws s) n q h ≡ false
   unfolding leaves-head implies
   unfit-lost a b e f k l = rw (head-there a e f) (sym k ∙ l)
+
+  -- the next head of a name is one of it
+  module _ (from end : ℕ) (below : from ≤ end) (is : h ≡ first from end (member names 2 n)) (l : h < end) where
+    next-held : not (member names 2 n h) ≡ false
+    next-held = let r : First from end (member names 2 n) h = rw (sym is) at (first-is from end (member names 2 n) below) in ap not (r .passes l)
+
+    pub next-there : has-head (program ws s) (tables ws s) n h ≡ true
+    next-there = head-there (member names 2 n h) refl next-held
+
+    pub next-lost : (b : Bool) → b ≡ head-fits (program ws s) (tables ws s) n q h → b ≡ false → leaves-head (program ws s) (tables ws s) n q h ≡ false
+    next-lost b k z = unfit-lost (member names 2 n h) b refl next-held k z
 
 -- the arguments of a value that the constructor pattern at row q may match, and their subpatterns
 pub first-row : (p : Program) (q x : ℕ) → x ≡ q + 1 → x ≡ subpattern p maxDepth q 0

@@ -1,5 +1,5 @@
 -- Sets of letters: what is found so far, and what of a value's letters is left.
-use Prim.Native.Nat.{ℕ, suc, _+_, _*_, _-_, _≤_, _<_}
+use Prim.Native.Nat.{ℕ, zero, suc, _+_, _*_, _-_, _≤_, _<_}
 use native.Mathlib.Decide.{ℕ-discrete, decLt}
 use native.Mathlib.Nat.{mul-le-mul-right}
 use native.Mathlib.Omega.{arith}
@@ -378,6 +378,13 @@ module _ (p : Program) (t : Tables) where
       row = f .row;
       has = λ y l. f .has y l ∙ ap (λ x. member u (letter-width p t) 0 y && x) (below-kept (leaves-head p t n q) h (head-of p t i y) e);
     }
+
+    -- heads that the subpattern leaves are passed over
+    pub heads-upto : (k h : ℕ) (u u′ : List ℕ) → ((x : ℕ) → h ≤ x → x < h + k → leaves-head p t n q x ≡ true) → Left p t (leaves-below p t i n q h) u u′ → Left p t (leaves-below p t i n q (h + k)) u u′
+    heads-upto zero h u u′ leaves f = let e : h + 0 ≡ h = omega arith in rw e f
+    heads-upto (suc k) h u u′ leaves f =
+        let e : h + suc k ≡ h + 1 + k = omega arith in
+        rw e (heads-upto k (h + 1) u u′ (λ x a b. leaves x (omega arith) (omega arith)) (heads-kept h u u′ (leaves h (omega arith) (omega arith)) f))
 
     pub heads-lost : (letters : List ℕ) → Letter-sets p t letters → (w set h : ℕ) (u u₁ u₂ : List ℕ) → w ≡ letter-width p t → set ≡ digit-set p (i + 1) h → i < maxArity → h < head-count p → leaves-head p t n q h ≡ false → Left p t (leaves-below p t i n q h) u u₁ → Set-is w 0 (λ y. member u₁ w 0 y && not (member letters w set y)) u₁ u₂ → Left p t (leaves-below p t i n q (h + 1)) u u₂
     unfolding leaves-below leaves-argument head-of

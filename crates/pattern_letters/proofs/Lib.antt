@@ -2,3 +2,4 @@ pub mod Entries
 pub mod Lessening
 pub mod Fitting
 pub mod Keeping
+pub mod Passing

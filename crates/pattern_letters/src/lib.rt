@@ -8,6 +8,7 @@ use lists::mail_value;
 use lists::place;
 use lists::state_class;
 use lists::word;
+use masks::next_of_two;
 use model::MAX_ARITY;
 use model::MAX_COUNTERS;
 use model::OTHER_HEADS;
@@ -209,7 +210,8 @@ fn head_fits(
     holds(fitting, w, q, n)
 }
 
-// Takes the letters from part whose argument i, of the name n, has a head that the subpattern at row q may not match.
+// Takes the letters from part whose argument i, of the name n, has a head that the subpattern at row q may not match:
+// one head after the other of those that the name has.
 fn leave_argument(
     ws: &[u16],
     s: Sizes,
@@ -236,10 +238,14 @@ fn leave_argument(
     if !asks(ws, s, q) {
         return;
     }
-    for h in 0..s.constructors + OTHER_HEADS {
-        if !holds(names, 2, n, h) {
-            continue;
+    let end = s.constructors + OTHER_HEADS;
+    let mut from = 0;
+    loop {
+        let h = next_of_two(names, n, from, end);
+        if h >= end {
+            return;
         }
+        from = h + 1;
         if head_fits(ws, s, w, fitting, names, n, q, h) {
             continue;
         }

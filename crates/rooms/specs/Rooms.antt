@@ -43,6 +43,10 @@ counter-masks = maxCounters * 4
 abbrev pub holder-masks : ℕ
 holder-masks = maxCounters * 8
 
+-- for each state, which is a counter, three sets of the ceilings that are open where its rules add
+abbrev pub group-masks : ℕ
+group-masks = maxCounters * 12
+
 -- a limit for each counter under each ceiling
 abbrev pub limit-room : ℕ
 limit-room = maxCounters * maxCeilings

@@ -12,7 +12,8 @@ use model::OTHER_HEADS;
 ghost use Rattle.model.specs.Message.{maxWords};
 ghost use Rattle.rooms.specs.Cleared.{Cleared};
 ghost use Rattle.rooms.specs.Rooms.{row-room, name-sets, row-sets, fitting-sets};
-ghost use Rattle.rooms.specs.Rooms.{letter-codes, letter-sets, counter-masks, holder-masks, limit-room};
+ghost use Rattle.rooms.specs.Rooms.{letter-codes, letter-sets, counter-masks, holder-masks};
+ghost use Rattle.rooms.specs.Rooms.{group-masks, limit-room};
 
 // specs/Rooms.antt says what each of these is for.
 const ROW_ROOM: usize = MAX_ROWS + 2;
@@ -35,6 +36,8 @@ const LETTER_SETS: usize = ((MAX_ARITY + 1) * (MAX_CONSTRUCTORS + OTHER_HEADS) +
 const COUNTER_MASKS: usize = MAX_COUNTERS * 4;
 
 const HOLDER_MASKS: usize = MAX_COUNTERS * 8;
+
+const GROUP_MASKS: usize = MAX_COUNTERS * 12;
 
 const LIMIT_ROOM: usize = MAX_COUNTERS * MAX_CEILINGS;
 
@@ -92,6 +95,12 @@ pub fn words64_256() -> [u64; 256]
     [0; 256]
 }
 
+pub fn words64_384() -> [u64; 384]
+    ensures { λ r. ⌜ Cleared 384 r ⌝ }
+{
+    [0; 384]
+}
+
 pub fn words64_512() -> [u64; 512]
     ensures { λ r. ⌜ Cleared 512 r ⌝ }
 {
@@ -108,6 +117,12 @@ pub fn words64_1285() -> [u64; 1285]
     ensures { λ r. ⌜ Cleared 1285 r ⌝ }
 {
     [0; 1285]
+}
+
+pub fn words64_1536() -> [u64; 1536]
+    ensures { λ r. ⌜ Cleared 1536 r ⌝ }
+{
+    [0; 1536]
 }
 
 // A word for each row, and two behind them.
@@ -171,6 +186,13 @@ pub fn holder_masks() -> [u64; HOLDER_MASKS]
     ensures { λ r. ⌜ Cleared holder-masks r ⌝ }
 {
     [0; HOLDER_MASKS]
+}
+
+// Three sets of ceilings for each state, which is a counter.
+pub fn group_masks() -> [u64; GROUP_MASKS]
+    ensures { λ r. ⌜ Cleared group-masks r ⌝ }
+{
+    [0; GROUP_MASKS]
 }
 
 // A limit for each counter under each ceiling.

@@ -100,6 +100,22 @@ pub fn limited(system: &System) -> Vec<Limits> {
     bounds
 }
 
+/// As `leaking`, with a limit in every bound at a letter that no rule puts.
+pub fn lettered(system: &System) -> Vec<Limits> {
+    let mut bounds = leaking(system);
+    let n = system.counters();
+    let unput = (system.states..n - 1).find(|&letter| system.rules.iter().all(|rule| rule.adds() != Some(letter)));
+    let Some(letter) = unput else { return bounds };
+    for limits in &mut bounds {
+        let held = limits.iter().filter(|&&limit| limit > 0).count();
+        if held < n {
+            limits[held - 1] = 0;
+        }
+        limits[letter] = 5;
+    }
+    bounds
+}
+
 /// As many entries as may be: wide bounds, each below the next in one counter.
 pub fn wide(system: &System) -> Vec<Limits> {
     let n = system.counters();

@@ -3,7 +3,7 @@
 use super::bounds::{self, Bounds};
 use super::finish::{Rows, bytes, changed};
 use super::rows::{mail_of_start, nested_functions, nested_receives, set_last};
-use super::sends::{builds, every_letter, unused};
+use super::sends::{builds, every_letter_but, unused};
 use super::{Sample, sample};
 use crate::fuzz::row_list::RowList;
 use crate::message::Message;
@@ -88,9 +88,15 @@ pub fn hostile() -> Result<Vec<Sample>, String> {
         )?,
         sample(
             "long-counters-limited",
-            "the same as long-counters-leak, with a limit at the start in every ceiling, so that no test settles a state",
+            "the same as long-counters-leak, with a limit at the first state in every ceiling: none is above another everywhere",
             13,
             counters(bounds::limited),
+        )?,
+        sample(
+            "long-counters-lettered",
+            "the same as long-counters-leak, with a limit in every ceiling at a letter that no send puts",
+            13,
+            spared(bounds::lettered),
         )?,
         sample("long-counters-wide", "seven ceilings of all 1,024 counters", 0, counters(bounds::wide))?,
     ])
@@ -166,8 +172,17 @@ fn function_last() -> Result<Vec<u8>, String> {
     Rows { list, constructors: 1, functions: 1 }.finish(extra, bounds::alike)
 }
 
+/// The same with a constructor in every class's mail that nothing sends.
+fn spared(bounds: impl Bounds) -> Result<Vec<u8>, String> {
+    counters_with(bounds, true)
+}
+
 /// 364 sends that each may put 512 letters (eight in each of 64 classes), then 146 receives of eight letters each.
 pub fn counters(bounds: impl Bounds) -> Result<Vec<u8>, String> {
+    counters_with(bounds, false)
+}
+
+fn counters_with(bounds: impl Bounds, spare: bool) -> Result<Vec<u8>, String> {
     let mut list = RowList::default();
     let target = unused(&mut list, 7, 7, 63);
     let message = list.bind(7, &[]);
@@ -176,6 +191,14 @@ pub fn counters(bounds: impl Bounds) -> Result<Vec<u8>, String> {
     });
     (0..146).for_each(|_| list.rows.extend([(9, 1), (32, 0)]));
     list.row(1, target);
-    let extra = move |program: &Program, tables: &mut Tables| every_letter(program, tables, target, message);
+    let extra = move |program: &Program, tables: &mut Tables| {
+        let last = builds(program).last().filter(|_| spare);
+        every_letter_but(program, tables, target, message, last);
+        for build in last {
+            tables.mail.iter_mut().for_each(|mail| {
+                mail.insert(build);
+            });
+        }
+    };
     Rows { list, constructors: 7, functions: 1 }.finish(extra, bounds)
 }

@@ -95,9 +95,14 @@ pub fn sends(count: usize, classes: usize, constructors: usize, bounds: impl Bou
 
 /// The target may be each class, the message each build and, by its own row, the start's address.
 pub fn every_letter(program: &Program, tables: &mut Tables, target: usize, message: usize) {
+    every_letter_but(program, tables, target, message, None);
+}
+
+/// The same without the letters of one build.
+pub fn every_letter_but(program: &Program, tables: &mut Tables, target: usize, message: usize, but: Option<usize>) {
     tables.flow[target] = classes_of(program);
     tables.flow[target].insert(program.rows);
-    builds(program).for_each(|b| {
+    builds(program).filter(|&b| Some(b) != but).for_each(|b| {
         tables.flow[message].insert(b);
     });
 }

@@ -1,20 +1,16 @@
 -- The loop's invariant: the rules before j are open to the ceilings of the mask.
-use Prim.Native.Nat.{ℕ, _-_, _≤_}
+use Prim.Native.Nat.{_-_, _≤_}
 use native.Mathlib.Omega.{arith}
-use mathlib.Core.Path.{_≡_, sym, _∙_}
-use mathlib.Core.Bool.{true}
 use borrow.Author.Needs.{needs}
-use Rattle.model.proofs.Logic.{and-left, and-right}
-use Rattle.masks.specs.Masks.{has}
-use Rattle.ceilings_groups.proofs.Settling.{Open-upto, open-start, open-next}
+use Rattle.ceilings_groups.proofs.Settling.{Open-upto, open-start, open-next, open-all}
 use Rattle.ceilings_groups.proofs.open_to_all.Statement.{statement}
 use Rattle.ceilings_groups.proofs.open_to_all.Tie as tie
 
 abbrev Inv-loop : tie.InvT-loop
-Inv-loop limits ceilings n holders unbounded count kind tos others m all₀ j₀ all j = Open-upto limits ceilings n count kind tos others j all × (j ≤ m)
+Inv-loop limits ceilings n holders unbounded kind tos others m all₀ j₀ all j = Open-upto limits ceilings n n kind tos others j all × (j ≤ m)
 
 abbrev μ-loop : tie.MeasureT-loop
-μ-loop limits ceilings n holders unbounded count kind tos others m all₀ j₀ all j = m - j
+μ-loop limits ceilings n holders unbounded kind tos others m all₀ j₀ all j = m - j
 
 below-requires : tie.Need-below-requires Inv-loop μ-loop
 below-requires c κs = tt
@@ -40,11 +36,8 @@ shared-slice-read-other c = search needs
 cast-other : tie.Need-cast-other Inv-loop μ-loop
 cast-other c = omega (arith, c .before .before .before .before .before .shared-slice-known5 .given (c .before .before .before .loop .j))
 
-open-to-requires : tie.Need-open-to-requires Inv-loop μ-loop
-open-to-requires c κs = (c .before .before .before .before .before .before .before .before .before .before .pre .0, c .before .before .before .before .before .before .before .before .before .before .pre .1 .0)
-
-and-requires : tie.Need-and-requires Inv-loop μ-loop
-and-requires c κs = tt
+narrowed-requires : tie.Need-narrowed-requires Inv-loop μ-loop
+narrowed-requires c κs = c .before .before .before .before .before .before .before .before .before .before .pre .0
 
 add-j : tie.Need-add-j Inv-loop μ-loop
 add-j c = search needs
@@ -53,15 +46,10 @@ loop-less : tie.Need-loop-less Inv-loop μ-loop
 loop-less c = search needs
 
 loop-again : tie.Need-loop-again Inv-loop μ-loop
-loop-again c =
-    let l = c .before .before .before .before .before .loop in
-    let before : (k : ℕ) → has (c .and .result) k ≡ true → has (l .all) k ≡ true = λ k t. and-left (has (l .all) k) (has (c .before .open-to .result) k) (sym (c .and .ensures k) ∙ t) in
-    let here : (k : ℕ) → has (c .and .result) k ≡ true → has (c .before .open-to .result) k ≡ true = λ k t. and-right (has (l .all) k) (has (c .before .open-to .result) k) (sym (c .and .ensures k) ∙ t) in
-    (open-next _ _ _ _ _ _ _ (l .j) (l .all) _ (l .inv .0) before (λ k h t. c .before .open-to .ensures k h (here k t)), search needs)
+loop-again c = (open-next _ _ _ _ _ _ _ (c .before .before .before .before .loop .j) (c .before .before .before .before .loop .all) _ (c .before .before .before .before .loop .inv .0) (c .narrowed .ensures), search needs)
 
 returns : tie.Need-returns Inv-loop μ-loop
-unfolding Open-upto
-returns c = λ k j h b. c .before .loop .inv .0 k j h (omega (arith, b, c .loop-test .left))
+returns c = open-all _ _ _ _ _ _ _ _ _ _ (c .loop-test .left) (c .before .loop .inv .0)
 
 pub open-to-all-spec : {M : Type 1} → statement M
 open-to-all-spec =
@@ -77,8 +65,7 @@ open-to-all-spec =
     mul-other
     shared-slice-read-other
     cast-other
-    open-to-requires
-    and-requires
+    narrowed-requires
     add-j
     loop-less
     loop-again

@@ -21,7 +21,7 @@ use Rattle.ceilings_leaks.proofs.fill_groups.Tie as tie
 
 abbrev Inv-loop : tie.InvT-loop
 Inv-loop ws s afters flow-at w fitting names letter-at letters branches n limits starts holders unbounded spare at₀ tos₀ others₀ first-at₀ group₀ boundless kept₀ rules₀ rows₀ i₀ i-end at tos others first-at group kept rules rows i =
-    Groups-upto (program ws s) (tables ws s) limits (s .ceilings) n i group × Summed (program ws s) (tables ws s) i rules rows × Walk at₀ tos₀ others₀ at tos others × (i ≤ s .states) × (length group ≡ length group₀) × Kept-rules (program ws s) (tables ws s) i kept first-at tos others × (kept .used ≤ spare) × (kept .all ≡ true → s .states < length first-at) × (length first-at ≡ length first-at₀)
+    Groups-upto (program ws s) (tables ws s) limits (s .ceilings) (s .states) n i group × Summed (program ws s) (tables ws s) i rules rows × Walk at₀ tos₀ others₀ at tos others × (i ≤ s .states) × (length group ≡ length group₀) × Kept-rules (program ws s) (tables ws s) i kept first-at tos others × (kept .used ≤ spare) × (kept .all ≡ true → s .states < length first-at) × (length first-at ≡ length first-at₀)
 
 abbrev μ-loop : tie.MeasureT-loop
 μ-loop ws s afters flow-at w fitting names letter-at letters branches n limits starts holders unbounded spare at₀ tos₀ others₀ first-at₀ group₀ boundless kept₀ rules₀ rows₀ i₀ i-end at tos others first-at group kept rules rows i = s .states - i
@@ -115,7 +115,7 @@ loop-again c =
     let h = c .before .before .before .before .before .before .before .before .before .before .before .before .before .before .before .before .before .before .before .before .before .before .before .before .before .before .before .before .loop .inv in
     let low = begins (c .before .before .before .before .before .before .before .before .before .before .before .before .before .before .before .before .before .before .before) in
     let rules = c .before .before .before .before .before .before .before .before .before .before .before .before .before .before .before .before .before .before .before .rules-from .ensures .0 in (
-      groups-next _ _ _ _ _ _ _ _ _ (lent-rules _ _ _ _ _ _ _ rules) _ _ (c .before .before .before .before .before .before .before .before .before .before .before .before .effect-kind .ensures .0 ∙ ap effect-kind (c .before .before .before .before .before .before .before .before .before .before .before .before .before .before .state-head .ensures)) (c .before .before .before .before .before .before .before .before .before .before .before .before .effect-kind .ensures .1) (c .before .before .before .before .before .before .put-group .ensures) (h .0),
+      groups-next _ _ _ _ _ _ _ _ _ (lent-rules _ _ _ _ _ _ _ rules) (c .before .before .before .before .before .before .before .before .before .before .before .before .effect-kind .ensures .0 ∙ ap effect-kind (c .before .before .before .before .before .before .before .before .before .before .before .before .before .before .state-head .ensures)) (c .before .before .before .before .before .before .before .before .before .before .before .before .effect-kind .ensures .1) _ _ (c .before .before .before .before .before .before .put-group .ensures) (h .0),
       summed-more _ _ (c .before .before .before .before .before .before .before .before .before .before .before .before .before .before .before .before .before .before .before .before .before .before .before .before .before .before .before .before .loop .i) (c .before .before .before .before .before .before .before .before .before .before .before .before .before .before .before .before .before .before .before .before .before .before .before .before .before .before .before .before .loop .rules) (c .before .before .before .before .before .before .before .before .before .before .before .before .before .before .before .before .before .before .before .before .before .before .before .before .before .before .before .before .loop .rows) _ _ _ _ _ (h .1) (rules .rules) (few (c .before .before .before .before .before .before .before .before .before .before .before .before .before .before .before .before .before .before .before)) (c .before .before .before .before .before .before .before .before .before .before .before .before .before .before .state-head .ensures) (c .before .before .before .before .before .before .before .before .before .before .before .before .before .row-total .ensures .0) (c .before .before .before .before .before .before .before .before .before .before .before .before .before .row-total .ensures .1),
       walk-next _ _ _ _ _ _ (h .2) _ _ _ (c .before .before .before .before .before .before .before .before .before .before .before .before .before .before .before .before .before .before .before .before .before .before .before .before .before .guess-class .kept .1 .1 .0) (c .before .before .before .before .before .before .before .before .before .before .before .before .before .before .before .before .before .before .before .rules-from .kept .1 .1 .1 .1 .1 .1 .1 .1 .1 .1 .1 .1 .1 .0) (c .before .before .before .before .before .before .before .before .before .before .before .before .before .before .before .before .before .before .before .rules-from .kept .1 .1 .1 .1 .1 .1 .1 .1 .1 .1 .1 .1 .1 .1 .0),
       omega (arith, c .before .before .before .before .before .before .before .before .before .before .before .before .before .before .before .before .before .before .before .before .before .before .before .before .before .before .before .loop-test .taken),

@@ -25,7 +25,7 @@ use Rattle.ceilings_covers.specs.Covers.{named, passes}
 use Rattle.ceilings_covers.proofs.Covering.{candidate-covers, covers-not}
 use Rattle.ceilings_groups.proofs.Settling.{settles}
 use Rattle.system_totals.proofs.Walk.{room-kept}
-use Rattle.ceilings_leaks.proofs.Leaking.{counted-at, leaks, by-state, by-step, step-at, Walk, Left-of, walk-start, walk-end, walk-limit, walk-settled, rules-start, rules-turn, rules-leak, rules-done, unused, covered, led-out, left-start, left-low, left-surely, left-next, left-covers, left-none, ceiling-turn, states-few, step-shape, leak-safe, leak-refused-at, state-none, beside-at, named-next, first-low, whole-of}
+use Rattle.ceilings_leaks.proofs.Leaking.{raised-at, leaks, by-state, by-step, step-at, Walk, Left-of, walk-start, walk-end, walk-limit, walk-settled, rules-start, rules-turn, rules-leak, rules-done, unused, covered, led-out, left-start, left-low, left-surely, left-next, left-covers, left-none, ceiling-turn, states-few, step-shape, leak-safe, leak-refused-at, state-none, beside-at, named-next, first-low, whole-of}
 use Rattle.ceilings_leaks.proofs.leak_check.Statement.{statement}
 use Rattle.ceilings_leaks.proofs.leak_check.Tie as tie
 
@@ -123,7 +123,7 @@ left-after-requires c κs =
     let p = c .before .before .before .before .before .before .before .before .before .before .before .before .before .before .before .before .before .before .before .before .before .before .before .before .before .before .before .before .before .before .before .before .before .before .before .before .before .before .before .before .pre in
     let h = c .before .before .before .before .before .states .inv in
     let few = states-few _ _ _ _ (p .0 .ready) (p .1 .0 .counted) (p .1 .0 .limits-table) in
-    (beside-at _ _ _ _ _ _ _ _ _ _ (h .0) (room-all _ _ _ _ (p .1 .0 .in-form) (p .1 .0 .limits-table)) (p .0 .ready .limits .ceilings) (c .before .before .before .before .before .before .before .before .before .before .before .before .before .before .before .before .before .before .ceilings-test .taken) (p .1 .0 .held-by) (c .before .before .before .before .before .before .before .before .before .before .before .before .before .before .compare .ensures .0) (c .before .before .before .before .before .before .before .before .before .before .before .before .before .before .compare .ensures .1) (omega (arith, c .before .before .before .before .before .before .before .before .before .before .before .before .before .before .compare .kept .1 .1 .1 .1 .1 .1 .1 .1 .0, c .before .before .before .before .before .before .before .before .before .before .before .before .before .before .before .before .before .before .before .ceilings .inv .4, p .1 .1 .1 .1 .1 .short-room)) (omega (arith, c .before .before .before .before .before .before .before .before .before .before .before .before .before .before .compare .kept .1 .1 .1 .1 .1 .1 .1 .1 .1 .0, c .before .before .before .before .before .before .before .before .before .before .before .before .before .before .before .before .before .before .before .ceilings .inv .5, p .1 .1 .1 .1 .1 .more-room)), (omega (arith, few, c .before .before .if1 .left), walk-limit _ _ _ _ _ (p .1 .1 .0) _ _ _ (h .1) few _ (c .before .before .before .before .counter-at .ensures) (c .before .before .if1 .left)))
+    (beside-at _ _ _ _ _ _ _ _ _ _ (h .0) (room-all _ _ _ _ (p .1 .0 .in-form) (p .1 .0 .limits-table)) (p .0 .ready .limits .ceilings) (c .before .before .before .before .before .before .before .before .before .before .before .before .before .before .before .before .before .before .ceilings-test .taken) (p .1 .0 .held-by) (c .before .before .before .before .before .before .before .before .before .before .before .before .before .before .compare .ensures .0) (c .before .before .before .before .before .before .before .before .before .before .before .before .before .before .compare .ensures .1 .1) (omega (arith, c .before .before .before .before .before .before .before .before .before .before .before .before .before .before .compare .kept .1 .1 .1 .1 .1 .1 .1 .1 .0, c .before .before .before .before .before .before .before .before .before .before .before .before .before .before .before .before .before .before .before .ceilings .inv .4, p .1 .1 .1 .1 .1 .short-room)) (omega (arith, c .before .before .before .before .before .before .before .before .before .before .before .before .before .before .compare .kept .1 .1 .1 .1 .1 .1 .1 .1 .1 .0, c .before .before .before .before .before .before .before .before .before .before .before .before .before .before .before .before .before .before .before .ceilings .inv .5, p .1 .1 .1 .1 .1 .more-room)), (omega (arith, few, c .before .before .if1 .left), walk-limit _ _ _ _ _ (p .1 .1 .0) _ _ _ (h .1) few _ (c .before .before .before .before .counter-at .ensures) (c .before .before .if1 .left)))
 
 settled-requires : tie.Need-settled-requires Inv-loop μ-loop Inv-candidates μ-candidates Inv-rules μ-rules Inv-states μ-states Inv-ceilings μ-ceilings
 settled-requires c κs = omega (arith, c .before .before .before .if1 .left, c .before .before .before .before .before .before .before .before .before .before .before .before .before .before .before .before .before .before .before .before .before .before .before .before .before .before .before .before .before .before .before .before .before .before .before .before .before .before .before .before .before .pre .1 .1 .1 .1 .0)
@@ -137,7 +137,7 @@ states-again c =
     let h = c .before .before .before .before .before .before .before .before .states .inv in
     let g = p .1 .1 .0 in
     let few = states-few _ _ _ _ (p .0 .ready) (p .1 .0 .counted) (p .1 .0 .limits-table) in
-    (h .0, walk-settled _ _ _ _ _ g _ _ _ (h .1) few _ (c .before .before .before .before .before .before .before .counter-at .ensures) (c .before .before .before .before .before .if1 .left) (state-none _ _ _ _ _ _ (settles _ _ _ _ _ _ (c .before .before .left-after .ensures) _ (counted-at _ _ _ _ _ _ (h .0) (c .before .before .before .before .before .before .before .before .before .before .before .before .before .before .before .before .before .compare .ensures .0)) (λ z. omega (arith, c .before .before .before .before .before .before .before .before .before .before .before .before .before .before .before .before .before .before .before .before .before .before .before .before .before .before .before .before .before .before .before .before .before .before .shared-slice-known9 .given z)) _ _ _ _ (c .before .before .before .before .before .if1 .left) g (sym (c .before .settled .ensures) ∙ c .if2 .taken))), h .2, h .3, h .4)
+    (h .0, walk-settled _ _ _ _ _ g _ _ _ (h .1) few _ (c .before .before .before .before .before .before .before .counter-at .ensures) (c .before .before .before .before .before .if1 .left) (state-none _ _ _ _ _ _ (settles _ _ _ _ _ _ (c .before .before .left-after .ensures) (λ z. omega (arith, c .before .before .before .before .before .before .before .before .before .before .before .before .before .before .before .before .before .before .before .before .before .before .before .before .before .before .before .before .before .before .before .before .before .before .shared-slice-known9 .given z)) _ _ (raised-at _ _ _ _ _ _ _ (h .0) (c .before .before .before .before .before .before .before .before .before .before .before .before .before .before .before .before .before .compare .ensures .1 .0)) _ _ _ _ (c .before .before .before .before .before .if1 .left) g (sym (c .before .settled .ensures) ∙ c .if2 .taken))), h .2, h .3, h .4)
 
 slice-aggregate-rules-again : tie.Need-slice-aggregate-rules-again Inv-loop μ-loop Inv-candidates μ-candidates Inv-rules μ-rules Inv-states μ-states Inv-ceilings μ-ceilings
 slice-aggregate-rules-again c = search needs
@@ -211,7 +211,7 @@ candidates-requires : tie.Need-candidates-requires Inv-loop μ-loop Inv-candidat
 candidates-requires c κs =
     let p = c .before .before .before .before .before .before .before .before .before .before .before .before .before .before .before .before .before .before .before .before .before .before .before .before .before .before .before .before .before .before .before .before .before .before .before .before .before .before .before .before .before .before .before .before .before .before .before .before .before .before .before .before .before .before .before .before .before .before .before .before .pre in
     let h = c .before .before .before .before .before .before .before .before .before .before .before .before .before .before .before .before .before .before .before .before .before .before .before .before .before .states .inv in
-    (beside-at _ _ _ _ _ _ _ _ _ _ (h .0) (room-all _ _ _ _ (p .1 .0 .in-form) (p .1 .0 .limits-table)) (p .0 .ready .limits .ceilings) (c .before .before .before .before .before .before .before .before .before .before .before .before .before .before .before .before .before .before .before .before .before .before .before .before .before .before .before .before .before .before .before .before .before .before .before .before .before .before .ceilings-test .taken) (p .1 .0 .held-by) (c .before .before .before .before .before .before .before .before .before .before .before .before .before .before .before .before .before .before .before .before .before .before .before .before .before .before .before .before .before .before .before .before .before .before .compare .ensures .0) (c .before .before .before .before .before .before .before .before .before .before .before .before .before .before .before .before .before .before .before .before .before .before .before .before .before .before .before .before .before .before .before .before .before .before .compare .ensures .1) (omega (arith, c .before .before .before .before .before .before .before .before .before .before .before .before .before .before .before .before .before .before .before .before .before .before .before .before .before .before .before .before .before .before .before .before .before .before .compare .kept .1 .1 .1 .1 .1 .1 .1 .1 .0, c .before .before .before .before .before .before .before .before .before .before .before .before .before .before .before .before .before .before .before .before .before .before .before .before .before .before .before .before .before .before .before .before .before .before .before .before .before .before .before .ceilings .inv .4, p .1 .1 .1 .1 .1 .short-room)) (omega (arith, c .before .before .before .before .before .before .before .before .before .before .before .before .before .before .before .before .before .before .before .before .before .before .before .before .before .before .before .before .before .before .before .before .before .before .compare .kept .1 .1 .1 .1 .1 .1 .1 .1 .1 .0, c .before .before .before .before .before .before .before .before .before .before .before .before .before .before .before .before .before .before .before .before .before .before .before .before .before .before .before .before .before .before .before .before .before .before .before .before .before .before .before .ceilings .inv .5, p .1 .1 .1 .1 .1 .more-room)), (step-shape _ _ _ _ (p .0 .ready) (p .1 .0 .counted) (p .1 .0 .limits-table) (c .before .before .before .before .before .before .before .before .before .before .before .before .before .before .before .before .before .before .before .before .before .before .before .before .before .states .k) _ _ _ _ _ _ _ (c .before .before .before .before .before .before .before .before .before .before .before .before .before .before .before .before .before .before .before .before .before .before .if1 .left) (c .before .before .before .before .before .before .before .rules .inv .3) (c .before .before .before .before .before .before .before .before .kind-at .ensures .0) (c .before .before .before .before .before .before .before .before .kind-at .ensures .1) (c .before .before .before .before .before .before .before .rules .inv .2) (c .before .before .before .before .before .before .rules-test .taken), (c .before .before .before .before .before .before .before .before .before .before .before .before .before .before .before .before .before .before .before .left-after .ensures, sym (c .before .before .before .is-usable .ensures) ∙ not-false _ (c .before .before .if3 .left))))
+    (beside-at _ _ _ _ _ _ _ _ _ _ (h .0) (room-all _ _ _ _ (p .1 .0 .in-form) (p .1 .0 .limits-table)) (p .0 .ready .limits .ceilings) (c .before .before .before .before .before .before .before .before .before .before .before .before .before .before .before .before .before .before .before .before .before .before .before .before .before .before .before .before .before .before .before .before .before .before .before .before .before .before .ceilings-test .taken) (p .1 .0 .held-by) (c .before .before .before .before .before .before .before .before .before .before .before .before .before .before .before .before .before .before .before .before .before .before .before .before .before .before .before .before .before .before .before .before .before .before .compare .ensures .0) (c .before .before .before .before .before .before .before .before .before .before .before .before .before .before .before .before .before .before .before .before .before .before .before .before .before .before .before .before .before .before .before .before .before .before .compare .ensures .1 .1) (omega (arith, c .before .before .before .before .before .before .before .before .before .before .before .before .before .before .before .before .before .before .before .before .before .before .before .before .before .before .before .before .before .before .before .before .before .before .compare .kept .1 .1 .1 .1 .1 .1 .1 .1 .0, c .before .before .before .before .before .before .before .before .before .before .before .before .before .before .before .before .before .before .before .before .before .before .before .before .before .before .before .before .before .before .before .before .before .before .before .before .before .before .before .ceilings .inv .4, p .1 .1 .1 .1 .1 .short-room)) (omega (arith, c .before .before .before .before .before .before .before .before .before .before .before .before .before .before .before .before .before .before .before .before .before .before .before .before .before .before .before .before .before .before .before .before .before .before .compare .kept .1 .1 .1 .1 .1 .1 .1 .1 .1 .0, c .before .before .before .before .before .before .before .before .before .before .before .before .before .before .before .before .before .before .before .before .before .before .before .before .before .before .before .before .before .before .before .before .before .before .before .before .before .before .before .ceilings .inv .5, p .1 .1 .1 .1 .1 .more-room)), (step-shape _ _ _ _ (p .0 .ready) (p .1 .0 .counted) (p .1 .0 .limits-table) (c .before .before .before .before .before .before .before .before .before .before .before .before .before .before .before .before .before .before .before .before .before .before .before .before .before .states .k) _ _ _ _ _ _ _ (c .before .before .before .before .before .before .before .before .before .before .before .before .before .before .before .before .before .before .before .before .before .before .if1 .left) (c .before .before .before .before .before .before .before .rules .inv .3) (c .before .before .before .before .before .before .before .before .kind-at .ensures .0) (c .before .before .before .before .before .before .before .before .kind-at .ensures .1) (c .before .before .before .before .before .before .before .rules .inv .2) (c .before .before .before .before .before .before .rules-test .taken), (c .before .before .before .before .before .before .before .before .before .before .before .before .before .before .before .before .before .before .before .left-after .ensures, sym (c .before .before .before .is-usable .ensures) ∙ not-false _ (c .before .before .if3 .left))))
 
 surely-covered-requires : tie.Need-surely-covered-requires Inv-loop μ-loop Inv-candidates μ-candidates Inv-rules μ-rules Inv-states μ-states Inv-ceilings μ-ceilings
 surely-covered-requires c κs = search needs

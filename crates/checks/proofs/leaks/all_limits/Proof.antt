@@ -19,8 +19,8 @@ holder-masks-requires c κs = search needs
 counter-masks-requires : tie.Need-counter-masks-requires
 counter-masks-requires c κs = search needs
 
-holder-masks-requires-2 : tie.Need-holder-masks-requires-2
-holder-masks-requires-2 c κs = search needs
+group-masks-requires : tie.Need-group-masks-requires
+group-masks-requires c κs = search needs
 
 counter-masks-requires-2 : tie.Need-counter-masks-requires-2
 counter-masks-requires-2 c κs = search needs
@@ -73,7 +73,7 @@ ceilings-on-requires c κs =
         (
           (bounds-room _ _ _ _ _ _ (all-cells _ _ (few-counters _ _ _ n (c .before .before .before .before .before .before .before .before .before .before .before .before .before .before .before .before .before .before .before .before .before .before .before .before .before .before .before .before .before .before .pre .0 .few)) (c .before .before .before .before .before .before .before .before .before .before .before .before .before .before .before .before .before .before .before .before .before .before .before .before .before .before .before .before .before .before .pre .0 .ready .limits)) (omega (arith, c .before .before .before .before .before .before .before .before .before .before .before .before .before .before .before .before .before .before .before .before .before .before .before .before .before .before .before .before .before .before .pre .0 .ready .limits .ceilings)) (c .before .before .before .before .before .before .before .before .before .before .before .before .before .before .before .before .before .before .before .before .limit-words .ensures) (c .before .before .before .before .before .before .before .before .before .before .before .before .before .before .before .before .before .before .before .words16-258 .ensures), omega (arith, few-counters _ _ _ n (c .before .before .before .before .before .before .before .before .before .before .before .before .before .before .before .before .before .before .before .before .before .before .before .before .before .before .before .before .before .before .pre .0 .few), c .before .before .before .before .before .before .before .before .before .before .before .before .before .before .before .before .before .before .row-words32 .ensures .room)),
           (
-            mask-room _ _ _ _ _ _ _ _ (omega (arith, few-counters _ _ _ n (c .before .before .before .before .before .before .before .before .before .before .before .before .before .before .before .before .before .before .before .before .before .before .before .before .before .before .before .before .before .before .pre .0 .few))) (omega (arith, few-counters _ _ _ n (c .before .before .before .before .before .before .before .before .before .before .before .before .before .before .before .before .before .before .before .before .before .before .before .before .before .before .before .before .before .before .pre .0 .few))) (c .before .before .before .before .before .before .before .before .before .before .before .before .before .before .before .before .before .holder-masks .ensures) (c .before .before .before .before .before .before .before .before .before .before .before .before .before .before .before .before .counter-masks .ensures) (c .before .before .before .before .before .before .before .before .before .before .before .before .before .before .before .holder-masks2 .ensures) (c .before .before .before .before .before .before .before .before .before .before .before .before .before .before .counter-masks2 .ensures) (c .before .before .before .before .before .before .before .before .before .before .before .before .before .counter-masks3 .ensures),
+            mask-room _ _ _ _ _ _ _ _ _ (omega (arith, few-counters _ _ _ n (c .before .before .before .before .before .before .before .before .before .before .before .before .before .before .before .before .before .before .before .before .before .before .before .before .before .before .before .before .before .before .pre .0 .few))) (omega (arith, few-counters _ _ _ n (c .before .before .before .before .before .before .before .before .before .before .before .before .before .before .before .before .before .before .before .before .before .before .before .before .before .before .before .before .before .before .pre .0 .few))) (omega (arith, few-counters _ _ _ n (c .before .before .before .before .before .before .before .before .before .before .before .before .before .before .before .before .before .before .before .before .before .before .before .before .before .before .before .before .before .before .pre .0 .few))) (c .before .before .before .before .before .before .before .before .before .before .before .before .before .before .before .before .before .holder-masks .ensures) (c .before .before .before .before .before .before .before .before .before .before .before .before .before .before .before .before .counter-masks .ensures) (c .before .before .before .before .before .before .before .before .before .before .before .before .before .before .before .group-masks .ensures) (c .before .before .before .before .before .before .before .before .before .before .before .before .before .before .counter-masks2 .ensures) (c .before .before .before .before .before .before .before .before .before .before .before .before .before .counter-masks3 .ensures),
             (rule-room _ _ _ _ _ _ n (omega (arith, c .before .before .before .before .before .before .before .before .before .before .before .before .before .before .before .before .before .before .before .before .before .before .before .before .before .before .before .before .before .before .pre .0 .ready .limits .rows .1)) (omega (arith, few-counters _ _ _ n (c .before .before .before .before .before .before .before .before .before .before .before .before .before .before .before .before .before .before .before .before .before .before .before .before .before .before .before .before .before .before .pre .0 .few))) (omega arith) (c .before .before .before .before .before .before .before .before .before .before .before .before .words16-16384 .ensures) (c .before .before .before .before .before .before .before .before .before .before .before .words16-163842 .ensures), omega (arith, c .before .before .before .before .before .before .before .before .before .before .before .before .words16-16384 .ensures .room)),
           ),
         ),
@@ -95,7 +95,7 @@ all-limits-spec =
     row-words32-requires
     holder-masks-requires
     counter-masks-requires
-    holder-masks-requires-2
+    group-masks-requires
     counter-masks-requires-2
     counter-masks-requires-3
     words16-16384-requires

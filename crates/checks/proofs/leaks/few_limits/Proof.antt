@@ -19,8 +19,8 @@ words64-256-requires c κs = search needs
 words64-130-requires : tie.Need-words64-130-requires
 words64-130-requires c κs = search needs
 
-words64-256-requires-2 : tie.Need-words64-256-requires-2
-words64-256-requires-2 c κs = search needs
+words64-384-requires : tie.Need-words64-384-requires
+words64-384-requires c κs = search needs
 
 words64-130-requires-2 : tie.Need-words64-130-requires-2
 words64-130-requires-2 c κs = search needs
@@ -73,7 +73,7 @@ ceilings-on-requires c κs =
         (
           (bounds-room _ _ _ _ _ _ (c .before .before .before .before .before .before .before .before .before .before .before .before .before .before .before .before .before .before .before .before .before .before .before .before .before .before .before .before .before .before .pre .1 .1 .1) (omega (arith, c .before .before .before .before .before .before .before .before .before .before .before .before .before .before .before .before .before .before .before .before .before .before .before .before .before .before .before .before .before .before .pre .0 .ready .limits .ceilings)) (c .before .before .before .before .before .before .before .before .before .before .before .before .before .before .before .before .before .before .before .before .words16-2048 .ensures) (c .before .before .before .before .before .before .before .before .before .before .before .before .before .before .before .before .before .before .before .words16-258 .ensures), omega (arith, c .before .before .before .before .before .before .before .before .before .before .before .before .before .before .before .before .before .before .before .before .before .before .before .before .before .before .before .before .before .before .pre .1 .1 .0, c .before .before .before .before .before .before .before .before .before .before .before .before .before .before .before .before .before .before .words32-66 .ensures .room)),
           (
-            mask-room _ _ _ _ _ _ _ _ (omega (arith, c .before .before .before .before .before .before .before .before .before .before .before .before .before .before .before .before .before .before .before .before .before .before .before .before .before .before .before .before .before .before .pre .1 .1 .0)) (omega (arith, c .before .before .before .before .before .before .before .before .before .before .before .before .before .before .before .before .before .before .before .before .before .before .before .before .before .before .before .before .before .before .pre .1 .1 .0)) (c .before .before .before .before .before .before .before .before .before .before .before .before .before .before .before .before .before .words64-256 .ensures) (c .before .before .before .before .before .before .before .before .before .before .before .before .before .before .before .before .words64-130 .ensures) (c .before .before .before .before .before .before .before .before .before .before .before .before .before .before .before .words64-2562 .ensures) (c .before .before .before .before .before .before .before .before .before .before .before .before .before .before .words64-1302 .ensures) (c .before .before .before .before .before .before .before .before .before .before .before .before .before .words64-1303 .ensures),
+            mask-room _ _ _ _ _ _ _ _ _ (omega (arith, c .before .before .before .before .before .before .before .before .before .before .before .before .before .before .before .before .before .before .before .before .before .before .before .before .before .before .before .before .before .before .pre .1 .1 .0)) (omega (arith, c .before .before .before .before .before .before .before .before .before .before .before .before .before .before .before .before .before .before .before .before .before .before .before .before .before .before .before .before .before .before .pre .1 .1 .0)) (omega (arith, c .before .before .before .before .before .before .before .before .before .before .before .before .before .before .before .before .before .before .before .before .before .before .before .before .before .before .before .before .before .before .pre .1 .1 .0)) (c .before .before .before .before .before .before .before .before .before .before .before .before .before .before .before .before .before .words64-256 .ensures) (c .before .before .before .before .before .before .before .before .before .before .before .before .before .before .before .before .words64-130 .ensures) (c .before .before .before .before .before .before .before .before .before .before .before .before .before .before .before .words64-384 .ensures) (c .before .before .before .before .before .before .before .before .before .before .before .before .before .before .words64-1302 .ensures) (c .before .before .before .before .before .before .before .before .before .before .before .before .before .words64-1303 .ensures),
             (rule-room _ _ _ _ _ _ n (omega (arith, c .before .before .before .before .before .before .before .before .before .before .before .before .before .before .before .before .before .before .before .before .before .before .before .before .before .before .before .before .before .before .pre .0 .ready .limits .rows .1)) (omega (arith, c .before .before .before .before .before .before .before .before .before .before .before .before .before .before .before .before .before .before .before .before .before .before .before .before .before .before .before .before .before .before .pre .1 .1 .0)) (omega arith) (c .before .before .before .before .before .before .before .before .before .before .before .before .row-words16 .ensures) (c .before .before .before .before .before .before .before .before .before .before .before .row-words162 .ensures), omega (arith, c .before .before .before .before .before .before .before .before .before .before .before .before .row-words16 .ensures .room)),
           ),
         ),
@@ -95,7 +95,7 @@ few-limits-spec =
     words32-66-requires
     words64-256-requires
     words64-130-requires
-    words64-256-requires-2
+    words64-384-requires
     words64-130-requires-2
     words64-130-requires-3
     row-words16-requires

@@ -19,8 +19,8 @@ words64-1024-requires c κs = search needs
 words64-512-requires : tie.Need-words64-512-requires
 words64-512-requires c κs = search needs
 
-words64-1024-requires-2 : tie.Need-words64-1024-requires-2
-words64-1024-requires-2 c κs = search needs
+words64-1536-requires : tie.Need-words64-1536-requires
+words64-1536-requires c κs = search needs
 
 words64-512-requires-2 : tie.Need-words64-512-requires-2
 words64-512-requires-2 c κs = search needs
@@ -73,7 +73,7 @@ ceilings-on-requires c κs =
         (
           (bounds-room _ _ _ _ _ _ (c .before .before .before .before .before .before .before .before .before .before .before .before .before .before .before .before .before .before .before .before .before .before .before .before .before .before .before .before .before .before .pre .1 .1 .1) (omega (arith, c .before .before .before .before .before .before .before .before .before .before .before .before .before .before .before .before .before .before .before .before .before .before .before .before .before .before .before .before .before .before .pre .0 .ready .limits .ceilings)) (c .before .before .before .before .before .before .before .before .before .before .before .before .before .before .before .before .before .before .before .before .words16-16384 .ensures) (c .before .before .before .before .before .before .before .before .before .before .before .before .before .before .before .before .before .before .before .words16-258 .ensures), omega (arith, c .before .before .before .before .before .before .before .before .before .before .before .before .before .before .before .before .before .before .before .before .before .before .before .before .before .before .before .before .before .before .pre .1 .1 .0, c .before .before .before .before .before .before .before .before .before .before .before .before .before .before .before .before .before .before .words32-258 .ensures .room)),
           (
-            mask-room _ _ _ _ _ _ _ _ (omega (arith, c .before .before .before .before .before .before .before .before .before .before .before .before .before .before .before .before .before .before .before .before .before .before .before .before .before .before .before .before .before .before .pre .1 .1 .0)) (omega (arith, c .before .before .before .before .before .before .before .before .before .before .before .before .before .before .before .before .before .before .before .before .before .before .before .before .before .before .before .before .before .before .pre .1 .1 .0)) (c .before .before .before .before .before .before .before .before .before .before .before .before .before .before .before .before .before .words64-1024 .ensures) (c .before .before .before .before .before .before .before .before .before .before .before .before .before .before .before .before .words64-512 .ensures) (c .before .before .before .before .before .before .before .before .before .before .before .before .before .before .before .words64-10242 .ensures) (c .before .before .before .before .before .before .before .before .before .before .before .before .before .before .words64-5122 .ensures) (c .before .before .before .before .before .before .before .before .before .before .before .before .before .words64-5123 .ensures),
+            mask-room _ _ _ _ _ _ _ _ _ (omega (arith, c .before .before .before .before .before .before .before .before .before .before .before .before .before .before .before .before .before .before .before .before .before .before .before .before .before .before .before .before .before .before .pre .1 .1 .0)) (omega (arith, c .before .before .before .before .before .before .before .before .before .before .before .before .before .before .before .before .before .before .before .before .before .before .before .before .before .before .before .before .before .before .pre .1 .1 .0)) (omega (arith, c .before .before .before .before .before .before .before .before .before .before .before .before .before .before .before .before .before .before .before .before .before .before .before .before .before .before .before .before .before .before .pre .1 .1 .0)) (c .before .before .before .before .before .before .before .before .before .before .before .before .before .before .before .before .before .words64-1024 .ensures) (c .before .before .before .before .before .before .before .before .before .before .before .before .before .before .before .before .words64-512 .ensures) (c .before .before .before .before .before .before .before .before .before .before .before .before .before .before .before .words64-1536 .ensures) (c .before .before .before .before .before .before .before .before .before .before .before .before .before .before .words64-5122 .ensures) (c .before .before .before .before .before .before .before .before .before .before .before .before .before .words64-5123 .ensures),
             (rule-room _ _ _ _ _ _ n (omega (arith, c .before .before .before .before .before .before .before .before .before .before .before .before .before .before .before .before .before .before .before .before .before .before .before .before .before .before .before .before .before .before .pre .0 .ready .limits .rows .1)) (omega (arith, c .before .before .before .before .before .before .before .before .before .before .before .before .before .before .before .before .before .before .before .before .before .before .before .before .before .before .before .before .before .before .pre .1 .1 .0)) (omega arith) (c .before .before .before .before .before .before .before .before .before .before .before .before .words16-2048 .ensures) (c .before .before .before .before .before .before .before .before .before .before .before .words16-20482 .ensures), omega (arith, c .before .before .before .before .before .before .before .before .before .before .before .before .words16-2048 .ensures .room)),
           ),
         ),
@@ -95,7 +95,7 @@ more-limits-spec =
     words32-258-requires
     words64-1024-requires
     words64-512-requires
-    words64-1024-requires-2
+    words64-1536-requires
     words64-512-requires-2
     words64-512-requires-3
     words16-2048-requires
