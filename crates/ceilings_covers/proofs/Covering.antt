@@ -28,7 +28,7 @@ use Rattle.ceilings_masks.specs.Compared.{allows, most, exceeds, exceeds-by-one
 use Rattle.ceilings_masks.proofs.Turning.{more-as}
 use Rattle.steps.specs.Steps.{raised, limit-after}
 use Rattle.steps.proofs.Raising.{as-limit-below, stepped-decides}
-use Rattle.ceilings_covers.specs.Covers.{Beside, covers, passes, Left, Candidates, Raised, Exact, sure, Step-apart, reading, named}
+use Rattle.ceilings_covers.specs.Covers.{Beside, covers, moved, passes, Left, Candidates, Raised, Exact, sure, Step-apart, reading, named}
 use Rattle.ceilings_covers.proofs.Exceeding.{none-others, others-none, one-others, others-one, two-others, others-two}
 
 -- a limit that allows a count allows a lower one
@@ -205,6 +205,21 @@ module _ (limits : List ℕ) (ceilings n k : ℕ) where
   unfolding covers under passes
   pass-covers σ j h = all-intro 0 n _ (λ y low inside. h y inside)
 
+-- the ceilings that are left and hold one more where a step leads, by the code's values
+pub moved-none : (limits : List ℕ) (ceilings states k i to : ℕ) (left r : Mask) → (to ≡ i) ⊎ (states ≤ to) → ((j : ℕ) → has r j ≡ false) → (j : ℕ) → j < 256 → has r j ≡ moved limits ceilings states k i to left j
+unfolding moved
+moved-none limits ceilings states k i to left r e none j l =
+    none j ∙ ⊎-elim (λ z. rw (eq-eqb to i z)) (λ z. rw (le-ltb to states z) (shut (not (eqb to i)) (has left j && takes-more limits ceilings k to j))) e
+  where
+    shut : (a b : Bool) → false ≡ ((a && false) && b)
+    shut true b = refl
+    shut false b = refl
+
+pub moved-both : (limits : List ℕ) (ceilings states k i to : ℕ) (left more r : Mask) → (to ≡ i → ⊥) → to < states → ((j : ℕ) → j < 256 → has more j ≡ takes-more limits ceilings k to j) → ((j : ℕ) → has r j ≡ (has left j && has more j)) → (j : ℕ) → j < 256 → has r j ≡ moved limits ceilings states k i to left j
+unfolding moved
+moved-both limits ceilings states k i to left more r apart low is both j l =
+    both j ∙ rw (ne-eqb to i apart, lt-ltb to states low, is j l)
+
 -- by the code's values
 pub named-is : (σ : Step) (b j y : ℕ) → b ≡ j → y ≡ named σ j → y ≡ named σ b
 named-is σ b j y e h = rw e h
@@ -354,13 +369,11 @@ module _ (limits : List ℕ) (ceilings n k : ℕ) (σ : Step) where
   unfolding passes
   passes-lower j y a h le = allowed-lower (held limits ceilings j y) a _ h le
 
-  -- the candidates of a sure step cover: where it takes, where it adds, and elsewhere
-  pub exact-is : (left taken to r : Mask) → ceilings ≤ 256 → σ .kind ≤ 3 → Left limits ceilings n k (σ .from) left → ((σ .kind ≡ 1 → ⊥) → (j : ℕ) → has taken j ≡ true → has left j ≡ true) → Raised limits ceilings n k σ (σ .to) taken to → (2 ≤ σ .kind → Raised limits ceilings n k σ (σ .other) to r) → ((j : ℕ) → has r j ≡ true → has to j ≡ true) → Exact limits ceilings n k σ r
-  exact-is left taken to r few small l w a b s t j y low h inside =
+  -- A ceiling that is left and holds one more where a sure step adds covers: where the step takes, where it adds, and elsewhere.
+  pub exact-at : (left : Mask) (j : ℕ) → j < ceilings → σ .kind ≤ 3 → Left limits ceilings n k (σ .from) left → has left j ≡ true → (σ .to < n → takes-more limits ceilings k (σ .to) j ≡ true) → (2 ≤ σ .kind → σ .other < n → takes-more limits ceilings k (σ .other) j ≡ true) → sure σ ≡ true → (y : ℕ) → y < n → passes limits ceilings k j σ y ≡ true
+  exact-at left j low small l in-left a b t y inside =
       let u = sure-apart σ t in
       let counts : Marking = highest (held limits ceilings k) in
-      let in-to = s j h in
-      let in-left = w (u .quiet) j (a .within j in-to) in
       elim (ℕ-discrete y (σ .from)) [
         | yes e ↦
             let less = less-pass (eqb y (σ .from)) (counts y) (eq-eqb y (σ .from) e) in
@@ -369,18 +382,28 @@ module _ (limits : List ℕ) (ceilings n k : ℕ) (σ : Step) where
         | no d ↦ elim (ℕ-discrete y (σ .to)) [
           | yes e ↦
               passes-lower j y (counts y + 1)
-              (more-allows limits ceilings k y j (rw e (a .more j (omega arith) in-to (rw (← e) inside) (u .leaves) (takes-none σ (σ .to) (u .quiet)))))
+              (more-allows limits ceilings k y j (rw e (a (rw (← e) inside))))
               (fire-once σ counts y small (inr (adds-apart σ y (λ two z. u .not-to two (sym z ∙ e)))))
           | no f ↦ test (adds-other σ y)
               (λ g. let (two, e) = adds-elim σ y g in
               passes-lower j y (counts y + 1)
-              (more-allows limits ceilings k y j (rw e (b two .more j (omega arith) h (rw (← e) inside) (u .not-from two) (takes-none σ (σ .other) (u .quiet)))))
+              (more-allows limits ceilings k y j (rw e (b two (rw (← e) inside))))
               (fire-once σ counts y small (inl (ne-eqb y (σ .to) f))))
               (λ g. let less = less-fail (eqb y (σ .from)) (counts y) (ne-eqb y (σ .from) d) in
               let fewer = fire-fewer σ counts y small (ne-eqb y (σ .to) f) g in
               passes-lower j y (counts y) (fits-not limits ceilings n k j y (l .others j y low in-left inside d)) (omega (arith, less, fewer)))
         ]
       ]
+
+  -- so the candidates of a sure step cover
+  pub exact-is : (left taken to r : Mask) → ceilings ≤ 256 → σ .kind ≤ 3 → Left limits ceilings n k (σ .from) left → ((σ .kind ≡ 1 → ⊥) → (j : ℕ) → has taken j ≡ true → has left j ≡ true) → Raised limits ceilings n k σ (σ .to) taken to → (2 ≤ σ .kind → Raised limits ceilings n k σ (σ .other) to r) → ((j : ℕ) → has r j ≡ true → has to j ≡ true) → Exact limits ceilings n k σ r
+  exact-is left taken to r few small l w a b s t j y low h inside =
+      let u = sure-apart σ t in
+      let in-to = s j h in
+      exact-at left j low small l (w (u .quiet) j (a .within j in-to))
+      (λ z. a .more j (omega arith) in-to z (u .leaves) (takes-none σ (σ .to) (u .quiet)))
+      (λ two z. b two .more j (omega arith) h z (u .not-from two) (takes-none σ (σ .other) (u .quiet)))
+      t y inside
 
 not-not : (b : Bool) → not (not b) ≡ b
 not-not true = refl

@@ -10,6 +10,7 @@ use masks::and;
 use masks::below;
 use masks::is_none;
 use masks::load;
+use masks::none;
 use masks::or;
 use masks::without;
 use steps::Step;
@@ -36,6 +37,7 @@ ghost use Rattle.ceilings_covers.specs.Covers.{
   Raised,
   Exact,
   Step-apart,
+  moved,
   passes,
   sure,
   named,
@@ -111,6 +113,48 @@ fn one_more_at(
         );
     }
     load(more, y)
+}
+
+// Of the ceilings that hold the highest counts of ceiling k with one less at counter i, those that hold one more at the
+// state `to`; none where that is i, or none of the states.
+pub fn left_moved(
+    limits: &[u16],
+    ceilings: usize,
+    n: usize,
+    holders: &[u64],
+    unbounded: &[u64],
+    over: Over,
+    short: &[u64],
+    more: &[u64],
+    k: usize,
+    states: usize,
+    left: Mask,
+    i: usize,
+    to: usize,
+) -> Mask
+    requires { ⌜ Beside (now limits) ceilings n k (now holders) (now unbounded) over (now short) (now more) ⌝ }
+    requires { ⌜ states ≤ n ⌝ }
+    ensures { λ r. ⌜ ((j : ℕ) → j < 256 → has r j ≡ moved (now (limits .entry)) ceilings states k i to left j) ⌝ }
+{
+    if to == i {
+        return none();
+    }
+    if to >= states {
+        return none();
+    }
+    let raised = one_more_at(
+        limits,
+        ceilings,
+        n,
+        holders,
+        unbounded,
+        over,
+        short,
+        more,
+        k,
+        to,
+    );
+    and(left, raised)
 }
 
 // The candidates for a step, by the counters that it takes from.

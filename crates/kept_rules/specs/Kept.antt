@@ -13,7 +13,7 @@ use Rattle.model.specs.Tables.{Tables, state-at}
 use Rattle.model.specs.Rules.{state-rules}
 use Rattle.rules.specs.Listed.{State-rules, listed-rule}
 use Rattle.rules.specs.Derived.{Rule-room}
-use Rattle.state_rules.specs.Within.{only-reads}
+use Rattle.state_rules.specs.Within.{only-passing}
 use Rattle.kept_rules.specs.declared.Kept.{Kept}
 
 -- the first n words are the same
@@ -37,7 +37,7 @@ pub record Rules-at (p : Program) (t : Tables) (i : ℕ) (tos others : List ℕ)
       gather first end (λ j. listed-rule (kind (tag p (right (t .states) i))) i tos others j ∷ []) ≡
       state-rules p t i (state-at t i)
 
--- the same of all rules of state i, or of those that read nothing or a counter that passes
+-- the same of all rules of state i, or of those that have no letter or one that passes
 pub record Rules-asked (p : Program) (t : Tables) (f : ℕ → Bool) (i : ℕ) (tos others : List ℕ)
     (first end : ℕ) : Type 0 where
   pub order : first ≤ end
@@ -47,7 +47,7 @@ pub record Rules-asked (p : Program) (t : Tables) (f : ℕ → Bool) (i : ℕ) (
       (gather first end (λ j. listed-rule (kind (tag p (right (t .states) i))) i tos others j ∷ []) ≡
       state-rules p t i (state-at t i)) ⊎
       (gather first end (λ j. listed-rule (kind (tag p (right (t .states) i))) i tos others j ∷ []) ≡
-      only-reads f (state-rules p t i (state-at t i)))
+      only-passing f (state-rules p t i (state-at t i)))
 
 -- the rules of the states below e are kept: those of state i from word i of `first-at` up to the next, and those of
 -- state e will begin at `used`

@@ -13,7 +13,7 @@ ghost use Rattle.model.specs.Tables.{tables};
 ghost use Rattle.rules.specs.Derived.{Rule-tables, Rule-room};
 ghost use Rattle.bits.specs.Bits.{Row};
 ghost use Rattle.system_letters.specs.Letters.{letter-width};
-ghost use Rattle.state_rules.specs.Within.{Held-letters};
+ghost use Rattle.state_rules.specs.Within.{Asked-letters};
 ghost use Rattle.kept_rules.specs.Kept.{Same-below, Room-from, Rules-from, Rules-asked, Kept-rules};
 
 // Whether the rules of all states so far are kept, and up to where in the lists.
@@ -148,7 +148,7 @@ pub fn rules_again(
     requires { ⌜ Row (now within) (letter-width (program (now ws) s) (tables (now ws) s)) 0 ⌝ }
     requires { ⌜ Rule-room (now ws) s (now tos) (now others) ⌝ }
     ensures { λ r. ⌜ ((f : ℕ → Bool) → (kept .all ≡ false →
-        Held-letters (program (now (ws .entry)) s) (tables (now (ws .entry)) s) true (now (within .entry)) f) →
+        Asked-letters (program (now (ws .entry)) s) (tables (now (ws .entry)) s) true (now (within .entry)) f) →
         Rules-asked (program (now (ws .entry)) s) (tables (now (ws .entry)) s) f i (now (tos .exit))
         (now (others .exit)) (r .first) (r .end)) ⌝ }
     ensures { λ _. ⌜ Kept-rules (program (now (ws .entry)) s) (tables (now (ws .entry)) s) (s .states) kept

@@ -1,4 +1,4 @@
--- Of the rules that read a letter only those whose letter is asked for.
+-- Of the rules that read or put a letter only those whose letter is asked for.
 use Prim.Native.Nat.{ℕ, _+_, _≤_, _<_}
 use mathlib.Core.Path.{_≡_}
 use mathlib.Core.Bool.{Bool, true, false, not, _||_}
@@ -13,27 +13,28 @@ use Rattle.model.specs.Rules.{Effect, quiet, reads, puts, starts, Rule, state-r
 use Rattle.system_letters.specs.Letters.{letter-width}
 use Rattle.rules.specs.Listed.{listed-rules}
 
--- what the effect reads passes, or it reads nothing
-unfoldable pub reads-of : (ℕ → Bool) → Effect → Bool
-reads-of f quiet = true
-reads-of f (reads x) = f x
-reads-of f (puts x) = true
-reads-of f (starts x) = true
+-- the letter that the effect reads or puts passes, or it has none
+unfoldable pub letter-passes : (ℕ → Bool) → Effect → Bool
+letter-passes f quiet = true
+letter-passes f (reads x) = f x
+letter-passes f (puts x) = f x
+letter-passes f (starts x) = true
 
--- the rules that read nothing, or a counter that passes
-unfoldable pub only-reads : (ℕ → Bool) → List Rule → List Rule
-only-reads f [] = []
-only-reads f (ρ ∷ ρs) = elim (reads-of f (ρ .effect)) [ true ↦ ρ ∷ only-reads f ρs | false ↦ only-reads f ρs ]
+-- the rules that have no letter, or one that passes
+unfoldable pub only-passing : (ℕ → Bool) → List Rule → List Rule
+only-passing f [] = []
+only-passing f (ρ ∷ ρs) = elim (letter-passes f (ρ .effect)) [ true ↦ ρ ∷ only-passing f ρs | false ↦ only-passing f ρs ]
 
 -- the counters of the letters that pass are those that set 0 has; of all letters where not only these are asked for
-pub record Held-letters (p : Program) (t : Tables) (narrow : Bool) (within : List ℕ) (f : ℕ → Bool) : Type 0 where
+pub record Asked-letters (p : Program) (t : Tables) (narrow : Bool) (within : List ℕ) (f : ℕ → Bool) : Type 0 where
   pub has :
       (y : ℕ) → y < letter-count p t →
       (not narrow || member within (letter-width p t) 0 y) ≡ f (t .states .size + y)
 
--- the two lists hold the n rules of state i that read nothing, or a counter that passes
+-- the two lists hold the n rules of state i that have no letter, or one that passes
 pub record Rules-within (p : Program) (t : Tables) (f : ℕ → Bool) (i : ℕ) (tos others : List ℕ) (n : ℕ) : Type 0 where
   pub tos-room : n ≤ length tos
   pub others-room : n ≤ length others
   pub rules :
-      listed-rules (kind (tag p (right (t .states) i))) i tos others n ≡ only-reads f (state-rules p t i (state-at t i))
+      listed-rules (kind (tag p (right (t .states) i))) i tos others n ≡
+      only-passing f (state-rules p t i (state-at t i))

@@ -55,7 +55,7 @@ ghost use Rattle.lists.specs.Lists.{Starts};
 ghost use Rattle.system_letters.specs.Letters.{Class-letters, Letter-sets, letter-width};
 ghost use Rattle.lists.specs.Ready.{Ready};
 ghost use Rattle.state_rules.specs.Heads.{Plain, Letter-room, class-turn};
-ghost use Rattle.state_rules.specs.Within.{only-reads, Held-letters, Rules-within};
+ghost use Rattle.state_rules.specs.Within.{only-passing, Asked-letters, Rules-within};
 ghost use Rattle.pattern_letters.specs.Picked.{Match-tables};
 
 // The state at row r with the class and the return of state i.
@@ -259,7 +259,25 @@ fn letter_rules(
     e
 }
 
-// A send: each class that the target may be, by the letters of the message.
+// Takes from set 0 what the set `within` does not have, where only letters of that set are asked for. `part` is
+// scratch, of which nothing is promised afterwards.
+fn keep_within(narrow: bool, within: &[u64], words: usize, part: &mut [u64], found: &mut [u64])
+    requires { ⌜ Row (now within) words 0 ⌝ }
+    requires { ⌜ Row (now part) words 0 ⌝ }
+    requires { ⌜ Row (now found) words 0 ⌝ }
+    ensures { λ _. ⌜ ((y : ℕ) → y < 64 * words → member (now (found .exit)) words 0 y ≡
+        (member (now (found .entry)) words 0 y && (not narrow || member (now (within .entry)) words 0 y))) ⌝ }
+{
+    if !narrow {
+        return;
+    }
+    copy_into(part, found, words, 0, 0);
+    take_from(part, within, words, 0, 0);
+    take_from(found, part, words, 0, 0);
+}
+
+// A send: each class that the target may be, by the letters of the message; where that is asked for, of the set
+// `within` only.
 fn send_rules(
     ws: &[u16],
     s: Sizes,
@@ -270,6 +288,8 @@ fn send_rules(
     at: &[u16],
     i: usize,
     r: usize,
+    narrow: bool,
+    within: &[u64],
     tos: &mut [u16],
     others: &mut [u16],
 ) -> usize
@@ -283,9 +303,12 @@ fn send_rules(
     requires { ⌜ state-closed (program (now ws) s) (tables (now ws) s) (state-at (tables (now ws) s) i) ≡ true ⌝ }
     requires { ⌜ counter-count (program (now ws) s) (tables (now ws) s) ≤ maxCounters ⌝ }
     requires { ⌜ Rule-room (now ws) s (now tos) (now others) ⌝ }
-    ensures { λ n. ⌜ Added send (now (tos .entry)) (now (others .entry)) 0 (now (tos .exit)) (now (others .exit)) n
-        (λ e. state-rules (program (now (ws .entry)) s) (tables (now (ws .entry)) s) e
-        (state-at (tables (now (ws .entry)) s) i)) ⌝ }
+    requires { ⌜ Row (now within) (letter-width (program (now ws) s) (tables (now ws) s)) 0 ⌝ }
+    ensures { λ n. ⌜ ((f : ℕ → Bool) →
+        Asked-letters (program (now (ws .entry)) s) (tables (now (ws .entry)) s) narrow (now (within .entry)) f →
+        Added send (now (tos .entry)) (now (others .entry)) 0 (now (tos .exit)) (now (others .exit)) n
+        (λ e. only-passing f (state-rules (program (now (ws .entry)) s) (tables (now (ws .entry)) s) e
+        (state-at (tables (now (ws .entry)) s) i)))) ⌝ }
 {
     let target = num(ws, s, r + 1);
     let message = num(ws, s, r + 2);
@@ -293,6 +316,7 @@ fn send_rules(
     let from = word(flow_at, target);
     let to = word(flow_at, target + 1);
     let words = letter_width(ws, s, letter_at);
+    let mut aside = [0u64; LETTER_WORDS];
     let mut found = [0u64; LETTER_WORDS];
     let mut n = 0;
     for j in from..to {
@@ -301,6 +325,10 @@ fn send_rules(
             continue;
         }
         sent_letters(ws, s, flow_at, letter_at, letters, message, d, &mut found);
+        keep_within(narrow, within, words, &mut aside, &mut found);
+        if !meets(&found, &found, words, 0, 0) {
+            continue;
+        }
         n = letter_rules(s, letter_at, &found, words, d, next, n, tos, others);
     }
     n
@@ -352,23 +380,6 @@ fn case_rules(
     n
 }
 
-// Takes from set 0 what the set `within` does not have, where only letters of that set are asked for. `part` is
-// scratch, of which nothing is promised afterwards.
-fn keep_within(narrow: bool, within: &[u64], words: usize, part: &mut [u64], found: &mut [u64])
-    requires { ⌜ Row (now within) words 0 ⌝ }
-    requires { ⌜ Row (now part) words 0 ⌝ }
-    requires { ⌜ Row (now found) words 0 ⌝ }
-    ensures { λ _. ⌜ ((y : ℕ) → y < 64 * words → member (now (found .exit)) words 0 y ≡
-        (member (now (found .entry)) words 0 y && (not narrow || member (now (within .entry)) words 0 y))) ⌝ }
-{
-    if !narrow {
-        return;
-    }
-    copy_into(part, found, words, 0, 0);
-    take_from(part, within, words, 0, 0);
-    take_from(found, part, words, 0, 0);
-}
-
 // A receive: each branch that may match, by the letters that it takes; where that is asked for, of the set `within`
 // only.
 fn receive_rules(
@@ -402,9 +413,9 @@ fn receive_rules(
     requires { ⌜ Row (now within) (letter-width (program (now ws) s) (tables (now ws) s)) 0 ⌝ }
     requires { ⌜ Match-tables (now ws) s w (now fitting) (now names) ⌝ }
     ensures { λ n. ⌜ ((f : ℕ → Bool) →
-        Held-letters (program (now (ws .entry)) s) (tables (now (ws .entry)) s) narrow (now (within .entry)) f →
+        Asked-letters (program (now (ws .entry)) s) (tables (now (ws .entry)) s) narrow (now (within .entry)) f →
         Added receive (now (tos .entry)) (now (others .entry)) 0 (now (tos .exit)) (now (others .exit)) n
-        (λ e. only-reads f (state-rules (program (now (ws .entry)) s) (tables (now (ws .entry)) s) e
+        (λ e. only-passing f (state-rules (program (now (ws .entry)) s) (tables (now (ws .entry)) s) e
         (state-at (tables (now (ws .entry)) s) i)))) ⌝ }
 {
     let c = state_class(ws, s, i);
@@ -486,6 +497,8 @@ pub fn state_rules(
             at,
             i,
             r,
+            false,
+            letters,
             tos,
             others,
         ),
@@ -514,7 +527,8 @@ pub fn state_rules(
     }
 }
 
-// The rules of state i, but of those of a receive only the ones that read a letter of the set `within`.
+// The rules of state i, but of those of a receive or a send only the ones that read or put a letter of the set
+// `within`.
 pub fn rules_within(
     ws: &[u16],
     s: Sizes,
@@ -538,13 +552,46 @@ pub fn rules_within(
     requires { ⌜ Row (now within) (letter-width (program (now ws) s) (tables (now ws) s)) 0 ⌝ }
     requires { ⌜ Rule-room (now ws) s (now tos) (now others) ⌝ }
     ensures { λ n. ⌜ ((f : ℕ → Bool) →
-        Held-letters (program (now (ws .entry)) s) (tables (now (ws .entry)) s) true (now (within .entry)) f →
+        Asked-letters (program (now (ws .entry)) s) (tables (now (ws .entry)) s) true (now (within .entry)) f →
         Rules-within (program (now (ws .entry)) s) (tables (now (ws .entry)) s) f i (now (tos .exit))
         (now (others .exit)) n) ⌝ }
 {
     let row = state_location(ws, s, i);
-    if tag(ws, s, row) != TAG_RECEIVE {
-        return state_rules(
+    match tag(ws, s, row) {
+        TAG_SEND => send_rules(
+            ws,
+            s,
+            afters,
+            flow_at,
+            letter_at,
+            letters,
+            at,
+            i,
+            row,
+            true,
+            within,
+            tos,
+            others,
+        ),
+        TAG_RECEIVE => receive_rules(
+            ws,
+            s,
+            afters,
+            w,
+            fitting,
+            names,
+            letter_at,
+            letters,
+            branches,
+            at,
+            i,
+            row,
+            true,
+            within,
+            tos,
+            others,
+        ),
+        _ => state_rules(
             ws,
             s,
             afters,
@@ -559,24 +606,6 @@ pub fn rules_within(
             i,
             tos,
             others,
-        );
+        ),
     }
-    receive_rules(
-        ws,
-        s,
-        afters,
-        w,
-        fitting,
-        names,
-        letter_at,
-        letters,
-        branches,
-        at,
-        i,
-        row,
-        true,
-        within,
-        tos,
-        others,
-    )
 }

@@ -1,7 +1,8 @@
 use mathlib.Core.Path.{sym, _∙_, ap}
 use borrow.Author.Needs.{needs}
-use Rattle.model.specs.Rows.{tag}
-use Rattle.state_rules.proofs.Within.{unread-within, read-within}
+use Rattle.model.specs.Rows.{tag, kind, send, receive}
+use Rattle.state_rules.proofs.Done.{state-open}
+use Rattle.state_rules.proofs.Within.{plain-within, lettered-within}
 use Rattle.state_rules.proofs.rules_within.Statement.{statement}
 use Rattle.state_rules.proofs.rules_within.Tie as tie
 
@@ -11,8 +12,18 @@ state-location-requires c κs = c .before .before .before .before .before .befor
 tag-requires : tie.Need-tag-requires
 tag-requires c κs = c .before .before .before .before .before .before .before .before .before .before .before .before .before .pre .0 .ready .whole
 
+send-rules-requires : tie.Need-send-rules-requires
+send-rules-requires c κs =
+    let p = c .before .before .before .before .before .before .before .before .before .before .before .before .before .before .before .before .before .pre in
+    (p .0 .ready, (p .0 .ends, (p .0 .flow-starts, (p .0 .class-letters, (p .0 .letter-sets, ((p .1 .0, c .before .before .before .before .state-location .ensures), (sym (c .before .before .before .tag .ensures) ∙ c .before .before .match .keys1, (state-open (p .0 .ready) (c .before .before .before .before .before .before .before .before .before .before .before .before .before .before .before .before .before .args .i) (p .0 .closed) (p .1 .0), (p .0 .few, (p .1 .1 .1, p .1 .1 .0))))))))))
+
+receive-rules-requires : tie.Need-receive-rules-requires
+receive-rules-requires c κs =
+    let p = c .before .before .before .before .before .before .before .before .before .before .before .before .before .before .before .before .before .pre in
+    (p .0 .ready, (p .0 .ends, (p .0 .class-letters, (p .0 .letter-sets, (p .0 .reads, (p .0 .branch-bits, (sym (c .before .before .before .tag .ensures) ∙ c .before .before .match .keys2, ((p .1 .0, c .before .before .before .before .state-location .ensures), (p .1 .1 .1, (p .0 .few, (p .1 .1 .0, record { ready = p .0 .ready; name-width = p .0 .name-width; fitting-sets = p .0 .fitting-sets; name-heads = p .0 .name-heads })))))))))))
+
 state-rules-requires : tie.Need-state-rules-requires
-state-rules-requires c κs = (c .before .before .before .before .before .before .before .before .before .before .before .before .before .before .before .before .before .pre .0, (c .before .before .before .before .before .before .before .before .before .before .before .before .before .before .before .before .before .pre .1 .0, c .before .before .before .before .before .before .before .before .before .before .before .before .before .before .before .before .before .pre .1 .1 .1))
+state-rules-requires c κs = let p = c .before .before .before .before .before .before .before .before .before .before .before .before .before .before .before .before .before .pre in (p .0, (p .1 .0, p .1 .1 .1))
 
 same-length : tie.Need-same-length
 same-length c = search needs
@@ -21,12 +32,8 @@ same-length-2 : tie.Need-same-length-2
 same-length-2 c = search needs
 
 returns : tie.Need-returns
-returns c = λ f o. unread-within _ _ f _ _ (c .before .before .before .before .before .before .before .before .before .before .before .before .before .before .before .before .before .before .before .before .before .before .args .tos .now) (c .before .before .before .before .before .before .before .before .before .before .before .before .before .before .before .before .before .before .before .before .before .before .args .others .now) _ _ (λ e. c .before .before .before .before .before .before .before .if1 .taken (c .before .before .before .before .before .before .before .before .tag .ensures ∙ (ap (tag _) (c .before .before .before .before .before .before .before .before .before .state-location .ensures) ∙ e))) (c .before .before .before .before .state-rules .ensures)
-
-receive-rules-requires : tie.Need-receive-rules-requires
-receive-rules-requires c κs =
-    let p = c .before .before .before .before .before .before .before .before .before .before .before .before .before .before .before .before .before .pre in
-    (p .0 .ready, (p .0 .ends, (p .0 .class-letters, (p .0 .letter-sets, (p .0 .reads, (p .0 .branch-bits, (sym (c .before .before .before .tag .ensures) ∙ c .before .before .if1 .left, ((p .1 .0, c .before .before .before .before .state-location .ensures), (p .1 .1 .1, (p .0 .few, (p .1 .1 .0, record { ready = p .0 .ready; name-width = p .0 .name-width; fitting-sets = p .0 .fitting-sets; name-heads = p .0 .name-heads })))))))))))
+unfolding kind
+returns c = λ f o. lettered-within _ _ f _ _ (c .before .before .before .before .before .before .before .before .before .before .before .before .before .before .before .before .before .before .before .before .before .before .args .tos .now) (c .before .before .before .before .before .before .before .before .before .before .before .before .before .before .before .before .before .before .before .before .before .before .args .others .now) _ _ send (rw (ap (tag _) (sym (c .before .before .before .before .before .before .before .before .before .state-location .ensures)) ∙ (sym (c .before .before .before .before .before .before .before .before .tag .ensures) ∙ c .before .before .before .before .before .before .before .match .keys1))) (c .before .before .before .before .before .before .before .before .before .before .before .before .before .before .before .before .before .before .before .before .before .before .pre .1 .1 .1 .alike) (c .before .before .before .before .send-rules .ensures f o)
 
 same-length-3 : tie.Need-same-length-3
 same-length-3 c = search needs
@@ -35,7 +42,17 @@ same-length-4 : tie.Need-same-length-4
 same-length-4 c = search needs
 
 returns-2 : tie.Need-returns-2
-returns-2 c = λ f o. read-within _ _ f _ _ (c .before .before .before .before .before .before .before .before .before .before .before .before .before .before .before .before .before .before .before .before .before .before .args .tos .now) (c .before .before .before .before .before .before .before .before .before .before .before .before .before .before .before .before .before .before .before .before .before .before .args .others .now) _ _ (ap (tag _) (sym (c .before .before .before .before .before .before .before .before .before .state-location .ensures)) ∙ (sym (c .before .before .before .before .before .before .before .before .tag .ensures) ∙ c .before .before .before .before .before .before .before .if1 .left)) (c .before .before .before .before .before .before .before .before .before .before .before .before .before .before .before .before .before .before .before .before .before .before .pre .1 .1 .1 .alike) (c .before .before .before .before .receive-rules .ensures f o)
+unfolding kind
+returns-2 c = λ f o. lettered-within _ _ f _ _ (c .before .before .before .before .before .before .before .before .before .before .before .before .before .before .before .before .before .before .before .before .before .before .args .tos .now) (c .before .before .before .before .before .before .before .before .before .before .before .before .before .before .before .before .before .before .before .before .before .before .args .others .now) _ _ receive (rw (ap (tag _) (sym (c .before .before .before .before .before .before .before .before .before .state-location .ensures)) ∙ (sym (c .before .before .before .before .before .before .before .before .tag .ensures) ∙ c .before .before .before .before .before .before .before .match .keys2))) (c .before .before .before .before .before .before .before .before .before .before .before .before .before .before .before .before .before .before .before .before .before .before .pre .1 .1 .1 .alike) (c .before .before .before .before .receive-rules .ensures f o)
+
+same-length-5 : tie.Need-same-length-5
+same-length-5 c = search needs
+
+same-length-6 : tie.Need-same-length-6
+same-length-6 c = search needs
+
+returns-3 : tie.Need-returns-3
+returns-3 c = λ f o. plain-within _ _ f _ _ (c .before .before .before .before .before .before .before .before .before .before .before .before .before .before .before .before .before .before .before .before .before .before .args .tos .now) (c .before .before .before .before .before .before .before .before .before .before .before .before .before .before .before .before .before .before .before .before .before .before .args .others .now) _ _ (λ e. c .before .before .before .before .before .before .before .match .rest .0 .1 (c .before .before .before .before .before .before .before .before .tag .ensures ∙ (ap (tag _) (c .before .before .before .before .before .before .before .before .before .state-location .ensures) ∙ e))) (λ e. c .before .before .before .before .before .before .before .match .rest .1 (c .before .before .before .before .before .before .before .before .tag .ensures ∙ (ap (tag _) (c .before .before .before .before .before .before .before .before .before .state-location .ensures) ∙ e))) (c .before .before .before .before .state-rules .ensures)
 
 pub rules-within-spec : {M : Type 1} → statement M
 rules-within-spec =
@@ -43,11 +60,15 @@ rules-within-spec =
     (tie.spec
     state-location-requires
     tag-requires
+    send-rules-requires
+    receive-rules-requires
     state-rules-requires
     same-length
     same-length-2
     returns
-    receive-rules-requires
     same-length-3
     same-length-4
-    returns-2)
+    returns-2
+    same-length-5
+    same-length-6
+    returns-3)

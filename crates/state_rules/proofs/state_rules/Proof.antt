@@ -29,7 +29,7 @@ call-rules-requires : tie.Need-call-rules-requires
 call-rules-requires c κs = (c .before .before .before .before .before .before .before .before .before .before .before .before .before .before .before .pre .0 .ready, (c .before .before .before .before .before .before .before .before .before .before .before .before .before .before .before .pre .0 .flow-starts, ((c .before .before .before .before .before .before .before .before .before .before .before .before .before .before .before .pre .1 .0, c .before .before .before .state-location .ensures), ((sym (c .before .before .tag .ensures) ∙ c .before .match .keys2), c .before .before .before .before .before .before .before .before .before .before .before .before .before .before .before .pre .1 .1 .values))))
 
 send-rules-requires : tie.Need-send-rules-requires
-send-rules-requires c κs = (c .before .before .before .before .before .before .before .before .before .before .before .before .before .before .before .before .pre .0 .ready, (c .before .before .before .before .before .before .before .before .before .before .before .before .before .before .before .before .pre .0 .ends, (c .before .before .before .before .before .before .before .before .before .before .before .before .before .before .before .before .pre .0 .flow-starts, (c .before .before .before .before .before .before .before .before .before .before .before .before .before .before .before .before .pre .0 .class-letters, (c .before .before .before .before .before .before .before .before .before .before .before .before .before .before .before .before .pre .0 .letter-sets, ((c .before .before .before .before .before .before .before .before .before .before .before .before .before .before .before .before .pre .1 .0, c .before .before .before .before .state-location .ensures), ((sym (c .before .before .before .tag .ensures) ∙ c .before .before .match .keys3), (state-open (c .before .before .before .before .before .before .before .before .before .before .before .before .before .before .before .before .pre .0 .ready) (c .before .before .before .before .before .before .before .before .before .before .before .before .before .before .before .before .args .i) (c .before .before .before .before .before .before .before .before .before .before .before .before .before .before .before .before .pre .0 .closed) (c .before .before .before .before .before .before .before .before .before .before .before .before .before .before .before .before .pre .1 .0), (c .before .before .before .before .before .before .before .before .before .before .before .before .before .before .before .before .pre .0 .few, c .before .before .before .before .before .before .before .before .before .before .before .before .before .before .before .before .pre .1 .1)))))))))
+send-rules-requires c κs = (c .before .before .before .before .before .before .before .before .before .before .before .before .before .before .before .before .pre .0 .ready, (c .before .before .before .before .before .before .before .before .before .before .before .before .before .before .before .before .pre .0 .ends, (c .before .before .before .before .before .before .before .before .before .before .before .before .before .before .before .before .pre .0 .flow-starts, (c .before .before .before .before .before .before .before .before .before .before .before .before .before .before .before .before .pre .0 .class-letters, (c .before .before .before .before .before .before .before .before .before .before .before .before .before .before .before .before .pre .0 .letter-sets, ((c .before .before .before .before .before .before .before .before .before .before .before .before .before .before .before .before .pre .1 .0, c .before .before .before .before .state-location .ensures), ((sym (c .before .before .before .tag .ensures) ∙ c .before .before .match .keys3), (state-open (c .before .before .before .before .before .before .before .before .before .before .before .before .before .before .before .before .pre .0 .ready) (c .before .before .before .before .before .before .before .before .before .before .before .before .before .before .before .before .args .i) (c .before .before .before .before .before .before .before .before .before .before .before .before .before .before .before .before .pre .0 .closed) (c .before .before .before .before .before .before .before .before .before .before .before .before .before .before .before .before .pre .1 .0), (c .before .before .before .before .before .before .before .before .before .before .before .before .before .before .before .before .pre .0 .few, (c .before .before .before .before .before .before .before .before .before .before .before .before .before .before .before .before .pre .1 .1, letters-row (c .before .before .before .before .before .before .before .before .before .before .before .before .before .before .before .before .pre .0 .letter-sets)))))))))))
 
 spawn-rules-requires : tie.Need-spawn-rules-requires
 spawn-rules-requires c κs = (c .before .before .before .before .before .before .before .before .before .before .before .before .before .before .before .before .pre .0 .ready, (c .before .before .before .before .before .before .before .before .before .before .before .before .before .before .before .before .pre .0 .ends, (c .before .before .before .before .before .before .before .before .before .before .before .before .before .before .before .before .pre .0 .flow-starts, ((c .before .before .before .before .before .before .before .before .before .before .before .before .before .before .before .before .pre .1 .0, c .before .before .before .before .state-location .ensures), ((sym (c .before .before .before .tag .ensures) ∙ c .before .before .match .keys4), c .before .before .before .before .before .before .before .before .before .before .before .before .before .before .before .before .pre .1 .1)))))
@@ -65,7 +65,7 @@ same-length-4 c = search needs
 
 returns-3 : tie.Need-returns-3
 unfolding kind
-returns-3 c = loud-done (c .before .before .before .before .before .before .before .before .before .before .before .before .before .before .before .before .before .before .before .before .before .pre .0 .ready) (c .before .before .before .before .before .before .before .before .before .before .before .before .before .before .before .before .before .before .before .before .before .args .i) _ _ (c .before .before .before .before .before .before .before .before .before .state-location .ensures) _ (c .before .before .before .before .before .before .before .before .before .before .before .before .before .before .before .before .before .before .before .before .before .args .others .now) _ _ (c .before .before .before .before .before .before .before .before .before .before .before .before .before .before .before .before .before .before .before .before .before .pre .1 .1 .alike) send (rw (sym (c .before .before .before .before .before .before .before .before .tag .ensures) ∙ c .before .before .before .before .before .before .before .match .keys3)) (c .before .before .before .before .send-rules .ensures)
+returns-3 c = loud-done (c .before .before .before .before .before .before .before .before .before .before .before .before .before .before .before .before .before .before .before .before .before .pre .0 .ready) (c .before .before .before .before .before .before .before .before .before .before .before .before .before .before .before .before .before .before .before .before .before .args .i) _ _ (c .before .before .before .before .before .before .before .before .before .state-location .ensures) _ (c .before .before .before .before .before .before .before .before .before .before .before .before .before .before .before .before .before .before .before .before .before .args .others .now) _ _ (c .before .before .before .before .before .before .before .before .before .before .before .before .before .before .before .before .before .before .before .before .before .pre .1 .1 .alike) send (rw (sym (c .before .before .before .before .before .before .before .before .tag .ensures) ∙ c .before .before .before .before .before .before .before .match .keys3)) (added-same send _ _ 0 _ _ _ _ _ (c .before .before .before .before .send-rules .ensures (λ x. true) (record { has = λ y l. refl })) (λ e. all-pass _))
 
 same-length-5 : tie.Need-same-length-5
 same-length-5 c = search needs

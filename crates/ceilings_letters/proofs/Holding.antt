@@ -1,30 +1,29 @@
--- The letters that a ceiling holds, as a set that grows counter by counter; and that rules which read others lead nowhere.
+-- A set of letters that grows counter by counter; and that rules which lead out of nothing may be left out.
 use Prim.Native.Nat.{ℕ, _+_, _*_, _-_, _≤_, _<_}
 use native.Mathlib.Omega.{arith}
 use native.Mathlib.Decide.{ℕ-discrete}
 use mathlib.Core.Path.{_≡_, refl, sym, _∙_, ap}
 use mathlib.Core.Bool.{Bool, true, false, not, _&&_, _||_}
 use mathlib.Core.List.{List, [], _∷_, List·Memᴰ, List·Memᴰ·head, List·Memᴰ·tail}
-use lib.Dec.{eqb, ltb, leb}
-use borrow.Author.Tests.{lt-ltb, le-ltb, eq-eqb, ne-eqb, eqb-true, ltb-true, ltb-false, not-false}
-use Rattle.model.proofs.Logic.{test, true-false}
+use lib.Dec.{ltb}
+use borrow.Author.Tests.{lt-ltb, le-ltb, eq-eqb, ne-eqb, ltb-true, ltb-false}
+use Rattle.model.proofs.Logic.{test}
 use Rattle.bits.specs.Bits.{member, Put, Set-is}
 use Rattle.model.specs.declared.Sizes.{Sizes}
 use Rattle.model.specs.Words.{columns}
 use Rattle.model.specs.Rows.{program}
 use Rattle.model.specs.Tables.{tables, entries}
 use Rattle.model.specs.Counters.{counter-count}
-use Rattle.model.specs.Rules.{Effect, quiet, reads, puts, starts, Rule}
-use Rattle.model.specs.Markings.{Marking, readable, usable, fire}
-use Rattle.model.specs.Ceilings.{Ceilings, highest, leads-out, under-some}
+use Rattle.model.specs.Rules.{Rule}
+use Rattle.model.specs.Markings.{Marking, usable, fire}
+use Rattle.model.specs.Ceilings.{Ceilings, leads-out, under-some}
 use Rattle.model.specs.Limits.{maxCounters}
 use lib.ListN.{length}
 use Rattle.bits.specs.Bits.{Row}
 use Rattle.system_letters.specs.Letters.{letter-width}
-use Rattle.ceilings.specs.Table.{held}
-use Rattle.ceilings_form.proofs.Limited.{highest-limit}
-use Rattle.state_rules.specs.Within.{reads-of, only-reads, Held-letters}
-use Rattle.ceilings_leaks.specs.Leaks.{Letters-room}
+use Rattle.state_rules.specs.Within.{letter-passes, only-passing, Asked-letters}
+use Rattle.ceilings_groups.specs.Groups.{escapes}
+use Rattle.ceilings_letters.specs.Letters.{Letters-room}
 
 -- of the counters behind the states those below x that pass are in the set, and no other
 abbrev pub Held-below : ℕ → ℕ → (ℕ → Bool) → ℕ → List ℕ → Type 0
@@ -80,62 +79,36 @@ module _ (states words : ℕ) (f : ℕ → Bool) where
   pub held-all : (n x : ℕ) (within : List ℕ) → n ≤ x → n ≤ states + 64 * words → Held-below states words f x within → (y : ℕ) → states + y < n → member within words 0 y ≡ f (states + y)
   held-all n x within upto room h y l = h y (omega arith) ∙ rw (lt-ltb (states + y) x (omega arith))
 
--- ceiling k holds counter x
-abbrev pub is-held : List ℕ → ℕ → ℕ → ℕ → Bool
-is-held limits ceilings k x = not (eqb (held limits ceilings k x) 0)
-
 pub letters-ready : (ws : List ℕ) (s : Sizes) (n k words : ℕ) (limits within : List ℕ) → n ≡ counter-count (program ws s) (tables ws s) → counter-count (program ws s) (tables ws s) ≤ maxCounters → words ≡ letter-width (program ws s) (tables ws s) → k < s .ceilings → n * s .ceilings ≤ length limits → Row within (letter-width (program ws s) (tables ws s)) 0 → Letters-room s n k words limits within
 unfolding counter-count letter-width tables entries columns
 letters-ready ws s n k words limits within counted few wide low room row =
     record { ceiling = low; table = room; few = omega arith; bits = rw wide (omega arith); row = rw wide row }
 
--- the set of them, as the rules of a state ask for it
-pub letters-held : (ws : List ℕ) (s : Sizes) (n : ℕ) (limits : List ℕ) (words k k₀ : ℕ) (within : List ℕ) (all : Bool) → n ≡ counter-count (program ws s) (tables ws s) → words ≡ letter-width (program ws s) (tables ws s) → k ≡ k₀ → (not all ≡ true → (y : ℕ) → s .states + y < n → member within words 0 y ≡ is-held limits (s .ceilings) k₀ (s .states + y)) → all ≡ false → Held-letters (program ws s) (tables ws s) true within (is-held limits (s .ceilings) k)
+-- the set of letters that pass, as the rules of a state ask for it
+pub letters-asked : (ws : List ℕ) (s : Sizes) (n words : ℕ) (asked : List ℕ) (f : ℕ → Bool) → n ≡ counter-count (program ws s) (tables ws s) → words ≡ letter-width (program ws s) (tables ws s) → ((y : ℕ) → s .states + y < n → member asked words 0 y ≡ f (s .states + y)) → Asked-letters (program ws s) (tables ws s) true asked f
 unfolding counter-count tables entries columns
-letters-held ws s n limits words k k₀ within all counted wide same h none =
-    record { has = λ y l. rw (← wide, same) (h (ap not none) y (rw counted (omega arith))) }
+letters-asked ws s n words asked f counted wide h =
+    record { has = λ y l. rw (← wide) (h y (rw counted (omega arith))) }
 
 member-first : {ρ σ : Rule} {ρs σs : List Rule} → (List·Memᴰ ρ ρs → List·Memᴰ ρ σs) → List·Memᴰ ρ (σ ∷ ρs) → List·Memᴰ ρ (σ ∷ σs)
 member-first g (List·Memᴰ·head e) = List·Memᴰ·head e
 member-first g (List·Memᴰ·tail j) = List·Memᴰ·tail (g j)
 
-module _ (limits : List ℕ) (ceilings k : ℕ) where
-  abbrev f : ℕ → Bool
-  f = is-held limits ceilings k
+module _ (f : ℕ → Bool) where
+  -- rules that are left out and lead out of nothing make no difference
+  pub leads-asked : (bs : Ceilings) (m : Marking) (ρs : List Rule) → ((ρ : Rule) → List·Memᴰ ρ ρs → letter-passes f (ρ .effect) ≡ false → escapes bs ρ m ≡ false) → leads-out bs (only-passing f ρs) m ≡ leads-out bs ρs m
+  unfolding leads-out only-passing escapes
+  leads-asked bs m [] h = refl
+  leads-asked bs m (ρ ∷ ρs) h =
+      let rest = leads-asked bs m ρs (λ σ w. h σ (List·Memᴰ·tail w)) in
+      test (letter-passes f (ρ .effect))
+      (λ z. rw (only-passing, z) (ap (λ b. usable ρ m && not (under-some bs (fire ρ m)) || b) rest))
+      (λ z. rw (only-passing, z) (rest ∙ sym (ap (λ b. b || leads-out bs ρs m) (h ρ (List·Memᴰ·head refl) z))))
 
-  abbrev m : Marking
-  m = highest (held limits ceilings k)
-
-  -- a rule that reads what the ceiling does not hold can't be used at its highest counts
-  unreadable : (e : Effect) → reads-of f e ≡ false → readable e m ≡ false
-  unfolding reads-of readable
-  unreadable quiet z = absurd (true-false refl z)
-  unreadable (reads x) z =
-      let none : highest (held limits ceilings k) x ≡ 0 = sym (highest-limit (held limits ceilings k) x 0 (sym (eqb-true _ 0 (not-false _ z))) (λ w. omega arith)) in
-      rw none
-  unreadable (puts x) z = absurd (true-false refl z)
-  unreadable (starts x) z = absurd (true-false refl z)
-
-  unusable : (ρ : Rule) → reads-of f (ρ .effect) ≡ false → (b c : Bool) → (usable ρ m && b || c) ≡ c
-  unfolding usable
-  unusable ρ z b c = rw (unreadable (ρ .effect) z) (none (leb 1 (m (ρ .from))) b c)
-    where
-      none : (a b c : Bool) → ((a && false) && b || c) ≡ c
-      none true b c = refl
-      none false b c = refl
-
-  pub leads-held : (bs : Ceilings) (ρs : List Rule) → leads-out bs (only-reads f ρs) m ≡ leads-out bs ρs m
-  unfolding leads-out only-reads
-  leads-held bs [] = refl
-  leads-held bs (ρ ∷ ρs) =
-      test (reads-of f (ρ .effect))
-      (λ z. rw (only-reads, z) (ap (λ b. usable ρ m && not (under-some bs (fire ρ m)) || b) (leads-held bs ρs)))
-      (λ z. rw (only-reads, z) (leads-held bs ρs ∙ sym (unusable ρ z _ _)))
-
-  pub held-member : (ρ : Rule) (ρs : List Rule) → List·Memᴰ ρ (only-reads f ρs) → List·Memᴰ ρ ρs
-  unfolding only-reads
-  held-member ρ [] i = i
-  held-member ρ (σ ∷ σs) i =
-      test (reads-of f (σ .effect))
-      (λ z. member-first (held-member ρ σs) (rw (only-reads, z) at i))
-      (λ z. List·Memᴰ·tail (held-member ρ σs (rw (only-reads, z) at i)))
+  pub asked-member : (ρ : Rule) (ρs : List Rule) → List·Memᴰ ρ (only-passing f ρs) → List·Memᴰ ρ ρs
+  unfolding only-passing
+  asked-member ρ [] i = i
+  asked-member ρ (σ ∷ σs) i =
+      test (letter-passes f (σ .effect))
+      (λ z. member-first (asked-member ρ σs) (rw (only-passing, z) at i))
+      (λ z. List·Memᴰ·tail (asked-member ρ σs (rw (only-passing, z) at i)))

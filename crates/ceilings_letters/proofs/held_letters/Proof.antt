@@ -9,9 +9,9 @@ use borrow.Author.Tests.{eq-eqb, ne-eqb, not-true}
 use Rattle.model.proofs.Logic.{true-false}
 use Rattle.ceilings.specs.Table.{held}
 use Rattle.ceilings.proofs.Cells.{row-in}
-use Rattle.ceilings_leaks.proofs.Holding.{Held-below, held-none, held-skip, held-put, held-all}
-use Rattle.ceilings_leaks.proofs.held_letters.Statement.{statement}
-use Rattle.ceilings_leaks.proofs.held_letters.Tie as tie
+use Rattle.ceilings_letters.proofs.Holding.{Held-below, held-none, held-skip, held-put, held-all}
+use Rattle.ceilings_letters.proofs.held_letters.Statement.{statement}
+use Rattle.ceilings_letters.proofs.held_letters.Tie as tie
 
 abbrev Inv-loop : tie.InvT-loop
 Inv-loop asked s n limits k words within₀ x₀ within x = Held-below (s .states) words (λ z. not (eqb (held limits (s .ceilings) k z) 0)) x within × (length within ≡ length within₀) × (s .states ≤ x)
