@@ -1,4 +1,3 @@
-pub mod Entries
 pub mod Lessening
 pub mod Fitting
 pub mod Keeping

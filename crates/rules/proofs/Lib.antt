@@ -2,3 +2,4 @@ pub mod States
 pub mod Gather
 pub mod Adding
 pub mod Stepped
+pub mod Entries

@@ -22,8 +22,8 @@ use Rattle.lists.specs.Ready.{Ready}
 use Rattle.rules.specs.Listed.{kind-effect, State-rules}
 use Rattle.rules.specs.Added.{Added}
 use Rattle.rules.proofs.Adding.{added-alike, state-added, state-quiet}
-use Rattle.state_rules.specs.Heads.{Plain}
-use Rattle.state_rules.proofs.Heads.{here}
+use Rattle.plain_rules.specs.Heads.{Plain}
+use Rattle.plain_rules.proofs.Heads.{here}
 
 module _ {ws : List ℕ} {s : Sizes} (h : Ready ws s) where
   abbrev p : Program

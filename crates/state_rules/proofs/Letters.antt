@@ -28,8 +28,8 @@ use Rattle.system_letters.proofs.Classes.{before-most, before-rises, class-ther
 use Rattle.system_letters.proofs.Mailed.{key-told}
 use Rattle.rules.proofs.Gather.{gather-part, gather-from}
 use Rattle.pattern_letters.proofs.Lessening.{read-allowed}
+use Rattle.plain_rules.proofs.Heads.{only-no, skipped, kept}
 use Rattle.state_rules.specs.Heads.{letter-rules, letter-turn, class-turn, Letter-room}
-use Rattle.state_rules.proofs.Heads.{only-no, skipped, kept}
 
 module _ {ws : List ℕ} {s : Sizes} (h : Ready ws s) where
   abbrev p : Program

@@ -1,4 +1,3 @@
-pub mod Heads
 pub mod Letters
 pub mod Branches
 pub mod Within

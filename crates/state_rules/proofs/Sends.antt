@@ -32,9 +32,9 @@ use Rattle.system_letters.proofs.Classes.{before-upto}
 use Rattle.rules.specs.Derived.{Rule-room}
 use Rattle.rules.specs.Listed.{kind-effect}
 use Rattle.rules.proofs.Gather.{each-range}
-use Rattle.pattern_letters.proofs.Entries.{entry-in}
+use Rattle.rules.proofs.Entries.{entry-in}
+use Rattle.plain_rules.proofs.Heads.{value-from}
 use Rattle.state_rules.specs.Heads.{letter-rules, class-turn, send-turn, Letter-room}
-use Rattle.state_rules.proofs.Heads.{value-from}
 use Rattle.state_rules.proofs.Letters.{class-range, class-order, letters-ruled, sent-there, letter-room}
 
 module _ {ws : List ℕ} {s : Sizes} (h : Ready ws s) where

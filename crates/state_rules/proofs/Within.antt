@@ -26,7 +26,7 @@ use Rattle.rules.proofs.Gather.{gather-same, gather-none}
 use Rattle.rules.proofs.Adding.{listed-none}
 use Rattle.state_rules.specs.Heads.{letter-turn, class-turn}
 use Rattle.state_rules.specs.Within.{letter-passes, only-passing, Asked-letters, Rules-within}
-use Rattle.state_rules.proofs.Heads.{only-no}
+use Rattle.plain_rules.proofs.Heads.{only-no}
 use Rattle.state_rules.proofs.Letters.{class-order}
 
 -- all rules pass where every counter does

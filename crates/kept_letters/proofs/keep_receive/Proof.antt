@@ -7,8 +7,9 @@ use Rattle.model.specs.Rows.{program}
 use Rattle.model.specs.Tables.{tables}
 use Rattle.system_letters.specs.Letters.{Letter-sets}
 use Rattle.rules.specs.Derived.{Reads}
-use Rattle.state_rules.proofs.Heads.{tag-head, here-low}
-use Rattle.state_rules.proofs.Branches.{Branch-at, branch-begin, branch-here, branch-next, branch-pattern, receive-count, receive-rows, receive-class, one-run}
+use Rattle.plain_rules.proofs.Heads.{tag-head, here-low}
+use Rattle.plain_rules.proofs.Branches.{Branch-at, branch-begin, branch-here, branch-next, one-run}
+use Rattle.state_rules.proofs.Branches.{branch-pattern, receive-count, receive-rows, receive-class}
 use borrow.Author.Needs.{needs}
 use Rattle.kept_letters.proofs.keep_receive.Statement.{statement}
 use Rattle.kept_letters.proofs.keep_receive.Tie as tie

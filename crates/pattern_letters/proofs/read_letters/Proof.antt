@@ -11,7 +11,7 @@ use Rattle.model.specs.Rules.{letters-read}
 use Rattle.lists.proofs.Facts.{mail-rises}
 use Rattle.system_letters.specs.Letters.{Found}
 use Rattle.system_letters.proofs.Tables.{head-low}
-use Rattle.pattern_letters.proofs.Entries.{mail-order, mail-low, mail-class}
+use Rattle.rules.proofs.Entries.{mail-order, mail-low, mail-class}
 use Rattle.pattern_letters.proofs.Lessening.{row-kept, wide-row, found-start, found-passed, found-hollow, found-read, found-end, entry-room, entry-number}
 use borrow.Author.Needs.{needs}
 use Rattle.pattern_letters.proofs.read_letters.Statement.{statement}

@@ -10,7 +10,7 @@ use Rattle.model.specs.Counters.{letters-allowed}
 use Rattle.lists.proofs.Facts.{mail-usable, flow-rises}
 use Rattle.lists.proofs.Told.{mail-placed}
 use Rattle.system_letters.specs.Letters.{Found}
-use Rattle.pattern_letters.proofs.Entries.{name-starts, flow-order, mailed-at}
+use Rattle.rules.proofs.Entries.{name-starts, flow-order, mailed-at}
 use Rattle.pattern_letters.proofs.Lessening.{found-start, found-sent, found-end, entry-room, entry-number, wide-row}
 use borrow.Author.Needs.{needs}
 use Rattle.pattern_letters.proofs.sent_letters.Statement.{statement}

@@ -12,9 +12,10 @@ use Rattle.rules.specs.Added.{Added}
 use Rattle.rules.proofs.Adding.{added-none, added-same, added-kept, added-more}
 use Rattle.state_rules.specs.Heads.{receive-turn}
 use Rattle.state_rules.specs.Within.{only-passing, Asked-letters}
-use Rattle.state_rules.proofs.Heads.{tag-head, here-low}
+use Rattle.plain_rules.proofs.Heads.{tag-head, here-low}
+use Rattle.plain_rules.proofs.Branches.{Branch-at, branch-begin, branch-here, branch-next, one-run}
 use Rattle.state_rules.proofs.Letters.{set-room}
-use Rattle.state_rules.proofs.Branches.{Branch-at, branch-begin, branch-here, branch-next, branch-pattern, receive-count, receive-rows, receive-gathered, receive-kept, receive-skipped, receive-room, receive-most, most-kept, receive-class, one-run}
+use Rattle.state_rules.proofs.Branches.{branch-pattern, receive-count, receive-rows, receive-gathered, receive-kept, receive-skipped, receive-room, receive-most, most-kept, receive-class}
 use Rattle.state_rules.proofs.Within.{only-gather, class-within, class-none, skipped-rules, receive-passes}
 use borrow.Author.Needs.{needs}
 use Rattle.state_rules.proofs.receive_rules.Statement.{statement}

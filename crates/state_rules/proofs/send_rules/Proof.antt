@@ -10,10 +10,10 @@ use Rattle.model.specs.Tables.{tables}
 use Rattle.lists.specs.Lists.{range-from, range-to}
 use Rattle.rules.specs.Added.{Added}
 use Rattle.rules.proofs.Adding.{added-none, added-same, added-kept, added-more}
-use Rattle.pattern_letters.proofs.Entries.{name-starts, flow-order}
+use Rattle.rules.proofs.Entries.{name-starts, flow-order}
 use Rattle.state_rules.specs.Heads.{send-turn}
 use Rattle.state_rules.specs.Within.{only-passing, Asked-letters}
-use Rattle.state_rules.proofs.Heads.{tag-head, here-low, send-low}
+use Rattle.plain_rules.proofs.Heads.{tag-head, here-low, send-low}
 use Rattle.state_rules.proofs.Letters.{set-room}
 use Rattle.state_rules.proofs.Sends.{class-low, sent-mailed, send-skipped, send-kept, send-room, send-gathered, later-value}
 use Rattle.state_rules.proofs.Within.{only-gather, class-within, class-none, skipped-rules, send-passes}

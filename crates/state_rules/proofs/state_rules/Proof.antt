@@ -6,7 +6,7 @@ use Rattle.model.specs.Rows.{program, tag, give, call, send, spawn, case, recei
 use Rattle.rules.specs.Listed.{kind-effect}
 use Rattle.rules.proofs.States.{state-head}
 use Rattle.state_rules.proofs.Done.{state-open, quiet-done, loud-done, plain-done}
-use Rattle.state_rules.specs.Heads.{Plain}
+use Rattle.plain_rules.specs.Heads.{Plain}
 use Rattle.rules.proofs.Adding.{added-same}
 use Rattle.state_rules.proofs.Within.{all-pass, letters-row}
 use Rattle.state_rules.proofs.state_rules.Statement.{statement}

@@ -1,8 +1,8 @@
 use native.Mathlib.Omega.{arith}
 use borrow.Author.Needs.{needs}
 use Rattle.rules.proofs.States.{index-small}
-use Rattle.state_rules.proofs.onto.Statement.{statement}
-use Rattle.state_rules.proofs.onto.Tie as tie
+use Rattle.plain_rules.proofs.onto.Statement.{statement}
+use Rattle.plain_rules.proofs.onto.Tie as tie
 
 onward-requires : tie.Need-onward-requires
 onward-requires c κs = search needs

@@ -3,51 +3,21 @@ use Prim.Native.Nat.{ℕ, _+_, _≤_, _<_}
 use native.Mathlib.Decide.{decLt}
 use native.Mathlib.Omega.{arith}
 use mathlib.Core.Path.{_≡_, sym, _∙_}
-use mathlib.Core.Bool.{Bool, true, false}
+use mathlib.Core.Bool.{true}
 use mathlib.Core.List.{List, [], _∷_}
-use lib.Dec.{eqb}
 use lib.ListN.{getD}
-use borrow.Author.Tests.{eqb-true, eq-eqb}
 use Rattle.model.specs.declared.Sizes.{Sizes}
-use Rattle.model.specs.Index.{any}
 use Rattle.model.specs.Words.{Columns, left, right, columns}
 use Rattle.model.specs.Rows.{Program, program}
-use Rattle.model.specs.Tables.{Tables, tables, entries, has, each, some-of}
+use Rattle.model.specs.Tables.{Tables, tables, entries, has, each}
 use Rattle.model.specs.Wanted.{Member}
-use Rattle.model.proofs.Logic.{and-left, and-right, and-intro}
-use Rattle.model.proofs.Index.{any-end, any-hit, any-miss, any-intro, any-elim}
 use Rattle.model.proofs.Exact.Members.{has-iff}
-use Rattle.bits.proofs.Loops.{both}
 use Rattle.lists.specs.Lists.{Ascending, place, range-from, range-to, Starts}
 use Rattle.lists.specs.Ready.{Ready}
 use Rattle.lists.proofs.Facts.{flow-rises, mail-rises}
-use Rattle.lists.proofs.Rising.{heads-before, heads-within, heads-behind, begins-before, begins-within, begins-behind, begins-order, place-upto}
-use Rattle.values.proofs.Names.{flow-upto, mail-upto}
+use Rattle.lists.proofs.Rising.{heads-before, heads-within, heads-behind, begins-within, begins-order, place-upto}
+use Rattle.values.proofs.Names.{mail-upto}
 use Rattle.values.proofs.Members.{each-at}
-
-some-elim : (c : Columns) (a : ℕ) (f : ℕ → Bool) → some-of c a f ≡ true → (j : ℕ) × (j < c .size) × (left c j ≡ a) × (f (right c j) ≡ true)
-unfolding some-of
-some-elim c a f e =
-    let (j, w, z) = any-elim 0 (c .size) _ e in
-    (j, w .1, eqb-true (left c j) a (and-left (eqb (left c j) a) (f (right c j)) z), and-right (eqb (left c j) a) (f (right c j)) z)
-
-some-intro : (c : Columns) (a j : ℕ) (f : ℕ → Bool) → j < c .size → left c j ≡ a → f (right c j) ≡ true → some-of c a f ≡ true
-unfolding some-of
-some-intro c a j f l same e = any-intro 0 (c .size) j _ (omega arith) l (and-intro (eqb (left c j) a) (f (right c j)) (eq-eqb (left c j) a same) e)
-
-some-range : (c : Columns) (a : ℕ) (f : ℕ → Bool) → Ascending c [] → some-of c a f ≡ any (range-from c a) (range-to c a) (λ j. f (right c j))
-unfolding range-from range-to
-some-range c a f rising = both (some-of c a f) (any (range-from c a) (range-to c a) (λ j. f (right c j)))
-    (λ h. let (j, l, same, z) = some-elim c a f h in
-    elim (decLt j (range-from c a)) [
-      | yes m ↦ absurd (begins-before c [] a j m same)
-      | no m ↦ elim (decLt j (range-to c a)) [
-        | yes k ↦ any-intro (range-from c a) (range-to c a) j (λ i. f (right c i)) (omega arith) k z
-        | no k ↦ absurd (begins-behind c [] a rising j (omega arith) l same)
-      ]
-    ])
-    (λ h. let (j, b, z) = any-elim (range-from c a) (range-to c a) (λ i. f (right c i)) h in
-    some-intro c a j f (let y = place-upto c [] ((a + 1) ∷ 0 ∷ 0 ∷ []) in omega (arith, b .1)) (begins-within c [] a rising j (b .0) (b .1)) z)
 
 -- a pair that is there stands at its place
 placed : (c : Columns) → Ascending c [] → (a b j : ℕ) → j ≡ place c [] (a ∷ b ∷ 0 ∷ []) → has c a b ≡ true → (j < c .size) × (left c j ≡ a) × (right c j ≡ b)
@@ -90,14 +60,6 @@ module _ {ws : List ℕ} {s : Sizes} (h : Ready ws s) where
       let mem : Member (t .flow) m v = record { at = i; below = y; first = x; second = sym same } in
       placed (t .mail) (mail-rises h) d v j at (each-at (t .flow) m (has (t .mail) d) all v mem)
 
-  module _ (a from to : ℕ) (e : from ≡ range-from (t .flow) a) (f : to ≡ range-to (t .flow) a) where
-    pub flow-range : (g : ℕ → Bool) → some-of (t .flow) a g ≡ any from to (λ j. g (right (t .flow) j))
-    flow-range g = rw (e, f) (some-range (t .flow) a g (flow-rises h))
-
-    pub flow-low : (j v : ℕ) → j < to → v ≡ right (t .flow) j → v ≤ s .rows
-    unfolding program columns tables entries
-    flow-low j v l same = omega (arith, flow-upto h j (let y = flow-order a from to e f in omega arith))
-
   -- the mail of a class
   module _ (c from to : ℕ) (e : from ≡ range-from (t .mail) c) (f : to ≡ range-to (t .mail) c) where
     pub mail-order : (from ≤ to) × (to ≤ s .mails)
@@ -111,14 +73,3 @@ module _ {ws : List ℕ} {s : Sizes} (h : Ready ws s) where
     pub mail-class : (j : ℕ) → from ≤ j → j < to → left (t .mail) j ≡ c
     unfolding range-from range-to
     mail-class j a b = begins-within (t .mail) [] c (mail-rises h) j (omega arith) (omega arith)
-
--- the entries from j on, turn by turn
-module _ (j to : ℕ) (f : ℕ → Bool) (x b : Bool) (less : j < to) (e : x ≡ any j to f) (same : b ≡ f j) where
-  pub some-hit : b ≡ true → true ≡ x
-  some-hit h = sym (e ∙ any-hit j to f less (sym same ∙ h))
-
-  pub some-miss : b ≡ false → x ≡ any (j + 1) to f
-  some-miss h = e ∙ any-miss j to f less (sym same ∙ h)
-
-pub some-end : (j to : ℕ) (f : ℕ → Bool) (x : Bool) → to ≤ j → x ≡ any j to f → false ≡ x
-some-end j to f x l e = sym (e ∙ any-end j to f l)

@@ -1,8 +1,8 @@
 use mathlib.Core.Path.{_∙_, ap}
 use borrow.Author.Needs.{needs}
 use Rattle.model.specs.Tables.{tables, onward, state-at, state-index}
-use Rattle.state_rules.proofs.behind.Statement.{statement}
-use Rattle.state_rules.proofs.behind.Tie as tie
+use Rattle.plain_rules.proofs.behind.Statement.{statement}
+use Rattle.plain_rules.proofs.behind.Tie as tie
 
 rest-requires : tie.Need-rest-requires
 rest-requires c κs = search needs

@@ -11,11 +11,11 @@ use Rattle.rules.specs.Listed.{kind-effect}
 use Rattle.rules.specs.Added.{Added}
 use borrow.Author.Tests.{not-false}
 use Rattle.rules.proofs.Adding.{added-none, added-same, added-kept, added-quiet}
-use Rattle.state_rules.specs.Heads.{call-turn}
-use Rattle.pattern_letters.proofs.Entries.{name-starts, flow-order}
-use Rattle.state_rules.proofs.Heads.{tag-head, here-low, value-from, takes-function, call-gathered, call-low, call-kept, call-skipped}
-use Rattle.state_rules.proofs.call_rules.Statement.{statement}
-use Rattle.state_rules.proofs.call_rules.Tie as tie
+use Rattle.plain_rules.specs.Heads.{call-turn}
+use Rattle.rules.proofs.Entries.{name-starts, flow-order}
+use Rattle.plain_rules.proofs.Heads.{tag-head, here-low, value-from, takes-function, call-gathered, call-low, call-kept, call-skipped}
+use Rattle.plain_rules.proofs.call_rules.Statement.{statement}
+use Rattle.plain_rules.proofs.call_rules.Tie as tie
 
 abbrev Inv-loop : tie.InvT-loop
 Inv-loop ws s flow-at at i r tos₀ callee count from to n₀ j₀ tos n j = Added call tos₀ [] 0 tos [] n (λ e. gather from j (call-turn (program ws s) (tables ws s) (state-at (tables ws s) i) count e)) × (from ≤ j) × (j ≤ to) × (n + from ≤ j)

@@ -2,8 +2,8 @@ use mathlib.Core.Path.{_∙_, ap}
 use borrow.Author.Needs.{needs}
 use Rattle.bits.specs.Bits.{bit}
 use Rattle.bits.proofs.Bits.{bit-read}
-use Rattle.state_rules.proofs.may_match.Statement.{statement}
-use Rattle.state_rules.proofs.may_match.Tie as tie
+use Rattle.plain_rules.proofs.may_match.Statement.{statement}
+use Rattle.plain_rules.proofs.may_match.Tie as tie
 
 word-requires : tie.Need-word-requires
 word-requires c κs = search needs

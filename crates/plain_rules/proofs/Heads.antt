@@ -29,7 +29,7 @@ use Rattle.positions.proofs.Standing.{call-name, spawn-name, send-names}
 use Rattle.values.proofs.Names.{flow-upto}
 use Rattle.rules.proofs.Gather.{gather-none, gather-part, each-range}
 use Rattle.rules.proofs.States.{location-low}
-use Rattle.state_rules.specs.Heads.{Plain, give-turn, call-turn, spawn-turn}
+use Rattle.plain_rules.specs.Heads.{Plain, give-turn, call-turn, spawn-turn}
 
 -- a rule that is there only where the test passes
 pub only-same : {A : Type 0} (b : Bool) (x y : A) → (b ≡ true → x ≡ y) → only b x ≡ only b y

@@ -11,13 +11,13 @@ use Rattle.model.specs.Words.{columns}
 use Rattle.rules.specs.Listed.{kind-effect}
 use Rattle.rules.specs.Added.{Added}
 use Rattle.rules.proofs.Adding.{added-none, added-same, added-kept, added-quiet}
-use Rattle.state_rules.proofs.Heads.{tag-head, here-low, skipped}
+use Rattle.plain_rules.proofs.Heads.{tag-head, here-low, skipped}
 use Rattle.model.specs.Rows.{num}
-use Rattle.state_rules.proofs.Branches.{Branch-at, branch-begin, branch-here, branch-next, case-count, case-rows, case-gathered, case-kept, one-run}
-use Rattle.state_rules.specs.Heads.{case-turn}
+use Rattle.plain_rules.proofs.Branches.{Branch-at, branch-begin, branch-here, branch-next, case-count, case-rows, case-gathered, case-kept, one-run}
+use Rattle.plain_rules.specs.Heads.{case-turn}
 use Rattle.model.specs.Tables.{entries}
-use Rattle.state_rules.proofs.case_rules.Statement.{statement}
-use Rattle.state_rules.proofs.case_rules.Tie as tie
+use Rattle.plain_rules.proofs.case_rules.Statement.{statement}
+use Rattle.plain_rules.proofs.case_rules.Tie as tie
 
 abbrev Inv-loop : tie.InvT-loop
 Inv-loop ws s afters branches at i r tos₀ m q₀ n₀ b₀ tos q n b = Added case tos₀ [] 0 tos [] n (λ e. gather 0 b (case-turn (program ws s) (tables ws s) (state-at (tables ws s) i) (getD branches i 0) (r + 2) e)) × Branch-at (program ws s) (r + 2) m b q × (b ≤ m) × (n ≤ b)

@@ -11,11 +11,11 @@ use Rattle.rules.specs.Added.{Added}
 use borrow.Author.Tests.{not-false}
 use Rattle.rules.proofs.States.{index-small}
 use Rattle.rules.proofs.Adding.{added-none, added-same, added-kept, added-one}
-use Rattle.state_rules.specs.Heads.{spawn-turn}
-use Rattle.pattern_letters.proofs.Entries.{name-starts, flow-order}
-use Rattle.state_rules.proofs.Heads.{tag-head, here-low, value-from, takes-function, spawn-gathered, spawn-low, spawn-kept, spawn-skipped}
-use Rattle.state_rules.proofs.spawn_rules.Statement.{statement}
-use Rattle.state_rules.proofs.spawn_rules.Tie as tie
+use Rattle.plain_rules.specs.Heads.{spawn-turn}
+use Rattle.rules.proofs.Entries.{name-starts, flow-order}
+use Rattle.plain_rules.proofs.Heads.{tag-head, here-low, value-from, takes-function, spawn-gathered, spawn-low, spawn-kept, spawn-skipped}
+use Rattle.plain_rules.proofs.spawn_rules.Statement.{statement}
+use Rattle.plain_rules.proofs.spawn_rules.Tie as tie
 
 abbrev Inv-loop : tie.InvT-loop
 Inv-loop ws s afters flow-at at i r tos₀ others₀ name next from to n₀ j₀ tos others n j = Added spawn tos₀ others₀ 0 tos others n (λ e. gather from j (spawn-turn (program ws s) (tables ws s) (state-at (tables ws s) i) next e)) × (from ≤ j) × (j ≤ to) × (n + from ≤ j)

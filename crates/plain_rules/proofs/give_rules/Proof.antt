@@ -10,10 +10,10 @@ use Rattle.rules.specs.Listed.{kind-effect}
 use Rattle.rules.specs.Added.{Added}
 use Rattle.rules.proofs.States.{return-call}
 use Rattle.rules.proofs.Adding.{added-none, added-nothing, added-same, added-quiet}
-use Rattle.state_rules.specs.Heads.{give-turn}
-use Rattle.state_rules.proofs.Heads.{tag-head, here-low, give-nothing, give-range, give-gathered, give-kept}
-use Rattle.state_rules.proofs.give_rules.Statement.{statement}
-use Rattle.state_rules.proofs.give_rules.Tie as tie
+use Rattle.plain_rules.specs.Heads.{give-turn}
+use Rattle.plain_rules.proofs.Heads.{tag-head, here-low, give-nothing, give-range, give-gathered, give-kept}
+use Rattle.plain_rules.proofs.give_rules.Statement.{statement}
+use Rattle.plain_rules.proofs.give_rules.Tie as tie
 
 abbrev Inv-loop : tie.InvT-loop
 Inv-loop ws s afters at i tos₀ b c from to e n₀ j₀ tos n j = Added give tos₀ [] 0 tos [] n (λ k. gather from j (give-turn (program ws s) (tables ws s) k)) × (from ≤ j) × (j ≤ to) × (n + from ≤ j)

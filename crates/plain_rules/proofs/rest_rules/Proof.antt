@@ -4,9 +4,9 @@ use borrow.Author.Needs.{needs}
 use Rattle.model.specs.Rows.{self}
 use Rattle.rules.specs.Listed.{kind-effect}
 use Rattle.rules.proofs.Adding.{added-alone}
-use Rattle.state_rules.proofs.Heads.{plain-gathered}
-use Rattle.state_rules.proofs.rest_rules.Statement.{statement}
-use Rattle.state_rules.proofs.rest_rules.Tie as tie
+use Rattle.plain_rules.proofs.Heads.{plain-gathered}
+use Rattle.plain_rules.proofs.rest_rules.Statement.{statement}
+use Rattle.plain_rules.proofs.rest_rules.Tie as tie
 
 behind-requires : tie.Need-behind-requires
 behind-requires c κs = (c .before .before .before .before .pre .0, (c .before .before .before .before .pre .1 .0, (c .before .before .before .before .pre .1 .1 .0 .0, c .before .before .before .before .pre .1 .1 .1 .0 .head)))
