@@ -78,7 +78,14 @@ pub fn behind(ws: &[u16], s: Sizes, afters: &[u16], at: &[u16], i: usize, r: usi
 }
 
 // A give back: each state at the call that state i returns to goes on behind it; nothing where nothing is pushed.
-pub fn give_rules(ws: &[u16], s: Sizes, afters: &[u16], at: &[u16], i: usize, tos: &mut [u16]) -> usize
+pub fn give_rules(
+    ws: &[u16],
+    s: Sizes,
+    afters: &[u16],
+    at: &[u16],
+    i: usize,
+    tos: &mut [u16],
+) -> usize
     requires { ⌜ Ready (now ws) s ⌝ }
     requires { ⌜ Ends (program (now ws) s) (now afters) ⌝ }
     requires { ⌜ i < s .states ⌝ }

@@ -1,5 +1,5 @@
--- What each turn of the loops over the rules of a send and a receive gives, by the tables that the code reads. e is the
--- number of the state s that the rules are told from.
+-- What each turn of the loops over the rules of a send and a receive gives, by the tables that the code reads. e is
+-- the number of the state s that the rules are told from.
 use Prim.Native.Nat.{ℕ, _+_, _*_, _≤_, _<_}
 use mathlib.Core.Path.{_≡_}
 use mathlib.Core.Bool.{true, false}
