@@ -34,7 +34,6 @@ use Rattle.steps.specs.declared.Step.{Step}
 use Rattle.steps.specs.Steps.{effect-of, rule-of-step, effect-kind}
 use Rattle.rules.specs.Listed.{State-rules, listed-rule, listed-rules}
 use Rattle.rules.proofs.Stepped.{listed-step}
-use Rattle.kept_rules.specs.Kept.{Rules-asked}
 use Rattle.ceilings_form.specs.Parts.{Whole}
 use Rattle.ceilings_form.specs.Limits.{Starts-table}
 use Rattle.ceilings_form.proofs.Limited.{highest-limit}
@@ -47,7 +46,8 @@ use Rattle.ceilings_covers.proofs.Covering.{covers-pass, pass-covers}
 use Rattle.ceilings_groups.specs.Groups.{table-ceilings, escapes, Open-all, Rules-open, Groups-upto, Group-put, step}
 use Rattle.ceilings_groups.proofs.Settling.{step-open}
 use Rattle.bits.specs.Bits.{member}
-use Rattle.ceilings_leaks.proofs.Holding.{is-held, leads-held, held-member}
+use Rattle.ceilings_letters.proofs.Holding.{leads-asked, asked-member}
+use Rattle.ceilings_leaks.specs.Leaks.{Rules-seen}
 use Rattle.ceilings_groups.proofs.Leading.{any-skip, leads-none, leads-states, leads-listed, leads-same, listed-member}
 
 and-none : (b : Bool) → (b && false) ≡ false
@@ -170,13 +170,13 @@ module _ (ws : List ℕ) (s : Sizes) (n : ℕ) (limits : List ℕ) where
         walk-settled z = walk-next (walk-here ∙ any-miss i (s .states) (by-state k) h z)
 
         -- its rules, one by one
-        module _ (a m kd : ℕ) (tos others : List ℕ) (r : Rules-asked p t (is-held limits (s .ceilings) k) i tos others a m) (is-kind : kd ≡ effect-kind (tag p (right (t .states) i))) where
+        module _ (a m kd : ℕ) (tos others : List ℕ) (r : Rules-seen p t limits (s .ceilings) n k i tos others a m) (is-kind : kd ≡ effect-kind (tag p (right (t .states) i))) where
           abbrev out : ℕ → Bool
           out j = by-step k (step-at i kd tos others j)
 
           by-rules : by-state k i ≡ any a m out
           unfolding by-state by-step
-          by-rules = ⊎-elim (λ e. ap (λ ρs. leads-out tb ρs (counts k)) (sym e)) (λ e. sym (leads-held limits (s .ceilings) k tb _) ∙ ap (λ ρs. leads-out tb ρs (counts k)) (sym e)) (r .rules) ∙ (leads-listed tb (counts k) (tag p (right (t .states) i)) i tos others a m ∙ rw is-kind)
+          by-rules = ⊎-elim (λ e. ap (λ ρs. leads-out tb ρs (counts k)) (sym e)) (λ e. sym (leads-asked (r .passes) tb (counts k) _ (r .harmless)) ∙ ap (λ ρs. leads-out tb ρs (counts k)) (sym e)) (r .asked .rules) ∙ (leads-listed tb (counts k) (tag p (right (t .states) i)) i tos others a m ∙ rw is-kind)
 
           pub rules-start : leaks k ≡ (any a m out || any (i + 1) (s .states) (by-state k))
           rules-start = walk-here ∙ test (by-state k i)
@@ -283,12 +283,12 @@ module _ (ws : List ℕ) (s : Sizes) (n : ℕ) (limits : List ℕ) where
         })
 
     -- the rules of a state are of the message's, so what their steps take from are counters, and not one twice
-    pub step-shape : (k i a m kd : ℕ) (tos others : List ℕ) (j : ℕ) → i < s .states → Rules-asked p t (is-held limits (s .ceilings) k) i tos others a m → kd ≡ effect-kind (tag p (right (t .states) i)) → kd ≤ 3 → a ≤ j → j < m → Step-apart n (step-at i kd tos others j)
+    pub step-shape : (k i a m kd : ℕ) (tos others : List ℕ) (j : ℕ) → i < s .states → Rules-seen p t limits (s .ceilings) n k i tos others a m → kd ≡ effect-kind (tag p (right (t .states) i)) → kd ≤ 3 → a ≤ j → j < m → Step-apart n (step-at i kd tos others j)
     unfolding rules tables entries columns
     step-shape k i a m kd tos others j h r is small low below =
         let tg : ℕ = tag p (right (t .states) i) in
         let here = listed-member (kind tg) i tos others a m j low below in
-        let there : List·Memᴰ (listed-rule (kind tg) i tos others j) (state-rules p t i (state-at t i)) = ⊎-elim (λ e. subst (λ ρs. List·Memᴰ (listed-rule (kind tg) i tos others j) ρs) e here) (λ e. held-member limits (s .ceilings) k _ _ (subst (λ ρs. List·Memᴰ (listed-rule (kind tg) i tos others j) ρs) e here)) (r .rules) in
+        let there : List·Memᴰ (listed-rule (kind tg) i tos others j) (state-rules p t i (state-at t i)) = ⊎-elim (λ e. subst (λ ρs. List·Memᴰ (listed-rule (kind tg) i tos others j) ρs) e here) (λ e. asked-member (r .passes) _ _ (subst (λ ρs. List·Memᴰ (listed-rule (kind tg) i tos others j) ρs) e here)) (r .asked .rules) in
         let shape : Shaped n (listed-rule (kind tg) i tos others j) = rw counted (shaped-all _ (gather-intro 0 (t .states .size) i (λ x. state-rules p t x (state-at t x)) _ (omega arith) h there)) in
         let same : listed-rule (kind tg) i tos others j ≡ rule-of-step (step-at i kd tos others j) = rw is (listed-step tg i tos others j) in
         shaped-step n (step-at i kd tos others j) small (subst (λ ρ. Shaped n ρ) same shape)

@@ -1,18 +1,21 @@
 -- What the leak test is handed.
-use Prim.Native.Nat.{ℕ, _+_, _*_, _≤_, _<_}
+use Prim.Native.Nat.{ℕ, _*_, _≤_}
 use mathlib.Core.Path.{_≡_}
-use mathlib.Core.List.{List}
+use mathlib.Core.Bool.{Bool, false}
+use mathlib.Core.List.{List, List·Memᴰ}
 use lib.ListN.{length}
-use Rattle.bits.specs.Bits.{Row}
-use Rattle.model.specs.Limits.{maxCounters}
 use Rattle.model.specs.declared.Sizes.{Sizes}
-use Rattle.model.specs.Rows.{program}
-use Rattle.model.specs.Tables.{tables}
+use Rattle.model.specs.Rows.{Program, program}
+use Rattle.model.specs.Tables.{Tables, tables, state-at}
+use Rattle.model.specs.Rules.{Rule, state-rules}
 use Rattle.model.specs.Counters.{counter-count}
-use Rattle.model.specs.Ceilings.{ceilings-of, ceiling-entries}
+use Rattle.model.specs.Ceilings.{ceilings-of, ceiling-entries, highest}
 use Rattle.ceilings_form.specs.Limits.{In-form, Starts-table}
 use Rattle.rules.specs.Derived.{Rule-room}
-use Rattle.ceilings.specs.Table.{Limits-table}
+use Rattle.state_rules.specs.Within.{letter-passes}
+use Rattle.kept_rules.specs.Kept.{Rules-asked}
+use Rattle.ceilings.specs.Table.{held, Limits-table}
+use Rattle.ceilings_groups.specs.Groups.{table-ceilings, escapes}
 use Rattle.ceilings_masks.specs.Compared.{Holders}
 
 -- the n counters of a message, and the tables of its ceilings, which are in form
@@ -29,10 +32,12 @@ pub record Rooms (ws : List ℕ) (s : Sizes) (n : ℕ) (tos others short more : 
   pub short-room : n * 4 ≤ length short
   pub more-room : n * 4 ≤ length more
 
--- what the letters of ceiling k are looked up in, and the set for them: a bit for each counter behind the states
-pub record Letters-room (s : Sizes) (n k words : ℕ) (limits within : List ℕ) : Type 0 where
-  pub ceiling : k < s .ceilings
-  pub table : n * s .ceilings ≤ length limits
-  pub few : n ≤ maxCounters
-  pub bits : n ≤ s .states + 64 * words
-  pub row : Row within words 0
+-- between two places of the lists stand the rules of state i, but for some that lead out of nothing from the highest
+-- counts of ceiling k
+pub record Rules-seen (p : Program) (t : Tables) (limits : List ℕ) (ceilings n k i : ℕ) (tos others : List ℕ)
+    (first end : ℕ) : Type 0 where
+  pub passes : ℕ → Bool
+  pub asked : Rules-asked p t passes i tos others first end
+  pub harmless :
+      (ρ : Rule) → List·Memᴰ ρ (state-rules p t i (state-at t i)) → letter-passes passes (ρ .effect) ≡ false →
+      escapes (table-ceilings ceilings n limits) ρ (highest (held limits ceilings k)) ≡ false

@@ -1,5 +1,4 @@
 // Refusal 13: from counts under a ceiling, a rule leads out of all ceilings.
-use ceilings::limit;
 use ceilings_covers::NAMED;
 use ceilings_covers::candidates;
 use ceilings_covers::is_usable;
@@ -12,13 +11,18 @@ use ceilings_form::entries::counter_at;
 use ceilings_groups::is_boundless;
 use ceilings_groups::put_group;
 use ceilings_groups::settled;
+use ceilings_letters::asked_letters;
+use ceilings_letters::held_letters;
+use ceilings_masks::Over;
 use ceilings_masks::compare;
+use kept_rules::Found;
 use kept_rules::Kept;
 use kept_rules::keep;
 use kept_rules::none_kept;
 use kept_rules::rules_again;
 use kept_rules::rules_from;
 use lists::state_location;
+use masks::Mask;
 use masks::first_set;
 use masks::next_in;
 use model::Sizes;
@@ -26,8 +30,7 @@ use model::Verdict;
 use onward::guess_class;
 use pattern_letters::LETTER_WORDS;
 use program::rows::tag;
-use sets::clear;
-use sets::put;
+use rule_tables::LETTER_AT;
 use steps::Step;
 use steps::effect_kind;
 use system_letters::letter_width;
@@ -36,10 +39,9 @@ use system_totals::row_total;
 use system_totals::state_head;
 ghost use mathlib.Core.Path.{_≡_};
 ghost use mathlib.Core.Bool.{true, not};
-ghost use Prim.Native.Nat.{ℕ, _+_, _*_, _≤_, _<_};
-ghost use lib.ListN.{length};
-ghost use lib.Dec.{eqb};
-ghost use Rattle.bits.specs.Bits.{member};
+ghost use Prim.Native.Nat.{_*_, _≤_, _<_};
+ghost use lib.ListN.{length, drop};
+ghost use Rattle.bits.specs.Bits.{Row};
 ghost use Rattle.model.specs.Words.{right};
 ghost use Rattle.model.specs.Rows.{program, tag};
 ghost use Rattle.model.specs.Tables.{tables};
@@ -47,13 +49,17 @@ ghost use Rattle.model.specs.Rules.{rules};
 ghost use Rattle.model.specs.Ceilings.{ceilings-of, leak-check};
 ghost use Rattle.model.specs.Verify.{answer};
 ghost use Rattle.lists.specs.Ready.{Ready};
-ghost use Rattle.rules.specs.Derived.{Rule-tables};
+ghost use Rattle.model.specs.Counters.{counter-count};
+ghost use Rattle.system_letters.specs.Letters.{Class-letters, letter-width};
+ghost use Rattle.rules.specs.Derived.{Rule-room};
+ghost use Rattle.rule_tables.specs.Joined.{letter-from, Joined-tables};
 ghost use Rattle.kept_rules.specs.Kept.{Room-from, Kept-rules};
 ghost use Rattle.steps.specs.Steps.{effect-kind};
-ghost use Rattle.ceilings.specs.Table.{held};
+ghost use Rattle.ceilings_covers.specs.Covers.{Beside, Left};
+ghost use Rattle.ceilings_letters.specs.Letters.{Held-set};
 ghost use Rattle.system_totals.specs.Lines.{Totalled};
 ghost use Rattle.ceilings_groups.specs.Groups.{Groups-upto};
-ghost use Rattle.ceilings_leaks.specs.Leaks.{Ceilings-ready, Rooms, Letters-room};
+ghost use Rattle.ceilings_leaks.specs.Leaks.{Ceilings-ready, Rooms, Rules-seen};
 
 // The kind of the rules of state i.
 fn kind_at(ws: &[u16], s: Sizes, i: usize) -> usize
@@ -79,14 +85,10 @@ pub struct Gathered {
 pub fn fill_groups(
     ws: &[u16],
     s: Sizes,
-    afters: &[u16],
-    flow_at: &[u16],
-    w: usize,
+    narrow: &[u16],
     fitting: &[u64],
     names: &[u64],
-    letter_at: &[u16],
     letters: &[u64],
-    branches: &[u16],
     n: usize,
     limits: &[u16],
     starts: &[u16],
@@ -99,8 +101,7 @@ pub fn fill_groups(
     first_at: &mut [u16],
     group: &mut [u64],
 ) -> Gathered
-    requires { ⌜ Rule-tables (now ws) s (now afters) (now «flow_at») w (now fitting) (now names)
-        (now «letter_at») (now letters) (now branches) ⌝ }
+    requires { ⌜ Joined-tables (now ws) s (now narrow) (now fitting) (now names) (now letters) ⌝ }
     requires { ⌜ Ceilings-ready (now ws) s n (now limits) (now starts) (now holders) (now unbounded) ⌝ }
     requires { ⌜ Room-from (now ws) s spare (now tos) (now others) × (length (now tos) ≤ 65536) ⌝ }
     requires { ⌜ s .states * 12 ≤ length (now group) ⌝ }
@@ -120,14 +121,10 @@ pub fn fill_groups(
         let m = rules_from(
             ws,
             s,
-            afters,
-            flow_at,
-            w,
+            narrow,
             fitting,
             names,
-            letter_at,
             letters,
-            branches,
             at,
             i,
             used,
@@ -158,49 +155,108 @@ pub fn fill_groups(
     Gathered { totals, kept }
 }
 
-// The letters that ceiling k holds, as a set, where they are asked for. Else nothing is promised of the set, nor ever
-// of bits behind the last letter: no one reads them.
-fn held_letters(
-    asked: bool,
+// The words of a set of letters.
+fn set_words(ws: &[u16], s: Sizes, narrow: &[u16]) -> usize
+    requires { ⌜ Ready (now ws) s ⌝ }
+    requires { ⌜ Class-letters (program (now ws) s) (tables (now ws) s) (drop letter-from (now narrow)) ⌝ }
+    ensures { λ w. ⌜ w ≡ letter-width (program (now (ws .entry)) s) (tables (now (ws .entry)) s) ⌝ }
+{
+    let letter_at = &narrow[LETTER_AT..];
+    letter_width(ws, s, letter_at)
+}
+
+// The rules of state i that have to be looked at under ceiling k: those kept, or derived again by the letters that the
+// set `within` of its letters and the ceilings beside it leave to look at.
+fn rules_under(
+    ws: &[u16],
     s: Sizes,
+    narrow: &[u16],
+    fitting: &[u64],
+    names: &[u64],
+    letters: &[u64],
     n: usize,
     limits: &[u16],
+    holders: &[u64],
+    unbounded: &[u64],
+    over: Over,
+    short: &[u64],
+    more: &[u64],
+    kept: Kept,
+    first_at: &[u16],
+    at: &[u16],
     k: usize,
+    i: usize,
+    left: Mask,
     words: usize,
-    within: &mut [u64],
-)
-    requires { ⌜ Letters-room s n k words (now limits) (now within) ⌝ }
-    ensures { λ _. ⌜ (asked ≡ true → (y : ℕ) → s .states + y < n →
-        member (now (within .exit)) words 0 y ≡
-        not (eqb (held (now (limits .entry)) (s .ceilings) k (s .states + y)) 0)) ⌝ }
+    within: &[u64],
+    tos: &mut [u16],
+    others: &mut [u16],
+) -> Found
+    requires { ⌜ Joined-tables (now ws) s (now narrow) (now fitting) (now names) (now letters) ⌝ }
+    requires { ⌜ (n ≡ counter-count (program (now ws) s) (tables (now ws) s)) × (i < s .states) ⌝ }
+    requires { ⌜ words ≡ letter-width (program (now ws) s) (tables (now ws) s) ⌝ }
+    requires { ⌜ Beside (now limits) (s .ceilings) n k (now holders) (now unbounded) over (now short) (now more) ⌝ }
+    requires { ⌜ Left (now limits) (s .ceilings) n k i left ⌝ }
+    requires { ⌜ Row (now within) words 0 ⌝ }
+    requires { ⌜ (not (kept .all) ≡ true →
+        Held-set (now limits) (s .ceilings) n k (s .states) words (now within)) ⌝ }
+    requires { ⌜ Kept-rules (program (now ws) s) (tables (now ws) s) (s .states) kept (now «first_at») (now tos)
+        (now others) ⌝ }
+    requires { ⌜ Rule-room (now ws) s (now tos) (now others) ⌝ }
+    ensures { λ r. ⌜ Rules-seen (program (now (ws .entry)) s) (tables (now (ws .entry)) s) (now (limits .entry))
+        (s .ceilings) n k i (now (tos .exit)) (now (others .exit)) (r .first) (r .end) ⌝ }
+    ensures { λ _. ⌜ Kept-rules (program (now (ws .entry)) s) (tables (now (ws .entry)) s) (s .states) kept
+        (now («first_at» .entry)) (now (tos .exit)) (now (others .exit)) ⌝ }
 {
-    if !asked {
-        return;
-    }
-    clear(within, words, 0);
-    for x in s.states..n {
-        if limit(limits, s.ceilings, k, x) == 0 {
-            continue;
-        }
-        put(within, words, 0, x - s.states);
-    }
+    let mut asked = [0u64; LETTER_WORDS];
+    asked_letters(
+        !kept.all,
+        ws,
+        s,
+        narrow,
+        at,
+        n,
+        limits,
+        holders,
+        unbounded,
+        over,
+        short,
+        more,
+        k,
+        i,
+        left,
+        words,
+        within,
+        &mut asked,
+    );
+    rules_again(
+        ws,
+        s,
+        narrow,
+        fitting,
+        names,
+        letters,
+        kept,
+        first_at,
+        at,
+        i,
+        &asked,
+        tos,
+        others,
+    )
 }
 
 // Refusal 13: the first ceiling that leaks, at its first entry. Loops over the ceilings, over each one's states, over
 // the rules of a state, and over the ceilings that may cover the counts after a rule; left from inside at the first
-// limit exceeded, the first ceiling that covers, the first that leaks. A rule of a receive that reads a letter that the
-// ceiling does not hold can't be used under it, so where rules are derived again these are left out.
+// limit exceeded, the first ceiling that covers, the first that leaks. Where rules are derived again, those of letters
+// that lead out of nothing are left out: a state may have a thousand of them under each ceiling.
 pub fn leak_check(
     ws: &[u16],
     s: Sizes,
-    afters: &[u16],
-    flow_at: &[u16],
-    w: usize,
+    narrow: &[u16],
     fitting: &[u64],
     names: &[u64],
-    letter_at: &[u16],
     letters: &[u64],
-    branches: &[u16],
     n: usize,
     limits: &[u16],
     starts: &[u16],
@@ -215,8 +271,7 @@ pub fn leak_check(
     short: &mut [u64],
     more: &mut [u64],
 ) -> Verdict
-    requires { ⌜ Rule-tables (now ws) s (now afters) (now «flow_at») w (now fitting) (now names)
-        (now «letter_at») (now letters) (now branches) ⌝ }
+    requires { ⌜ Joined-tables (now ws) s (now narrow) (now fitting) (now names) (now letters) ⌝ }
     requires { ⌜ Ceilings-ready (now ws) s n (now limits) (now starts) (now holders) (now unbounded) ⌝ }
     requires { ⌜ Groups-upto (program (now ws) s) (tables (now ws) s) (now limits) (s .ceilings) (s .states) n
         (s .states) (now group) ⌝ }
@@ -228,7 +283,7 @@ pub fn leak_check(
         answer (leak-check (now (ws .entry)) s (ceilings-of (now (ws .entry)) s n)
         (rules (program (now (ws .entry)) s) (tables (now (ws .entry)) s))) ⌝ }
 {
-    let words = letter_width(ws, s, letter_at);
+    let words = set_words(ws, s, narrow);
     let mut within = [0u64; LETTER_WORDS];
     'ceilings: for k in 0..s.ceilings {
         let first = starts[k] as usize;
@@ -256,21 +311,27 @@ pub fn leak_check(
             if settled(left, over, group, i) {
                 continue 'states;
             }
-            let found = rules_again(
+            let found = rules_under(
                 ws,
                 s,
-                afters,
-                flow_at,
-                w,
+                narrow,
                 fitting,
                 names,
-                letter_at,
                 letters,
-                branches,
+                n,
+                limits,
+                holders,
+                unbounded,
+                over,
+                short,
+                more,
                 kept,
                 first_at,
                 at,
+                k,
                 i,
+                left,
+                words,
                 &within,
                 tos,
                 others,

@@ -2,15 +2,16 @@
 // once. One state's stand behind another's, in the two lists that hold the rules of one state.
 use lists::word;
 use model::Sizes;
-use state_rules::rules_within;
-use state_rules::state_rules;
+use rule_tables::rules_of;
+use rule_tables::rules_within_of;
 ghost use mathlib.Core.Path.{_≡_};
 ghost use mathlib.Core.Bool.{Bool, true, false};
 ghost use Prim.Native.Nat.{ℕ, _+_, _≤_, _<_};
 ghost use lib.ListN.{length, getD, set};
 ghost use Rattle.model.specs.Rows.{program};
 ghost use Rattle.model.specs.Tables.{tables};
-ghost use Rattle.rules.specs.Derived.{Rule-tables, Rule-room};
+ghost use Rattle.rules.specs.Derived.{Rule-room};
+ghost use Rattle.rule_tables.specs.Joined.{Joined-tables};
 ghost use Rattle.bits.specs.Bits.{Row};
 ghost use Rattle.system_letters.specs.Letters.{letter-width};
 ghost use Rattle.state_rules.specs.Within.{Asked-letters};
@@ -77,22 +78,17 @@ pub fn keep(k: Kept, spare: usize, i: usize, m: usize, first_at: &mut [u16]) -> 
 pub fn rules_from(
     ws: &[u16],
     s: Sizes,
-    afters: &[u16],
-    flow_at: &[u16],
-    w: usize,
+    narrow: &[u16],
     fitting: &[u64],
     names: &[u64],
-    letter_at: &[u16],
     letters: &[u64],
-    branches: &[u16],
     at: &[u16],
     i: usize,
     first: usize,
     tos: &mut [u16],
     others: &mut [u16],
 ) -> usize
-    requires { ⌜ Rule-tables (now ws) s (now afters) (now «flow_at») w (now fitting) (now names)
-        (now «letter_at») (now letters) (now branches) ⌝ }
+    requires { ⌜ Joined-tables (now ws) s (now narrow) (now fitting) (now names) (now letters) ⌝ }
     requires { ⌜ (i < s .states) × (first < 65536) ⌝ }
     requires { ⌜ Room-from (now ws) s first (now tos) (now others) ⌝ }
     ensures { λ m. ⌜ Rules-from (program (now (ws .entry)) s) (tables (now (ws .entry)) s) i first (now (tos .exit))
@@ -100,17 +96,13 @@ pub fn rules_from(
     ensures { λ _. ⌜ Same-below first (now (tos .entry)) (now (tos .exit)) ×
         Same-below first (now (others .entry)) (now (others .exit)) ⌝ }
 {
-    state_rules(
+    rules_of(
         ws,
         s,
-        afters,
-        flow_at,
-        w,
+        narrow,
         fitting,
         names,
-        letter_at,
         letters,
-        branches,
         at,
         i,
         &mut tos[first..],
@@ -119,19 +111,15 @@ pub fn rules_from(
 }
 
 // The rules of state i, where they are kept; else derived into the lists from the front on, but of those of a receive
-// only the ones that read a letter of the set `within`: they are asked for once for each ceiling that has not settled
-// the state, and a ceiling may hold few of a thousand letters.
+// or a send only the ones that read or put a letter of the set `within`: they are asked for once for each ceiling that
+// has not settled the state, and of a thousand letters few may have to be looked at.
 pub fn rules_again(
     ws: &[u16],
     s: Sizes,
-    afters: &[u16],
-    flow_at: &[u16],
-    w: usize,
+    narrow: &[u16],
     fitting: &[u64],
     names: &[u64],
-    letter_at: &[u16],
     letters: &[u64],
-    branches: &[u16],
     kept: Kept,
     first_at: &[u16],
     at: &[u16],
@@ -140,8 +128,7 @@ pub fn rules_again(
     tos: &mut [u16],
     others: &mut [u16],
 ) -> Found
-    requires { ⌜ Rule-tables (now ws) s (now afters) (now «flow_at») w (now fitting) (now names)
-        (now «letter_at») (now letters) (now branches) ⌝ }
+    requires { ⌜ Joined-tables (now ws) s (now narrow) (now fitting) (now names) (now letters) ⌝ }
     requires { ⌜ Kept-rules (program (now ws) s) (tables (now ws) s) (s .states) kept (now «first_at») (now tos)
         (now others) ⌝ }
     requires { ⌜ i < s .states ⌝ }
@@ -161,17 +148,13 @@ pub fn rules_again(
             end: word(first_at, next),
         };
     }
-    let end = rules_within(
+    let end = rules_within_of(
         ws,
         s,
-        afters,
-        flow_at,
-        w,
+        narrow,
         fitting,
         names,
-        letter_at,
         letters,
-        branches,
         at,
         i,
         within,

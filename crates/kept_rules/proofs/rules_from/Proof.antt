@@ -9,32 +9,32 @@ use Rattle.kept_rules.proofs.rules_from.Tie as tie
 begins : (c : tie.Start) → (c .args .first ≤ length (c .args .tos .now)) × (c .args .first ≤ length (c .args .others .now))
 begins c = starts-low _ _ _ _ _ (c .pre .1 .1)
 
-mul-state-rules : tie.Need-mul-state-rules
-mul-state-rules c = record { fits = omega (arith, c .before .before .before .before .before .before .before .before .before .before .before .pre .1 .0 .1) }
+mul-rules-of : tie.Need-mul-rules-of
+mul-rules-of c = record { fits = omega (arith, c .before .before .before .before .before .before .before .before .pre .1 .0 .1) }
 
-sub-state-rules : tie.Need-sub-state-rules
-sub-state-rules c = begins (c .before .before .before .before .before .before .before .before .before .before .before) .0
+sub-rules-of : tie.Need-sub-rules-of
+sub-rules-of c = begins (c .before .before .before .before .before .before .before .before) .0
 
-part-state-rules-start : tie.Need-part-state-rules-start
-part-state-rules-start c = begins (c .before .before .before .before .before .before .before .before .before .before .before) .0
+part-rules-of-start : tie.Need-part-rules-of-start
+part-rules-of-start c = begins (c .before .before .before .before .before .before .before .before) .0
 
-part-state-rules-end : tie.Need-part-state-rules-end
-part-state-rules-end c = search needs
+part-rules-of-end : tie.Need-part-rules-of-end
+part-rules-of-end c = search needs
 
-mul-state-rules-2 : tie.Need-mul-state-rules-2
-mul-state-rules-2 c = record { fits = omega (arith, c .before .before .before .before .before .before .before .before .before .before .before .before .pre .1 .0 .1) }
+mul-rules-of-2 : tie.Need-mul-rules-of-2
+mul-rules-of-2 c = record { fits = omega (arith, c .before .before .before .before .before .before .before .before .before .pre .1 .0 .1) }
 
-sub-state-rules-2 : tie.Need-sub-state-rules-2
-sub-state-rules-2 c = begins (c .before .before .before .before .before .before .before .before .before .before .before .before) .1
+sub-rules-of-2 : tie.Need-sub-rules-of-2
+sub-rules-of-2 c = begins (c .before .before .before .before .before .before .before .before .before) .1
 
-part-state-rules-start-2 : tie.Need-part-state-rules-start-2
-part-state-rules-start-2 c = begins (c .before .before .before .before .before .before .before .before .before .before .before .before) .1
+part-rules-of-start-2 : tie.Need-part-rules-of-start-2
+part-rules-of-start-2 c = begins (c .before .before .before .before .before .before .before .before .before) .1
 
-part-state-rules-end-2 : tie.Need-part-state-rules-end-2
-part-state-rules-end-2 c = search needs
+part-rules-of-end-2 : tie.Need-part-rules-of-end-2
+part-rules-of-end-2 c = search needs
 
-state-rules-requires : tie.Need-state-rules-requires
-state-rules-requires c κs = (c .before .before .before .before .before .before .before .before .before .before .before .before .before .pre .0, (c .before .before .before .before .before .before .before .before .before .before .before .before .before .pre .1 .0 .0, lent-room _ _ _ _ _ (c .before .before .before .before .before .before .before .before .before .before .before .before .before .pre .1 .1)))
+rules-of-requires : tie.Need-rules-of-requires
+rules-of-requires c κs = (c .before .before .before .before .before .before .before .before .before .before .pre .0, (c .before .before .before .before .before .before .before .before .before .before .pre .1 .0 .0, lent-room _ _ _ _ _ (c .before .before .before .before .before .before .before .before .before .before .pre .1 .1)))
 
 same-length : tie.Need-same-length
 same-length c = search needs
@@ -44,22 +44,22 @@ same-length-2 c = search needs
 
 returns : tie.Need-returns
 returns c =
-    let low = begins (c .before .before .before .before .before .before .before .before .before .before .before .before .before .before .before .before .before .before) in
-    (put-rules _ _ _ _ _ _ _ _ _ (low .0) (low .1) (c .before .before .before .before .state-rules .ensures), (put-below _ _ _ (low .0), put-below _ _ _ (low .1)))
+    let low = begins (c .before .before .before .before .before .before .before .before .before .before .before .before .before .before .before) in
+    (put-rules _ _ _ _ _ _ _ _ _ (low .0) (low .1) (c .before .before .before .before .rules-of .ensures), (put-below _ _ _ (low .0), put-below _ _ _ (low .1)))
 
 pub rules-from-spec : {M : Type 1} → statement M
 rules-from-spec =
     tie.close
     (tie.spec
-    mul-state-rules
-    sub-state-rules
-    part-state-rules-start
-    part-state-rules-end
-    mul-state-rules-2
-    sub-state-rules-2
-    part-state-rules-start-2
-    part-state-rules-end-2
-    state-rules-requires
+    mul-rules-of
+    sub-rules-of
+    part-rules-of-start
+    part-rules-of-end
+    mul-rules-of-2
+    sub-rules-of-2
+    part-rules-of-start-2
+    part-rules-of-end-2
+    rules-of-requires
     same-length
     same-length-2
     returns)
