@@ -45,7 +45,7 @@ fn examples_and_hostile_messages_keep_their_answers() {
     let longer = files("examples", "msg").into_iter().filter(|file| !kept(&std::fs::read(file).unwrap(), PLENTY));
     assert!(longer.eq([path("examples/pumping-station.msg")]), "one example needs the present limits");
     let longer = stress::hostile().unwrap().into_iter().filter(|hostile| !kept(&hostile.message, PLENTY));
-    assert_eq!(longer.count(), 62);
+    assert_eq!(longer.count(), 63);
 }
 
 /// A message whose sizes are these and whose words are zeros otherwise.

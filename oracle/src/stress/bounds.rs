@@ -116,6 +116,23 @@ pub fn lettered(system: &System) -> Vec<Limits> {
     bounds
 }
 
+/// 256 bounds: 254 narrow ones of the first states, and last two that hold every state and half of the letters each. No
+/// one bound covers all that a send puts, but each letter is covered by one of the last two; these leak.
+pub fn halves(system: &System) -> Vec<Limits> {
+    let n = system.counters();
+    let half = |odd: usize| {
+        let mut limits = vec![UNBOUNDED; n];
+        (system.states..n).filter(|letter| letter % 2 != odd).for_each(|letter| limits[letter] = 0);
+        limits
+    };
+    let wide = [half(0), half(1)];
+    let left = ENTRIES - wide.iter().map(|limits| 1 + limits.iter().filter(|&&limit| limit > 0).count()).sum::<usize>();
+    let held = (left / (MOST - 2) - 1).min(system.states);
+    let mut limits = vec![0; n];
+    limits[..held].fill(UNBOUNDED);
+    vec![limits; MOST - 2].into_iter().chain(wide).collect()
+}
+
 /// As many entries as may be: wide bounds, each below the next in one counter.
 pub fn wide(system: &System) -> Vec<Limits> {
     let n = system.counters();

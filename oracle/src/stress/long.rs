@@ -98,6 +98,12 @@ pub fn hostile() -> Result<Vec<Sample>, String> {
             13,
             spared(bounds::lettered),
         )?,
+        sample(
+            "long-counters-halves",
+            "the same as long-counters, but in place of the ceiling that holds all two that hold half of the letters each",
+            13,
+            counters(bounds::halves),
+        )?,
         sample("long-counters-wide", "seven ceilings of all 1,024 counters", 0, counters(bounds::wide))?,
     ])
 }
@@ -194,7 +200,7 @@ fn counters_with(bounds: impl Bounds, spare: bool) -> Result<Vec<u8>, String> {
     let extra = move |program: &Program, tables: &mut Tables| {
         let last = builds(program).last().filter(|_| spare);
         every_letter_but(program, tables, target, message, last);
-        for build in last {
+        if let Some(build) = last {
             tables.mail.iter_mut().for_each(|mail| {
                 mail.insert(build);
             });
