@@ -9,7 +9,7 @@ use oracle::verify::verify_within;
 use std::fs::read_to_string;
 
 fn stands(table: Result<String, String>, file: &str) {
-    let stored = read_to_string(path(&format!("crates/cases/specs/{file}"))).expect(file);
+    let stored = read_to_string(path(&format!("crates/cases_oracle/specs/{file}"))).expect(file);
     assert!(table.expect("a table") == stored, "{file} is not what its source gives: write it anew (oracle/README.md)");
 }
 

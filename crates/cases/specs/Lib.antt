@@ -1,8 +1,5 @@
 pub mod Cases
 pub mod Shown
-pub mod RunCases
-pub mod VerdictCases
-pub mod CounterCases
 pub mod LongerCases
 pub mod HeldCases
 pub mod MailedCases

@@ -1,5 +1,5 @@
-//! The model's tables of cases, written by this implementation: runs (crates/cases/specs/RunCases.antt) and verdicts
-//! (crates/cases/specs/VerdictCases.antt). The sources stand in tests/cases.
+//! The model's tables of cases, written by this implementation: runs (crates/cases_oracle/specs/RunCases.antt) and verdicts
+//! (crates/cases_oracle/specs/VerdictCases.antt). The sources stand in tests/cases.
 
 pub mod antt;
 pub mod parts;

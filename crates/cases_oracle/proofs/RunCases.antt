@@ -2,10 +2,10 @@
 use mathlib.Core.Path.{_≡_, refl}
 use mathlib.Core.Option.{none}
 use mathlib.Core.List.{map}
 use Rattle.cases.proofs.Opens.{model-opens}
 use Rattle.model.specs.Verify.{program-check}
 use Rattle.cases.specs.Shown.{digits, numeral, spaced, followed, by-name, value-text, kept, argument-texts, process-text, station, after, come-to}
-use Rattle.cases.specs.RunCases.{run-stations, run-cases, run-cases-opens}
+use Rattle.cases_oracle.specs.RunCases.{run-stations, run-cases, run-cases-opens}
 
 pub run-cases-hold : map come-to run-cases ≡ map (λ k. k .expected) run-cases
 unfolding model-opens digits numeral spaced followed by-name value-text kept argument-texts process-text station after come-to run-cases-opens

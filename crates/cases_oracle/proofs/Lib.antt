@@ -1,0 +1,3 @@
+pub mod VerdictCases
+pub mod CounterCases
+pub mod RunCases

@@ -1,0 +1,1 @@
+// Tables of cases that the other implementation wrote, and those of counters, computed: no code.
