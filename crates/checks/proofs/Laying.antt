@@ -4,50 +4,53 @@ use native.Mathlib.Nat.{mul-le-mul-left, mul-le-mul-right}
 use native.Mathlib.Decide.{ℕ-discrete}
 use native.Mathlib.Omega.{arith}
 use mathlib.Core.Path.{_≡_, refl, sym, ap, _∙_}
-use mathlib.Core.List.{List}
+use mathlib.Core.List.{List, _++_}
 use mathlib.Core.Option.{none}
-use lib.ListN.{length, length-drop}
-use lib.Dec.{eqb}
-use Rattle.rooms.specs.Rooms.{letter-sets, limit-room}
+use lib.ListN.{length, take, drop, length-drop, length-append}
+use lib.Seq.{length-take-le}
+use borrow.Rule.Slice.PartAt.{part-to-end}
+use borrow.Author.Tests.{leb-true, eq-eqb, ne-eqb}
+use Rattle.rooms.specs.Rooms.{letter-sets, rule-words}
+use Rattle.rooms.specs.Cleared.{Cleared}
 use Rattle.model.specs.declared.Sizes.{Sizes}
 use Rattle.model.specs.Verdict.{_>>_}
 use Rattle.model.specs.Words.{columns}
-use Rattle.model.specs.Rows.{Program, size, tag, num, program, row-check}
-use Rattle.model.specs.Limits.{present, maxCounters, maxCeilings, maxLines, maxArity, maxConstructors, maxMails}
-use Rattle.model.specs.Tables.{Tables, tables, entries, entry-check, has, state, state-index}
-use Rattle.model.specs.Index.{all, implies}
+use Rattle.model.specs.Rows.{Program, program, row-check}
+use Rattle.model.specs.Limits.{present, maxCounters}
+use Rattle.model.specs.Tables.{Tables, tables, entries, entry-check}
 use Rattle.model.specs.Scopes.{name-check, scope-check}
-use Rattle.model.specs.Heads.{start}
-use Rattle.model.specs.Closed.{start-state, opening-closed, open-check}
+use Rattle.model.specs.Closed.{open-check}
 use Rattle.model.specs.Letters.{head-count}
 use Rattle.model.specs.Counters.{letter-count, counter-count, counter-check}
 use Rattle.model.specs.Ceilings.{ceiling-check}
 use Rattle.model.specs.Weights.{weight-check}
 use Rattle.model.specs.Verify.{program-check}
-use Rattle.model.proofs.Exact.Checks.{then-none, unless-none}
-use Rattle.model.proofs.Logic.{and-right, chosen-true, chosen-false}
+use Rattle.model.proofs.Exact.Checks.{unless-none}
+use Rattle.model.proofs.Logic.{chosen-true, chosen-false}
 use Rattle.model.proofs.Exact.Entries.{ceiling-none, weight-none}
-use Rattle.model.proofs.Numbering.States.{index-below}
 use Rattle.model.proofs.Numbering.Within.{within-exactly}
-use borrow.Author.Tests.{leb-true, eq-eqb, ne-eqb}
 use Rattle.program.specs.Rows.{from}
 use Rattle.layout.specs.Tables.{After-table}
-use Rattle.positions.specs.Positions.{Ends}
-use Rattle.ceilings_form.specs.Parts as ceilings
+use Rattle.lists.specs.Lists.{Starts}
 use Rattle.lists.specs.Ready.{Ready}
+use Rattle.positions.specs.Positions.{Ends}
+use Rattle.positions.specs.Branches.{Branch-bits}
+use Rattle.values.specs.Values.{width, Empty}
+use Rattle.matching.specs.Patterns.{Fitting-sets}
 use Rattle.evidence.specs.Whole.{Parts-whole}
-use Rattle.rooms.specs.Cleared.{Cleared}
-use Rattle.closure_sized.proofs.Opening.{product-most, sets-fit}
-use Rattle.system_letters.specs.Letters.{Name-heads, Class-letters, letter-width, allowed-set, Letter-sets}
+use Rattle.ceilings_form.specs.Parts as ceilings
+use Rattle.ceilings_met.specs.Items.{Bads-in-form}
+use Rattle.closure_sized.proofs.Opening.{sets-fit, empty-sets}
+use Rattle.system_letters.specs.Letters.{Class-letters, letter-width, allowed-set, Letter-sets}
 use Rattle.letter_codes.specs.Codes.{capped}
 use Rattle.letter_codes.proofs.Capped.{capped-few}
 use Rattle.letter_sets.specs.Sets.{Letter-room}
-use Rattle.rules.specs.Derived.{read-set, owner-at, Rule-room, Reads, Rule-tables}
+use Rattle.rules.specs.Derived.{read-set, owner-at, Reads}
 use Rattle.pattern_letters.specs.Picked.{Match-tables, Owners-room}
-use Rattle.kept_rules.specs.Kept.{Room-from}
-use Rattle.model.specs.Demands.{Within-limits}
-use Rattle.checks.specs.Order.{form-check}
-use Rattle.checks.specs.Scratch.{Bounds-room, Mask-room, Formed, Lined, Numbered, Closed-tables, Rules-fit}
+use Rattle.rule_tables.specs.Joined.{table-room, flow-from, branches-from, letter-from, Joined-tables, Same-below, Joined}
+use Rattle.rule_tables.proofs.Joining.{ends-kept, starts-kept, branches-kept, same-part, put-rest, put-below}
+use Rattle.stages.specs.Order.{form-check}
+use Rattle.stages.specs.Scratch.{Formed, Lined, Numbered, Closed-tables, Lettered}
 
 -- refusals 3 to 5 found nothing
 pub program-passes : (p : Program) → row-check p ≡ none → name-check p ≡ none → scope-check p ≡ none → program-check p ≡ none
@@ -61,14 +64,6 @@ ready ws s w p e =
 pub ceilings-whole : (ws : List ℕ) (s : Sizes) → Parts-whole ws s → ceilings.Whole ws s
 ceilings-whole ws s w = record { limits = w .limits; held = w .held }
 
--- refusal 8 found nothing, so the start has a counter
-pub start-counted : (s : Sizes) (p : Program) (t : Tables) → open-check s p t ≡ none → state-index t (start-state p) < counter-count p t
-unfolding open-check opening-closed counter-count
-start-counted s p t h =
-    let listed = and-right (all 0 (size p) (λ r. implies (eqb (tag p r) 11) (has (t .flow) (num p r) r))) _ (unless-none _ _ .0 (then-none _ _ .0 h .0)) in
-    let below = index-below t (start-state p) listed in
-    omega arith
-
 -- the table of the layout
 module _ (ws : List ℕ) (s : Sizes) (table : List ℕ) (room : s .rows ≤ length table) where
   pub ends : After-table (program ws s) table → Ends (program ws s) table
@@ -79,49 +74,6 @@ module _ (ws : List ℕ) (s : Sizes) (table : List ℕ) (room : s .rows ≤ leng
         after-expression = λ r e h. after .expressions r e (omega arith) h;
         after-pattern = λ q d e h. after .patterns d q e (omega arith) h;
       }
-
--- the counter of the start, by its row
-pub start-told : (ws : List ℕ) (s : Sizes) (r x : ℕ) → r ≡ start (program ws s) → x ≡ state-index (tables ws s) (state (s .rows) r (s .rows)) → x ≡ state-index (tables ws s) (start-state (program ws s))
-unfolding start-state program columns
-start-told ws s r x e h = h ∙ ap (λ q. state-index (tables ws s) (state (s .rows) q (s .rows))) e
-
-pub ceilings-of-ready : (ws : List ℕ) (s : Sizes) → Ready ws s → ceilings.Whole ws s
-ceilings-of-ready ws s h = record { limits = h .limits; held = h .held }
-
--- room for the rules of a state, also behind the first `spare` words
-pub rules-fit : (ws : List ℕ) (s : Sizes) (tos others : List ℕ) (room : ℕ) → room ≡ length tos → Rule-room ws s tos others → Rules-fit ws s 0 room
-rules-fit ws s tos others room e r = let v = r .values in let l = r .letters in let k = r .counters in record { values = omega arith; letters = omega arith; counters = omega arith }
-
-pub spare-room : (ws : List ℕ) (s : Sizes) (spare : ℕ) (tos others : List ℕ) (room : ℕ) → room ≡ length tos → Rule-room ws s tos others → Rules-fit ws s spare room → Room-from ws s spare tos others
-spare-room ws s spare tos others room e r f =
-    let a = r .alike in
-    let x = length-drop spare tos in
-    let y = length-drop spare others in
-    let v = f .values in
-    let l = f .letters in
-    let k = f .counters in
-    record { room = record { values = omega arith; letters = omega arith; counters = omega arith; alike = omega arith } }
-
--- cleared lists of m words for the rules of a message of n counters, of which the letters are some
-pub rule-room : (ws : List ℕ) (s : Sizes) (n m : ℕ) (tos others : List ℕ) → n ≡ counter-count (program ws s) (tables ws s) → s .rows < m → 16 * n ≤ m → maxCounters ≤ m → Cleared m tos → Cleared m others → Rule-room ws s tos others
-unfolding counter-count
-rule-room ws s n m tos others e h k l t o =
-    let a = t .room in
-    let b = o .room in
-    record { values = omega arith; letters = omega arith; counters = omega arith; alike = omega arith }
-
--- limits of n counters, and where the ceilings begin, or weights and lines
-pub bounds-room : (n count k m : ℕ) (limits starts : List ℕ) → n * count ≤ k → count ≤ m → Cleared k limits → Cleared m starts → Bounds-room n count limits starts
-bounds-room n count k m limits starts h b l c =
-    record {
-      cells = let q = l .room in omega arith;
-      blank = l .zero;
-      firsts = let q = c .room in omega arith;
-    }
-
--- the counters of a message that refusal 9 does not refuse
-pub few-counters : (ws : List ℕ) (s : Sizes) (n : ℕ) → n ≡ counter-count (program ws s) (tables ws s) → counter-count (program ws s) (tables ws s) ≤ maxCounters → n ≤ maxCounters
-few-counters ws s n e h = omega (arith, e)
 
 -- the bounds in form are those that the message has
 pub numbered : (ws : List ℕ) (s : Sizes) (n : ℕ) → Formed ws s n → s .lines ≡ 0 → Numbered ws s n
@@ -136,49 +88,112 @@ lined ws s n h e =
     let f = sym (chosen-false _ _ (weight-check ws s n) (ne-eqb (s .lines) 0 (λ z. omega arith))) ∙ h .in-form in
     record { some = e; counted = h .counted; in-form = weight-none ws s n .0 f; bads = h .bads }
 
--- no message has more limits, nor more weights
-pub all-cells : (s : Sizes) (n : ℕ) → n ≤ maxCounters → Within-limits present s → n * s .ceilings ≤ limit-room
-all-cells s n h l = product-most n (s .ceilings) maxCounters maxCeilings (omega arith) (l .ceilings)
+-- a table of words as long as it was made
+module _ (ws : List ℕ) (s : Sizes) (before after : List ℕ) (h : Ready ws s) (l : length after ≡ rule-words) where
+  front-kept : (n : ℕ) → table-room ≤ n → length before ≡ rule-words → Same-below n before after → Ends (program ws s) before → Ends (program ws s) after
+  unfolding program columns
+  front-kept n m e k = ends-kept (program ws s) n before after (let z = h .limits .rows .1 in omega arith) (l ∙ sym e) k
 
-pub line-cells : (s : Sizes) (n m k : ℕ) → n ≤ m → m * maxLines ≤ k → Within-limits present s → n * s .lines ≤ k
-line-cells s n m k h fit l = let z = product-most n (s .lines) m maxLines h (l .lines) in omega arith
+  flow-kept : (starts : List ℕ) → Same-below (s .names + 1) starts (drop flow-from after) → Starts (tables ws s .flow) (s .names) starts → Starts (tables ws s .flow) (s .names) (drop flow-from after)
+  flow-kept starts = starts-kept (tables ws s .flow) (s .names) starts (drop flow-from after) (let z = h .limits .names .1 in let y = length-drop flow-from after in omega arith)
 
--- sets of ceilings for n counters
-pub mask-room : (j k l n : ℕ) (holders unbounded group short more : List ℕ) → n * 8 ≤ j → n * 4 ≤ k → n * 12 ≤ l → Cleared j holders → Cleared k unbounded → Cleared l group → Cleared k short → Cleared k more → Mask-room n holders unbounded group short more
-mask-room j k l n holders unbounded group short more g h i a b c d e =
+  bits-kept : (branches : List ℕ) → Same-below (s .states) branches (drop branches-from after) → Branch-bits (program ws s) (tables ws s) branches → Branch-bits (program ws s) (tables ws s) (drop branches-from after)
+  unfolding tables entries columns
+  bits-kept branches = branches-kept (program ws s) (tables ws s) branches (drop branches-from after) (let z = h .limits .states in let y = length-drop branches-from after in omega arith)
+
+-- what refusal 8 leaves, joined in
+pub closed-tables : (ws : List ℕ) (s : Sizes) (starts branches before after fitting : List ℕ) → Ready ws s → ceilings.Whole ws s → Bads-in-form ws s → open-check s (program ws s) (tables ws s) ≡ none → length before ≡ rule-words → Ends (program ws s) before → Starts (tables ws s .flow) (s .names) starts → Fitting-sets (program ws s) (tables ws s) fitting → Branch-bits (program ws s) (tables ws s) branches → Joined s starts branches before after → Closed-tables ws s after fitting
+closed-tables ws s starts branches before after fitting h w b o e a f g i j =
+    let long = j .long ∙ e in
     record {
-      held = let q = a .room in omega arith;
-      free = let q = b .room in omega arith;
-      states = let q = c .room in omega arith;
-      one-less = let q = d .room in omega arith;
-      one-more = let q = e .room in omega arith;
+      ready = h;
+      whole = w;
+      bads = b;
+      closed = o;
+      room = long;
+      ends = front-kept ws s before after h long flow-from (omega arith) e (j .front) a;
+      flow-starts = flow-kept ws s before after h long starts (λ x l. j .flow x (omega arith)) f;
+      fitting-sets = g;
+      branch-bits = bits-kept ws s before after h long branches (j .branch) i;
     }
 
--- each state is a counter
-pub states-few : (ws : List ℕ) (s : Sizes) (n : ℕ) → n ≡ counter-count (program ws s) (tables ws s) → s .states ≤ n
-unfolding counter-count tables entries columns
-states-few ws s n e = omega (arith, e)
+-- a list whose rest behind a was lent is as long when it comes back
+part-long : (a : ℕ) (xs ys : List ℕ) → a ≤ length xs → length ys ≡ length (take (length xs - a) (drop a xs)) → length (take a xs ++ (ys ++ drop (length xs - a) (drop a xs))) ≡ length xs
+part-long a xs ys h e =
+    let d = length-drop a xs in
+    let r = length-drop (length xs - a) (drop a xs) in
+    let p = ap length (part-to-end xs a) in
+    let t = length-take-le a xs h in
+    simp length-append (omega arith)
+
+-- there is room for where the letters of each class begin
+pub letters-fit : (ws : List ℕ) (s : Sizes) (narrow fitting : List ℕ) → Closed-tables ws s narrow fitting → s .rows + 1 < length (take (length narrow - letter-from) (drop letter-from narrow))
+letters-fit ws s narrow fitting c =
+    let p = ap length (part-to-end narrow letter-from) in
+    let d = length-drop letter-from narrow in
+    let l = c .ready .limits .rows .1 in
+    let r = c .room in
+    omega arith
+
+-- the part for the letters, lent and come back as ys
+module _ (ws : List ℕ) (s : Sizes) (narrow fitting ys : List ℕ) (c : Closed-tables ws s narrow fitting) where
+  letters-put : List ℕ
+  letters-put = take letter-from narrow ++ (ys ++ drop (length narrow - letter-from) (drop letter-from narrow))
+
+  letters-begin : letter-from ≤ length narrow
+  letters-begin = let z = c .room in omega arith
+
+  pub closed-kept : length ys ≡ length (take (length narrow - letter-from) (drop letter-from narrow)) → Closed-tables ws s (take letter-from narrow ++ (ys ++ drop (length narrow - letter-from) (drop letter-from narrow))) fitting
+  unfolding letters-put
+  closed-kept e =
+      let h = c .ready in
+      let same = put-below letter-from narrow (ys ++ drop (length narrow - letter-from) (drop letter-from narrow)) letters-begin in
+      let long : length letters-put ≡ rule-words = part-long letter-from narrow ys letters-begin e ∙ c .room in
+      record {
+        ready = h;
+        whole = c .whole;
+        bads = c .bads;
+        closed = c .closed;
+        room = long;
+        ends = front-kept ws s narrow letters-put h long letter-from (omega arith) (c .room) same (c .ends);
+        flow-starts = flow-kept ws s narrow letters-put h long (drop flow-from narrow) (same-part flow-from (s .names + 1) letter-from narrow letters-put (let z = h .limits .names .1 in omega arith) same) (c .flow-starts);
+        fitting-sets = c .fitting-sets;
+        branch-bits = bits-kept ws s narrow letters-put h long (drop branches-from narrow) (same-part branches-from (s .states) letter-from narrow letters-put (let z = h .limits .states in omega arith) same) (c .branch-bits);
+      }
+
+  pub letters-kept : Class-letters (program ws s) (tables ws s) ys → Class-letters (program ws s) (tables ws s) (drop letter-from (take letter-from narrow ++ (ys ++ drop (length narrow - letter-from) (drop letter-from narrow))))
+  letters-kept h = rw (put-rest letter-from narrow ys letters-begin) h
 
 -- all that the rules are derived from
-module _ (ws : List ℕ) (s : Sizes) (afters flow-at : List ℕ) (w : ℕ) (fitting branches : List ℕ) (c : Closed-tables ws s afters flow-at w fitting branches) where
-  pub match-tables : (names : List ℕ) → Name-heads (program ws s) (tables ws s) names → Match-tables ws s w fitting names
-  match-tables names a = record { ready = c .ready; name-width = c .name-width; fitting-sets = c .fitting-sets; name-heads = a }
+module _ (ws : List ℕ) (s : Sizes) (narrow fitting names codes : List ℕ) (n : ℕ) (c : Lettered ws s narrow fitting names codes n) where
+  pub letters-from : letter-from ≤ length narrow
+  letters-from = let z = c .closed-tables .room in omega arith
 
-  pub rule-tables : (n : ℕ) (names letter-at letters : List ℕ) → n ≡ counter-count (program ws s) (tables ws s) → n ≤ maxCounters → Name-heads (program ws s) (tables ws s) names → Class-letters (program ws s) (tables ws s) letter-at → Letter-sets (program ws s) (tables ws s) letters → Reads (program ws s) (tables ws s) letters → Rule-tables ws s afters flow-at w fitting names letter-at letters branches
-  rule-tables n names letter-at letters h l a b d e =
+  pub lent-classes : Class-letters (program ws s) (tables ws s) (take (length narrow - letter-from) (drop letter-from narrow))
+  lent-classes = rw (part-to-end narrow letter-from) (c .class-letters)
+
+  pub counters-few : counter-count (program ws s) (tables ws s) ≤ maxCounters
+  counters-few = omega (arith, c .formed .counted, c .few)
+
+  pub match-tables : (w : ℕ) → w ≡ width (s .names) → Match-tables ws s w fitting names
+  match-tables w e = record { ready = c .closed-tables .ready; name-width = e; fitting-sets = c .closed-tables .fitting-sets; name-heads = c .name-heads }
+
+  pub rule-tables : (letters : List ℕ) → Letter-sets (program ws s) (tables ws s) letters → Reads (program ws s) (tables ws s) letters → Joined-tables ws s narrow fitting names letters
+  rule-tables letters d e =
+      let k = c .closed-tables in
       record {
-        ready = c .ready;
-        closed = c .closed;
-        few = omega arith;
-        ends = c .ends;
-        flow-starts = c .flow-starts;
-        name-width = c .name-width;
-        fitting-sets = c .fitting-sets;
-        name-heads = a;
-        class-letters = b;
+        ready = k .ready;
+        closed = k .closed;
+        few = counters-few;
+        ends = k .ends;
+        flow-starts = k .flow-starts;
+        name-width = refl;
+        fitting-sets = k .fitting-sets;
+        name-heads = c .name-heads;
+        class-letters = c .class-letters;
         letter-sets = d;
         reads = e;
-        branch-bits = c .branch-bits;
+        branch-bits = k .branch-bits;
       }
 
 -- no message needs more words for sets of letters: where there are more letters there are fewer states
@@ -214,6 +229,14 @@ module _ (ws : List ℕ) (s : Sizes) where
   letters-room n letters h b =
       let z : allowed-set (program ws s) (s .mails) * letter-width (program ws s) (tables ws s) ≤ (allowed-set (program ws s) (s .mails) + s .states) * letter-width (program ws s) (tables ws s) = mul-le-mul-right (letter-width (program ws s) (tables ws s)) (omega arith) in
       (sets-fit _ _ (allowed-set (program ws s) (s .mails)) (letter-width (program ws s) (tables ws s)) n letters h (omega arith) (omega arith) (omega arith), record { room = let q = h .room in omega arith })
+
+-- a cleared table of so many words is all that is asked for where the sets need no more
+module _ (ws : List ℕ) (s : Sizes) (narrow fitting names codes : List ℕ) (n : ℕ) (c : Lettered ws s narrow fitting names codes n) where
+  pub letters-lent : (words : ℕ) (letters : List ℕ) → owner-at (program ws s) (tables ws s) (s .states) ≤ words → Cleared words letters → Lettered ws s narrow fitting names codes n × (Empty (letter-width (program ws s) (tables ws s)) letters × (Letter-room (program ws s) (tables ws s) letters × Owners-room (program ws s) (tables ws s) letters))
+  letters-lent words letters h r = let room = letters-room ws s words letters r h in (c, (empty-sets _ _ _ r, (room .0, room .1)))
+
+  pub all-words : owner-at (program ws s) (tables ws s) (s .states) ≤ letter-sets
+  all-words = words-most ws s (c .closed-tables .ready) (counters-few ws s narrow fitting names codes n c)
 
 -- a table that keeps its length keeps its room
 pub owners-kept : (ws : List ℕ) (s : Sizes) (u v : List ℕ) → Owners-room (program ws s) (tables ws s) u → length v ≡ length u → Owners-room (program ws s) (tables ws s) v

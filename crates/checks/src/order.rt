@@ -7,11 +7,12 @@ use closure_sized::open_verdict;
 use evidence::entries::entry_check;
 use grammar::row_check;
 use layout::ends::fill_ends;
-use matching::names::name_width;
 use model::Sizes;
 use model::Verdict;
 use rooms::row_words16;
+use rooms::rule_words16;
 use rooms::words16_512;
+use rule_tables::join_tables;
 use scopes::names::name_check;
 use scopes::scope::scope_check;
 ghost use mathlib.Core.Path.{_≡_};
@@ -21,7 +22,7 @@ ghost use Rattle.model.specs.Verify.{message-check, answer};
 ghost use Rattle.evidence.specs.Whole.{Parts-whole};
 ghost use Rattle.system_space.specs.Space.{words-after};
 ghost use Rattle.matching.specs.Patterns.{Unfitted};
-ghost use Rattle.checks.specs.Order.{taken};
+ghost use Rattle.stages.specs.Order.{taken};
 
 // Refusals 3 to 8, 22, 9 and all behind, one after the other; after none the listing is written.
 pub fn words_verdict(ws: &[u16], s: Sizes, fitting: &mut [u64], lent: &mut [u32]) -> Verdict
@@ -39,9 +40,9 @@ pub fn words_verdict(ws: &[u16], s: Sizes, fitting: &mut [u64], lent: &mut [u32]
     if !is_safe(unique) {
         return unique;
     }
-    let mut afters = row_words16();
-    fill_ends(ws, s, &mut afters);
-    let scopes = scope_check(ws, s, &afters, &binders);
+    let mut narrow = rule_words16();
+    fill_ends(ws, s, &mut narrow);
+    let scopes = scope_check(ws, s, &narrow, &binders);
     if !is_safe(scopes) {
         return scopes;
     }
@@ -55,10 +56,10 @@ pub fn words_verdict(ws: &[u16], s: Sizes, fitting: &mut [u64], lent: &mut [u32]
     }
     let mut starts = row_words16();
     let mut branches = row_words16();
-    let open = open_verdict(64, ws, s, &afters, &mut starts, fitting, &mut branches);
+    let open = open_verdict(64, ws, s, &narrow, &mut starts, fitting, &mut branches);
     if !is_safe(open) {
         return open;
     }
-    let w = name_width(s);
-    system_verdict(ws, s, &afters, &starts, w, fitting, &branches, lent)
+    join_tables(s, &starts, &branches, &mut narrow);
+    system_verdict(ws, s, &mut narrow, fitting, lent)
 }

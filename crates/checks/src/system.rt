@@ -1,12 +1,12 @@
 // Refusals 22, 9 and all behind: the letters that mail allows are counted and listed, and those below stand on them;
 // after none the listing is written. The room for names and sets of letters is by need.
 use crate::bounds::bounds_verdict;
-use crate::stages::form_verdict;
 use answers::is_safe;
 use kept_letters::fill_reads;
 use letter_codes::fill_codes;
 use letter_sets::fill_letters;
 use mailed::counters_verdict;
+use matching::names::name_width;
 use model::MAX_ARITY;
 use model::MAX_COUNTERS;
 use model::OTHER_HEADS;
@@ -14,10 +14,11 @@ use model::Sizes;
 use model::Verdict;
 use rooms::letter_codes;
 use rooms::letter_sets;
-use rooms::row_words16;
 use rooms::words64_130;
 use rooms::words64_256;
 use rooms::words64_1024;
+use rule_tables::LETTER_AT;
+use stages::form_verdict;
 use system_letters::fill_names;
 use system_letters::letter_width;
 ghost use mathlib.Core.Path.{_≡_};
@@ -30,15 +31,14 @@ ghost use Rattle.model.specs.Tables.{tables};
 ghost use Rattle.model.specs.Verify.{answer};
 ghost use Rattle.lists.specs.Ready.{Ready};
 ghost use Rattle.values.specs.Values.{Empty};
-ghost use Rattle.system_letters.specs.Letters.{Name-heads, Class-letters, letter-width};
+ghost use Rattle.system_letters.specs.Letters.{Class-letters, letter-width};
 ghost use Rattle.model.specs.Counters.{counter-count};
 ghost use Rattle.rules.specs.Derived.{owner-at};
 ghost use Rattle.pattern_letters.specs.Picked.{Owners-room};
-ghost use Rattle.letter_codes.specs.Codes.{Coded};
 ghost use Rattle.letter_sets.specs.Sets.{Letter-room};
 ghost use Rattle.system_space.specs.Space.{words-after};
-ghost use Rattle.checks.specs.Order.{from-22, from-11};
-ghost use Rattle.checks.specs.Scratch.{Closed-tables, Formed};
+ghost use Rattle.stages.specs.Order.{from-22, from-11};
+ghost use Rattle.stages.specs.Scratch.{Closed-tables, Lettered};
 
 // The digits of a letter: its number, and the head of each argument.
 const DIGITS: usize = MAX_ARITY + 1;
@@ -68,170 +68,85 @@ fn letter_words(ws: &[u16], s: Sizes, letter_at: &[u16]) -> usize
 fn lettered_verdict(
     ws: &[u16],
     s: Sizes,
-    afters: &[u16],
-    flow_at: &[u16],
-    w: usize,
+    narrow: &[u16],
     fitting: &[u64],
     names: &[u64],
-    letter_at: &[u16],
     codes: &[u64],
-    branches: &[u16],
     n: usize,
     letters: &mut [u64],
     lent: &mut [u32],
 ) -> Verdict
-    requires { ⌜ Closed-tables (now ws) s (now afters) (now «flow_at») w (now fitting) (now branches) ⌝ }
-    requires { ⌜ Name-heads (program (now ws) s) (tables (now ws) s) (now names) ⌝ }
-    requires { ⌜ Class-letters (program (now ws) s) (tables (now ws) s) (now «letter_at») ⌝ }
-    requires { ⌜ Coded (program (now ws) s) (tables (now ws) s) (now codes) ⌝ }
-    requires { ⌜ Formed (now ws) s n × (n ≤ maxCounters) ⌝ }
+    requires { ⌜ Lettered (now ws) s (now narrow) (now fitting) (now names) (now codes) n ⌝ }
     requires { ⌜ Empty (letter-width (program (now ws) s) (tables (now ws) s)) (now letters) ⌝ }
     requires { ⌜ Letter-room (program (now ws) s) (tables (now ws) s) (now letters) ⌝ }
     requires { ⌜ Owners-room (program (now ws) s) (tables (now ws) s) (now letters) ⌝ }
     ensures { λ v. ⌜ v ≡ answer (from-11 (now (ws .entry)) s (length (now (lent .entry)))) ⌝ }
     ensures { λ v. ⌜ now (lent .exit) ≡ words-after v (now (ws .entry)) s (now (lent .entry)) ⌝ }
 {
+    let letter_at = &narrow[LETTER_AT..];
     fill_letters(ws, s, names, letter_at, codes, letters);
-    fill_reads(ws, s, afters, w, fitting, names, letter_at, letters);
-    bounds_verdict(
-        ws,
-        s,
-        afters,
-        flow_at,
-        w,
-        fitting,
-        names,
-        letter_at,
-        letters,
-        branches,
-        n,
-        lent,
-    )
+    let w = name_width(s);
+    fill_reads(ws, s, narrow, w, fitting, names, letter_at, letters);
+    bounds_verdict(ws, s, narrow, fitting, names, letters, n, lent)
 }
 
 // Refusals behind 10 or 16 of few letters.
 fn few_letters(
     ws: &[u16],
     s: Sizes,
-    afters: &[u16],
-    flow_at: &[u16],
-    w: usize,
+    narrow: &[u16],
     fitting: &[u64],
     names: &[u64],
-    letter_at: &[u16],
     codes: &[u64],
-    branches: &[u16],
     n: usize,
     lent: &mut [u32],
 ) -> Verdict
-    requires { ⌜ Closed-tables (now ws) s (now afters) (now «flow_at») w (now fitting) (now branches) ⌝ }
-    requires { ⌜ Name-heads (program (now ws) s) (tables (now ws) s) (now names) ⌝ }
-    requires { ⌜ Class-letters (program (now ws) s) (tables (now ws) s) (now «letter_at») ⌝ }
-    requires { ⌜ Coded (program (now ws) s) (tables (now ws) s) (now codes) ⌝ }
-    requires { ⌜ Formed (now ws) s n × (n ≤ maxCounters) ⌝ }
+    requires { ⌜ Lettered (now ws) s (now narrow) (now fitting) (now names) (now codes) n ⌝ }
     requires { ⌜ owner-at (program (now ws) s) (tables (now ws) s) (s .states) ≤ 256 ⌝ }
     ensures { λ v. ⌜ v ≡ answer (from-11 (now (ws .entry)) s (length (now (lent .entry)))) ⌝ }
     ensures { λ v. ⌜ now (lent .exit) ≡ words-after v (now (ws .entry)) s (now (lent .entry)) ⌝ }
 {
     let mut letters = words64_256();
-    lettered_verdict(
-        ws,
-        s,
-        afters,
-        flow_at,
-        w,
-        fitting,
-        names,
-        letter_at,
-        codes,
-        branches,
-        n,
-        &mut letters,
-        lent,
-    )
+    lettered_verdict(ws, s, narrow, fitting, names, codes, n, &mut letters, lent)
 }
 
 // Refusals behind 10 or 16 of more.
 fn more_letters(
     ws: &[u16],
     s: Sizes,
-    afters: &[u16],
-    flow_at: &[u16],
-    w: usize,
+    narrow: &[u16],
     fitting: &[u64],
     names: &[u64],
-    letter_at: &[u16],
     codes: &[u64],
-    branches: &[u16],
     n: usize,
     lent: &mut [u32],
 ) -> Verdict
-    requires { ⌜ Closed-tables (now ws) s (now afters) (now «flow_at») w (now fitting) (now branches) ⌝ }
-    requires { ⌜ Name-heads (program (now ws) s) (tables (now ws) s) (now names) ⌝ }
-    requires { ⌜ Class-letters (program (now ws) s) (tables (now ws) s) (now «letter_at») ⌝ }
-    requires { ⌜ Coded (program (now ws) s) (tables (now ws) s) (now codes) ⌝ }
-    requires { ⌜ Formed (now ws) s n × (n ≤ maxCounters) ⌝ }
+    requires { ⌜ Lettered (now ws) s (now narrow) (now fitting) (now names) (now codes) n ⌝ }
     requires { ⌜ owner-at (program (now ws) s) (tables (now ws) s) (s .states) ≤ 1024 ⌝ }
     ensures { λ v. ⌜ v ≡ answer (from-11 (now (ws .entry)) s (length (now (lent .entry)))) ⌝ }
     ensures { λ v. ⌜ now (lent .exit) ≡ words-after v (now (ws .entry)) s (now (lent .entry)) ⌝ }
 {
     let mut letters = words64_1024();
-    lettered_verdict(
-        ws,
-        s,
-        afters,
-        flow_at,
-        w,
-        fitting,
-        names,
-        letter_at,
-        codes,
-        branches,
-        n,
-        &mut letters,
-        lent,
-    )
+    lettered_verdict(ws, s, narrow, fitting, names, codes, n, &mut letters, lent)
 }
 
 // Refusals behind 10 or 16 of any number.
 fn all_letters(
     ws: &[u16],
     s: Sizes,
-    afters: &[u16],
-    flow_at: &[u16],
-    w: usize,
+    narrow: &[u16],
     fitting: &[u64],
     names: &[u64],
-    letter_at: &[u16],
     codes: &[u64],
-    branches: &[u16],
     n: usize,
     lent: &mut [u32],
 ) -> Verdict
-    requires { ⌜ Closed-tables (now ws) s (now afters) (now «flow_at») w (now fitting) (now branches) ⌝ }
-    requires { ⌜ Name-heads (program (now ws) s) (tables (now ws) s) (now names) ⌝ }
-    requires { ⌜ Class-letters (program (now ws) s) (tables (now ws) s) (now «letter_at») ⌝ }
-    requires { ⌜ Coded (program (now ws) s) (tables (now ws) s) (now codes) ⌝ }
-    requires { ⌜ Formed (now ws) s n × (n ≤ maxCounters) ⌝ }
+    requires { ⌜ Lettered (now ws) s (now narrow) (now fitting) (now names) (now codes) n ⌝ }
     ensures { λ v. ⌜ v ≡ answer (from-11 (now (ws .entry)) s (length (now (lent .entry)))) ⌝ }
     ensures { λ v. ⌜ now (lent .exit) ≡ words-after v (now (ws .entry)) s (now (lent .entry)) ⌝ }
 {
     let mut letters = letter_sets();
-    lettered_verdict(
-        ws,
-        s,
-        afters,
-        flow_at,
-        w,
-        fitting,
-        names,
-        letter_at,
-        codes,
-        branches,
-        n,
-        &mut letters,
-        lent,
-    )
+    lettered_verdict(ws, s, narrow, fitting, names, codes, n, &mut letters, lent)
 }
 
 // Refusals behind 10 or 16 over the least room for sets of letters that fits, which that for `most` words or more may
@@ -240,115 +155,57 @@ fn sets_verdict(
     most: usize,
     ws: &[u16],
     s: Sizes,
-    afters: &[u16],
-    flow_at: &[u16],
-    w: usize,
+    narrow: &[u16],
     fitting: &[u64],
     names: &[u64],
-    letter_at: &[u16],
     codes: &[u64],
-    branches: &[u16],
     n: usize,
     lent: &mut [u32],
 ) -> Verdict
     requires { ⌜ 1 ≤ most ⌝ }
-    requires { ⌜ Closed-tables (now ws) s (now afters) (now «flow_at») w (now fitting) (now branches) ⌝ }
-    requires { ⌜ Name-heads (program (now ws) s) (tables (now ws) s) (now names) ⌝ }
-    requires { ⌜ Class-letters (program (now ws) s) (tables (now ws) s) (now «letter_at») ⌝ }
-    requires { ⌜ Coded (program (now ws) s) (tables (now ws) s) (now codes) ⌝ }
-    requires { ⌜ Formed (now ws) s n × (n ≤ maxCounters) ⌝ }
+    requires { ⌜ Lettered (now ws) s (now narrow) (now fitting) (now names) (now codes) n ⌝ }
     ensures { λ v. ⌜ v ≡ answer (from-11 (now (ws .entry)) s (length (now (lent .entry)))) ⌝ }
     ensures { λ v. ⌜ now (lent .exit) ≡ words-after v (now (ws .entry)) s (now (lent .entry)) ⌝ }
 {
     if most >= 4096 {
-        return all_letters(
-            ws,
-            s,
-            afters,
-            flow_at,
-            w,
-            fitting,
-            names,
-            letter_at,
-            codes,
-            branches,
-            n,
-            lent,
-        );
+        return all_letters(ws, s, narrow, fitting, names, codes, n, lent);
     }
-    let words = letter_words(ws, s, letter_at);
+    let words = letter_words(ws, s, &narrow[LETTER_AT..]);
     if words <= most {
         if most <= 256 {
-            return few_letters(
-                ws,
-                s,
-                afters,
-                flow_at,
-                w,
-                fitting,
-                names,
-                letter_at,
-                codes,
-                branches,
-                n,
-                lent,
-            );
+            return few_letters(ws, s, narrow, fitting, names, codes, n, lent);
         }
         if most <= 1024 {
-            return more_letters(
-                ws,
-                s,
-                afters,
-                flow_at,
-                w,
-                fitting,
-                names,
-                letter_at,
-                codes,
-                branches,
-                n,
-                lent,
-            );
+            return more_letters(ws, s, narrow, fitting, names, codes, n, lent);
         }
     }
-    sets_verdict(
-        4 * most,
-        ws,
-        s,
-        afters,
-        flow_at,
-        w,
-        fitting,
-        names,
-        letter_at,
-        codes,
-        branches,
-        n,
-        lent,
-    )
+    sets_verdict(4 * most, ws, s, narrow, fitting, names, codes, n, lent)
 }
 
 // Refusals 22, 9 and all behind over a lent set of heads for each name.
 fn named_verdict(
     ws: &[u16],
     s: Sizes,
-    afters: &[u16],
-    flow_at: &[u16],
-    w: usize,
+    narrow: &mut [u16],
     fitting: &[u64],
     names: &mut [u64],
-    branches: &[u16],
     lent: &mut [u32],
 ) -> Verdict
-    requires { ⌜ Closed-tables (now ws) s (now afters) (now «flow_at») w (now fitting) (now branches) ⌝ }
+    requires { ⌜ Closed-tables (now ws) s (now narrow) (now fitting) ⌝ }
     requires { ⌜ s .names * 2 ≤ length (now names) ⌝ }
     ensures { λ v. ⌜ v ≡ answer (from-22 (now (ws .entry)) s (length (now (lent .entry)))) ⌝ }
     ensures { λ v. ⌜ now (lent .exit) ≡ words-after v (now (ws .entry)) s (now (lent .entry)) ⌝ }
 {
     fill_names(ws, s, names);
-    let mut letter_at = row_words16();
     let mut codes = letter_codes();
-    let l = fill_codes(ws, s, names, MAX_COUNTERS, &mut letter_at, &mut codes);
+    let l = fill_codes(
+        ws,
+        s,
+        names,
+        MAX_COUNTERS,
+        &mut narrow[LETTER_AT..],
+        &mut codes,
+    );
     // 22, then 9
     let counters = counters_verdict(ws, s, l);
     if !is_safe(counters) {
@@ -359,99 +216,44 @@ fn named_verdict(
     if !is_safe(form) {
         return form;
     }
-    sets_verdict(
-        256,
-        ws,
-        s,
-        afters,
-        flow_at,
-        w,
-        fitting,
-        names,
-        &letter_at,
-        &codes,
-        branches,
-        n,
-        lent,
-    )
+    sets_verdict(256, ws, s, narrow, fitting, names, &codes, n, lent)
 }
 
 // Refusals 22, 9 and all behind of few names.
-fn few_names(
-    ws: &[u16],
-    s: Sizes,
-    afters: &[u16],
-    flow_at: &[u16],
-    w: usize,
-    fitting: &[u64],
-    branches: &[u16],
-    lent: &mut [u32],
-) -> Verdict
-    requires { ⌜ Closed-tables (now ws) s (now afters) (now «flow_at») w (now fitting) (now branches) ⌝ }
+fn few_names(ws: &[u16], s: Sizes, narrow: &mut [u16], fitting: &[u64], lent: &mut [u32]) -> Verdict
+    requires { ⌜ Closed-tables (now ws) s (now narrow) (now fitting) ⌝ }
     requires { ⌜ s .names ≤ 64 ⌝ }
     ensures { λ v. ⌜ v ≡ answer (from-22 (now (ws .entry)) s (length (now (lent .entry)))) ⌝ }
     ensures { λ v. ⌜ now (lent .exit) ≡ words-after v (now (ws .entry)) s (now (lent .entry)) ⌝ }
 {
     let mut names = words64_130();
-    named_verdict(
-        ws,
-        s,
-        afters,
-        flow_at,
-        w,
-        fitting,
-        &mut names,
-        branches,
-        lent,
-    )
+    named_verdict(ws, s, narrow, fitting, &mut names, lent)
 }
 
 // Refusals 22, 9 and all behind of any number of names.
-fn all_names(
-    ws: &[u16],
-    s: Sizes,
-    afters: &[u16],
-    flow_at: &[u16],
-    w: usize,
-    fitting: &[u64],
-    branches: &[u16],
-    lent: &mut [u32],
-) -> Verdict
-    requires { ⌜ Closed-tables (now ws) s (now afters) (now «flow_at») w (now fitting) (now branches) ⌝ }
+fn all_names(ws: &[u16], s: Sizes, narrow: &mut [u16], fitting: &[u64], lent: &mut [u32]) -> Verdict
+    requires { ⌜ Closed-tables (now ws) s (now narrow) (now fitting) ⌝ }
     ensures { λ v. ⌜ v ≡ answer (from-22 (now (ws .entry)) s (length (now (lent .entry)))) ⌝ }
     ensures { λ v. ⌜ now (lent .exit) ≡ words-after v (now (ws .entry)) s (now (lent .entry)) ⌝ }
 {
     let mut names = words64_1024();
-    named_verdict(
-        ws,
-        s,
-        afters,
-        flow_at,
-        w,
-        fitting,
-        &mut names,
-        branches,
-        lent,
-    )
+    named_verdict(ws, s, narrow, fitting, &mut names, lent)
 }
 
 // Refusals 22, 9 and all behind over the least room for heads of names that fits.
 pub fn system_verdict(
     ws: &[u16],
     s: Sizes,
-    afters: &[u16],
-    flow_at: &[u16],
-    w: usize,
+    narrow: &mut [u16],
     fitting: &[u64],
-    branches: &[u16],
     lent: &mut [u32],
 ) -> Verdict
-    requires { ⌜ Closed-tables (now ws) s (now afters) (now «flow_at») w (now fitting) (now branches) ⌝ }
+    requires { ⌜ Closed-tables (now ws) s (now narrow) (now fitting) ⌝ }
     ensures { λ v. ⌜ v ≡ answer (from-22 (now (ws .entry)) s (length (now (lent .entry)))) ⌝ }
     ensures { λ v. ⌜ now (lent .exit) ≡ words-after v (now (ws .entry)) s (now (lent .entry)) ⌝ }
 {
     if s.names <= 64 {
-        return few_names(ws, s, afters, flow_at, w, fitting, branches, lent);
+        return few_names(ws, s, narrow, fitting, lent);
     }
-    all_names(ws, s, afters, flow_at, w, fitting, branches, lent)
+    all_names(ws, s, narrow, fitting, lent)
 }

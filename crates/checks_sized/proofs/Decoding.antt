@@ -23,7 +23,7 @@ use Rattle.message.specs.Whole.{Whole-message}
 use Rattle.evidence.specs.Whole.{Parts-whole}
 use Rattle.system_space.specs.Space.{words-after}
 use Rattle.answers.specs.Safe.{is-safe}
-use Rattle.checks.specs.Order.{taken}
+use Rattle.stages.specs.Order.{taken}
 use Rattle.answers.proofs.Passing.{safe-only, else-is}
 
 -- the words of the message, at the front of the array

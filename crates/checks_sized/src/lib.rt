@@ -15,7 +15,7 @@ ghost use Rattle.model.specs.Limits.{present};
 ghost use Rattle.model.specs.Verify.{message-check, answer};
 ghost use Rattle.evidence.specs.Whole.{Parts-whole};
 ghost use Rattle.system_space.specs.Space.{words-after};
-ghost use Rattle.checks.specs.Order.{taken};
+ghost use Rattle.stages.specs.Order.{taken};
 
 // Refusals 3 to 14, 16 to 18 and 22, of few rows and names.
 fn small_fitting(ws: &[u16], s: Sizes, lent: &mut [u32]) -> Verdict

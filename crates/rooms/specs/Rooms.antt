@@ -7,6 +7,10 @@ use Rattle.model.specs.Limits.{maxCeilings, maxCounters}
 abbrev pub row-room : ℕ
 row-room = maxRows + 2
 
+-- four tables of so many words, one behind the other
+abbrev pub rule-words : ℕ
+rule-words = 4 * row-room
+
 -- the words of a set of values: a bit for each row, and one for the class of the start
 abbrev pub set-words : ℕ
 set-words = maxRows / 64 + 1

@@ -11,12 +11,14 @@ use model::MAX_WORDS;
 use model::OTHER_HEADS;
 ghost use Rattle.model.specs.Message.{maxWords};
 ghost use Rattle.rooms.specs.Cleared.{Cleared};
-ghost use Rattle.rooms.specs.Rooms.{row-room, name-sets, row-sets, fitting-sets};
+ghost use Rattle.rooms.specs.Rooms.{row-room, rule-words, name-sets, row-sets, fitting-sets};
 ghost use Rattle.rooms.specs.Rooms.{letter-codes, letter-sets, counter-masks, holder-masks};
 ghost use Rattle.rooms.specs.Rooms.{group-masks, limit-room};
 
 // specs/Rooms.antt says what each of these is for.
 const ROW_ROOM: usize = MAX_ROWS + 2;
+
+const RULE_WORDS: usize = 4 * ROW_ROOM;
 
 const SET_WORDS: usize = MAX_ROWS / 64 + 1;
 
@@ -137,6 +139,13 @@ pub fn row_words32() -> [u32; ROW_ROOM]
     ensures { λ r. ⌜ Cleared row-room r ⌝ }
 {
     [0; ROW_ROOM]
+}
+
+// The tables of words that rules are read from.
+pub fn rule_words16() -> [u16; RULE_WORDS]
+    ensures { λ r. ⌜ Cleared rule-words r ⌝ }
+{
+    [0; RULE_WORDS]
 }
 
 // A set of values for each name, and one for the start.

@@ -13,13 +13,14 @@ use Rattle.model.specs.Limits.{present}
 use Rattle.model.specs.Demands.{Within-limits}
 use Rattle.model.specs.Reader.{Grammar, past, read}
 use Rattle.model.specs.Words.{Columns}
-use Rattle.model.specs.Rows.{Program, size, step}
-use Rattle.model.specs.Tables.{Tables}
+use Rattle.model.specs.Rows.{Program, program, size, step}
+use Rattle.model.specs.Tables.{Tables, tables}
 use Rattle.model.proofs.Reader.{past-wrong, read-end}
 use Rattle.lists.specs.Lists.{Starts}
 use Rattle.positions.specs.Positions.{Ends}
 use Rattle.positions.specs.Branches.{Branch-bits}
 use Rattle.values.specs.Values.{width}
+use Rattle.system_letters.specs.Letters.{Class-letters}
 use Rattle.rules.specs.Derived.{Rule-tables}
 use Rattle.rule_tables.specs.Joined.{flow-from, branches-from, letter-from, Joined-tables, Same-below, Joined}
 
@@ -80,6 +81,9 @@ module _ (ws : List ℕ) (s : Sizes) (narrow fitting names letters : List ℕ) (
 
   pub lent-tables : (w : ℕ) → w ≡ width (s .names) → Rule-tables ws s narrow (take (length narrow - flow-from) (drop flow-from narrow)) w fitting names (take (length narrow - letter-from) (drop letter-from narrow)) letters (take (length narrow - branches-from) (drop branches-from narrow))
   lent-tables w e = rw (part-to-end narrow flow-from, part-to-end narrow letter-from, part-to-end narrow branches-from, e) r
+
+  pub lent-letters : Class-letters (program ws s) (tables ws s) (take (length narrow - letter-from) (drop letter-from narrow))
+  lent-letters = rw (part-to-end narrow letter-from) (r .class-letters)
 
 -- two tables put behind the front
 module _ (s : Sizes) (flow-at branches before middle after : List ℕ) (l : Within-limits present s) (f : Filled before middle flow-from (s .names + 1) (λ j. getD flow-at j 0)) (g : Filled middle after branches-from (s .states) (λ j. getD branches j 0)) where

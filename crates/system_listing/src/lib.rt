@@ -4,7 +4,8 @@ use model::Sizes;
 use model::TAG_FROM;
 use model::TAG_TO;
 use onward::guess_class;
-use state_rules::state_rules;
+use rule_tables::LETTER_AT;
+use rule_tables::rules_of;
 use system_letters::letter_count;
 use system_totals::Totals;
 use system_totals::state_head;
@@ -16,8 +17,9 @@ ghost use Rattle.model.specs.Rows.{program, kind};
 ghost use Rattle.model.specs.Tables.{tables};
 ghost use Rattle.model.specs.Rules.{rules};
 ghost use Rattle.model.specs.Listing.{line, system-words, written};
-ghost use Rattle.rules.specs.Derived.{Rule-room, Rule-tables};
+ghost use Rattle.rules.specs.Derived.{Rule-room};
 ghost use Rattle.rules.specs.Listed.{listed-rules};
+ghost use Rattle.rule_tables.specs.Joined.{Joined-tables};
 ghost use Rattle.system_totals.specs.Lines.{counted, lines};
 ghost use Rattle.system_listing.specs.Putting.{put-line, rows-of, Room, Put};
 
@@ -93,20 +95,15 @@ fn write_rules(
     n: usize,
     ws: &[u16],
     s: Sizes,
-    afters: &[u16],
-    flow_at: &[u16],
-    w: usize,
+    narrow: &[u16],
     fitting: &[u64],
     names: &[u64],
-    letter_at: &[u16],
     letters: &[u64],
-    branches: &[u16],
     at: &mut [u16],
     tos: &mut [u16],
     others: &mut [u16],
 ) -> usize
-    requires { ⌜ Rule-tables (now ws) s (now afters) (now «flow_at») w (now fitting) (now names) (now «letter_at»)
-        (now letters) (now branches) ⌝ }
+    requires { ⌜ Joined-tables (now ws) s (now narrow) (now fitting) (now names) (now letters) ⌝ }
     requires { ⌜ Rule-room (now ws) s (now tos) (now others) ⌝ }
     requires { ⌜ Room (now out) n 0 (lines (rules (program (now ws) s) (tables (now ws) s))) ⌝ }
     ensures { λ e. ⌜ Put (now (out .entry)) (now (out .exit)) n 0 e
@@ -116,22 +113,7 @@ fn write_rules(
     let mut i = 0;
     while i < s.states {
         guess_class(ws, s, at, i);
-        let m = state_rules(
-            ws,
-            s,
-            afters,
-            flow_at,
-            w,
-            fitting,
-            names,
-            letter_at,
-            letters,
-            branches,
-            at,
-            i,
-            tos,
-            others,
-        );
+        let m = rules_of(ws, s, narrow, fitting, names, letters, at, i, tos, others);
         let head = state_head(ws, s, i);
         e = put_rules(out, n, e, head, i, tos, others, m);
         i += 1;
@@ -158,20 +140,15 @@ pub fn write_listing(
     n: Totals,
     ws: &[u16],
     s: Sizes,
-    afters: &[u16],
-    flow_at: &[u16],
-    w: usize,
+    narrow: &[u16],
     fitting: &[u64],
     names: &[u64],
-    letter_at: &[u16],
     letters: &[u64],
-    branches: &[u16],
     at: &mut [u16],
     tos: &mut [u16],
     others: &mut [u16],
 )
-    requires { ⌜ Rule-tables (now ws) s (now afters) (now «flow_at») w (now fitting) (now names) (now «letter_at»)
-        (now letters) (now branches) ⌝ }
+    requires { ⌜ Joined-tables (now ws) s (now narrow) (now fitting) (now names) (now letters) ⌝ }
     requires { ⌜ Rule-room (now ws) s (now tos) (now others) ⌝ }
     requires { ⌜ n ≡ counted (rules (program (now ws) s) (tables (now ws) s)) ⌝ }
     requires { ⌜ (n .rules < 4294967296) × (n .rows < 4294967296) ⌝ }
@@ -180,21 +157,17 @@ pub fn write_listing(
         written (system-words (program (now (ws .entry)) s) (tables (now (ws .entry)) s)) (now (out .entry)) ⌝ }
 {
     let rows = n.rows;
-    let count = letter_count(ws, s, letter_at);
+    let count = letter_count(ws, s, &narrow[LETTER_AT..]);
     write_sizes(out, s.states, count, n.rules, rows);
     write_rules(
         out,
         rows,
         ws,
         s,
-        afters,
-        flow_at,
-        w,
+        narrow,
         fitting,
         names,
-        letter_at,
         letters,
-        branches,
         at,
         tos,
         others,

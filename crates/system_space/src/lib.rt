@@ -9,7 +9,8 @@ ghost use Rattle.model.specs.Rows.{program};
 ghost use Rattle.model.specs.Tables.{tables};
 ghost use Rattle.model.specs.Listing.{space-check};
 ghost use Rattle.model.specs.Verify.{answer};
-ghost use Rattle.rules.specs.Derived.{Rule-room, Rule-tables};
+ghost use Rattle.rules.specs.Derived.{Rule-room};
+ghost use Rattle.rule_tables.specs.Joined.{Joined-tables};
 ghost use Rattle.system_totals.specs.Lines.{Totalled};
 ghost use Rattle.system_space.specs.Space.{words-after};
 
@@ -17,22 +18,17 @@ ghost use Rattle.system_space.specs.Space.{words-after};
 pub fn space_verdict(
     ws: &[u16],
     s: Sizes,
-    afters: &[u16],
-    flow_at: &[u16],
-    w: usize,
+    narrow: &[u16],
     fitting: &[u64],
     names: &[u64],
-    letter_at: &[u16],
     letters: &[u64],
-    branches: &[u16],
     n: Totals,
     at: &mut [u16],
     tos: &mut [u16],
     others: &mut [u16],
     lent: &mut [u32],
 ) -> Verdict
-    requires { ⌜ Rule-tables (now ws) s (now afters) (now «flow_at») w (now fitting) (now names) (now «letter_at»)
-        (now letters) (now branches) ⌝ }
+    requires { ⌜ Joined-tables (now ws) s (now narrow) (now fitting) (now names) (now letters) ⌝ }
     requires { ⌜ Rule-room (now ws) s (now tos) (now others) ⌝ }
     requires { ⌜ Totalled (program (now ws) s) (tables (now ws) s) n ⌝ }
     ensures { λ v. ⌜ v ≡
@@ -48,14 +44,10 @@ pub fn space_verdict(
         n,
         ws,
         s,
-        afters,
-        flow_at,
-        w,
+        narrow,
         fitting,
         names,
-        letter_at,
         letters,
-        branches,
         at,
         tos,
         others,

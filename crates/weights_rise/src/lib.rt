@@ -2,7 +2,7 @@
 use model::Sizes;
 use model::Verdict;
 use onward::guess_class;
-use state_rules::state_rules;
+use rule_tables::rules_of;
 use steps::effect_kind;
 use system_totals::Totals;
 use system_totals::row_total;
@@ -25,7 +25,8 @@ ghost use Rattle.model.specs.Rules.{rules};
 ghost use Rattle.model.specs.Weights.{lines-of, raised, rise-check};
 ghost use Rattle.model.specs.Verify.{answer};
 ghost use Rattle.model.specs.Demands.{Within-limits};
-ghost use Rattle.rules.specs.Derived.{Rule-tables, Rule-room};
+ghost use Rattle.rules.specs.Derived.{Rule-room};
+ghost use Rattle.rule_tables.specs.Joined.{Joined-tables};
 ghost use Rattle.system_totals.specs.Lines.{Totalled};
 ghost use Rattle.weights.specs.Table.{Weights-table};
 ghost use Rattle.weights_rise.specs.Rises.{Weights-ready};
@@ -46,22 +47,17 @@ pub struct Rises {
 fn raised_line(
     ws: &[u16],
     s: Sizes,
-    afters: &[u16],
-    flow_at: &[u16],
-    w: usize,
+    narrow: &[u16],
     fitting: &[u64],
     names: &[u64],
-    letter_at: &[u16],
     letters: &[u64],
-    branches: &[u16],
     n: usize,
     weights: &[u16],
     at: &mut [u16],
     tos: &mut [u16],
     others: &mut [u16],
 ) -> Risen
-    requires { ⌜ Rule-tables (now ws) s (now afters) (now «flow_at») w (now fitting) (now names)
-        (now «letter_at») (now letters) (now branches) ⌝ }
+    requires { ⌜ Joined-tables (now ws) s (now narrow) (now fitting) (now names) (now letters) ⌝ }
     requires { ⌜ Weights-table (lines-of (now ws) s n) (now weights) ⌝ }
     requires { ⌜ n ≡ counter-count (program (now ws) s) (tables (now ws) s) ⌝ }
     requires { ⌜ Rule-room (now ws) s (now tos) (now others) × (length (now tos) ≤ 65536) ⌝ }
@@ -75,22 +71,7 @@ fn raised_line(
     let mut rows = 0;
     for i in 0..s.states {
         guess_class(ws, s, at, i);
-        let m = state_rules(
-            ws,
-            s,
-            afters,
-            flow_at,
-            w,
-            fitting,
-            names,
-            letter_at,
-            letters,
-            branches,
-            at,
-            i,
-            tos,
-            others,
-        );
+        let m = rules_of(ws, s, narrow, fitting, names, letters, at, i, tos, others);
         let head = state_head(ws, s, i);
         rules += m;
         rows += row_total(head, m);
@@ -121,14 +102,10 @@ fn verdict_at(s: Sizes, starts: &[u16], line: usize) -> Verdict
 pub fn rise_check(
     ws: &[u16],
     s: Sizes,
-    afters: &[u16],
-    flow_at: &[u16],
-    w: usize,
+    narrow: &[u16],
     fitting: &[u64],
     names: &[u64],
-    letter_at: &[u16],
     letters: &[u64],
-    branches: &[u16],
     n: usize,
     weights: &[u16],
     starts: &[u16],
@@ -136,8 +113,7 @@ pub fn rise_check(
     tos: &mut [u16],
     others: &mut [u16],
 ) -> Rises
-    requires { ⌜ Rule-tables (now ws) s (now afters) (now «flow_at») w (now fitting) (now names)
-        (now «letter_at») (now letters) (now branches) ⌝ }
+    requires { ⌜ Joined-tables (now ws) s (now narrow) (now fitting) (now names) (now letters) ⌝ }
     requires { ⌜ Weights-ready (now ws) s n (now weights) (now starts) ⌝ }
     requires { ⌜ Rule-room (now ws) s (now tos) (now others) × (length (now tos) ≤ 65536) ⌝ }
     ensures { λ r. ⌜ r .verdict ≡
@@ -148,14 +124,10 @@ pub fn rise_check(
     let risen = raised_line(
         ws,
         s,
-        afters,
-        flow_at,
-        w,
+        narrow,
         fitting,
         names,
-        letter_at,
         letters,
-        branches,
         n,
         weights,
         at,

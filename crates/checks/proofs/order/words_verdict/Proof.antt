@@ -17,21 +17,15 @@ use Rattle.model.specs.Verify.{message-check, answer}
 use Rattle.model.proofs.Exact.Answer.{row-refuses, name-refuses, bad-refuses, entry-refuses, open-refuses}
 use Rattle.model.proofs.Exact.Entries.{bad-none}
 use Rattle.answers.proofs.Passing.{passed, safe-only}
-use Rattle.rooms.specs.Rooms.{row-room}
+use Rattle.rooms.specs.Rooms.{rule-words}
 use Rattle.lists.specs.Ready.{Ready}
 use Rattle.positions.specs.Positions.{Ends}
-use Rattle.checks.specs.Order.{taken, from-3, from-4, from-5, from-6, from-7, from-8, from-22}
-use Rattle.checks.proofs.Answering.{in-order, goes-by, ends-with, scopes-refuse}
-use Rattle.checks.proofs.Laying.{program-passes, ready, ceilings-whole, ends}
+use Rattle.stages.specs.Order.{taken, from-3, from-4, from-5, from-6, from-7, from-8, from-22}
+use Rattle.stages.proofs.Answering.{in-order, goes-by, ends-with, scopes-refuse}
+use Rattle.checks.proofs.Laying.{program-passes, ready, ceilings-whole, ends, closed-tables}
 use borrow.Author.Needs.{needs}
 use Rattle.checks.proofs.order.words_verdict.Statement.{statement}
 use Rattle.checks.proofs.order.words_verdict.Tie as tie
-
-row-check-requires : tie.Need-row-check-requires
-row-check-requires c κs = search needs
-
-is-safe-requires : tie.Need-is-safe-requires
-is-safe-requires c κs = search needs
 
 -- what the check finds of this message is nothing
 abbrev Passes : tie.Start → (List ℕ → Sizes → Check) → Type 0
@@ -52,38 +46,17 @@ goes-4 : (c : tie.Else1) → Goes (c .before .before .before .before .before .be
 unfolding from-3
 goes-4 c = goes-by _ _ _ (in-order _ _ _) (rows-pass c)
 
-words16-512-requires : tie.Need-words16-512-requires
-words16-512-requires c κs = search needs
-
-slice-aggregate-name-check : tie.Need-slice-aggregate-name-check
-slice-aggregate-name-check c = search needs
-
 name-check-requires : tie.Need-name-check-requires
 name-check-requires c κs =
     (c .before .before .before .before .before .before .before .before .pre .0 .program, (rows-pass (c .before .before), omega (arith, c .before .before .before .before .before .before .before .before .pre .0 .limits .names .1, c .before .words16-512 .ensures .room)))
-
-is-safe-requires-2 : tie.Need-is-safe-requires-2
-is-safe-requires-2 c κs = search needs
 
 returns-2 : tie.Need-returns-2
 unfolding from-4
 returns-2 c = ends-with _ _ _ _ _ _ _ _ (goes-4 (c .before .before .before .before .before .before)) (c .before .before .before .name-check .ensures .0) (c .before .is-safe2 .ensures) (not-true _ (c .if2 .taken))
 
-row-words16-requires : tie.Need-row-words16-requires
-row-words16-requires c κs = search needs
-
-slice-aggregate-fill-ends : tie.Need-slice-aggregate-fill-ends
-slice-aggregate-fill-ends c = search needs
-
 fill-ends-requires : tie.Need-fill-ends-requires
 fill-ends-requires c κs =
-    (c .before .before .before .before .before .before .before .before .before .before .before .before .before .before .pre .0 .program, omega (arith, c .before .before .before .before .before .before .before .before .before .before .before .before .before .before .pre .0 .limits .rows .1, c .before .row-words16 .ensures .room))
-
-slice-aggregate-scope-check : tie.Need-slice-aggregate-scope-check
-slice-aggregate-scope-check c = search needs
-
-slice-aggregate-scope-check-2 : tie.Need-slice-aggregate-scope-check-2
-slice-aggregate-scope-check-2 c = search needs
+    (c .before .before .before .before .before .before .before .before .before .before .before .before .before .before .pre .0 .program, omega (arith, c .before .before .before .before .before .before .before .before .before .before .before .before .before .before .pre .0 .limits .rows .1, c .before .rule-words16 .ensures .room))
 
 names-pass : (c : tie.Else2) → Passes (c .before .before .before .before .before .before .before .before .before .before .before .before) (λ ws s. name-check (program ws s))
 names-pass c = passed _ _ _ (name-refuses _) (c .before .before .before .name-check .ensures .0) (c .before .is-safe2 .ensures) (not-false _ (c .if2 .left))
@@ -96,18 +69,9 @@ scope-check-requires : tie.Need-scope-check-requires
 scope-check-requires c κs =
     (c .before .before .before .before .before .before .before .before .before .before .before .before .before .before .before .before .before .before .pre .0 .program, (rows-pass (c .before .before .before .before .before .before .before .before .before .before .before .before), (c .before .before .before .fill-ends .ensures, c .before .before .before .before .before .before .before .before .before .name-check .ensures .1)))
 
-is-safe-requires-3 : tie.Need-is-safe-requires-3
-is-safe-requires-3 c κs = search needs
-
 returns-3 : tie.Need-returns-3
 unfolding from-5
 returns-3 c = ends-with _ _ _ _ _ _ _ _ (goes-5 (c .before .before .before .before .before .before .before .before .before)) (c .before .before .scope-check .ensures) (c .before .is-safe3 .ensures) (not-true _ (c .if3 .taken))
-
-bad-check-requires : tie.Need-bad-check-requires
-bad-check-requires c κs = search needs
-
-is-safe-requires-4 : tie.Need-is-safe-requires-4
-is-safe-requires-4 c κs = search needs
 
 scopes-pass : (c : tie.Else3) → Passes (c .before .before .before .before .before .before .before .before .before .before .before .before .before .before .before .before .before .before .before .before .before) (λ ws s. scope-check (program ws s))
 scopes-pass c = passed _ _ _ (scopes-refuse _ (rows-pass (c .before .before .before .before .before .before .before .before .before .before .before .before .before .before .before)) (names-pass (c .before .before .before .before .before .before .before .before .before))) (c .before .before .scope-check .ensures) (c .before .is-safe3 .ensures) (not-false _ (c .if3 .left))
@@ -120,12 +84,6 @@ returns-4 : tie.Need-returns-4
 unfolding from-6
 returns-4 c = ends-with _ _ _ _ _ _ _ _ (goes-6 (c .before .before .before)) (c .before .before .bad-check .ensures) (c .before .is-safe4 .ensures) (not-true _ (c .if4 .taken))
 
-entry-check-requires : tie.Need-entry-check-requires
-entry-check-requires c κs = search needs
-
-is-safe-requires-5 : tie.Need-is-safe-requires-5
-is-safe-requires-5 c κs = search needs
-
 bads-pass : (c : tie.Else4) → Passes (c .before .before .before .before .before .before .before .before .before .before .before .before .before .before .before .before .before .before .before .before .before .before .before .before) (λ ws s. bad-check ws s (program ws s))
 bads-pass c = passed _ _ _ (bad-refuses _ _ _) (c .before .before .bad-check .ensures) (c .before .is-safe4 .ensures) (not-false _ (c .if4 .left))
 
@@ -137,9 +95,6 @@ returns-5 : tie.Need-returns-5
 unfolding from-7
 returns-5 c = ends-with _ _ _ _ _ _ _ _ (goes-7 (c .before .before .before)) (c .before .before .entry-check .ensures) (c .before .is-safe5 .ensures) (not-true _ (c .if5 .taken))
 
-row-words16-requires-2 : tie.Need-row-words16-requires-2
-row-words16-requires-2 c κs = search needs
-
 entries-pass : (c : tie.Else5) → Passes (c .before .before .before .before .before .before .before .before .before .before .before .before .before .before .before .before .before .before .before .before .before .before .before .before .before .before .before) (λ ws s. entry-check s (program ws s) (tables ws s))
 entries-pass c = passed _ _ _ (entry-refuses _ _ _) (c .before .before .entry-check .ensures) (c .before .is-safe5 .ensures) (not-false _ (c .if5 .left))
 
@@ -150,32 +105,14 @@ goes-8 c = goes-by _ _ _ (goes-7 (c .before .before .before)) (entries-pass c)
 all-ready : (c : tie.Else5) → Ready (c .before .before .before .before .before .before .before .before .before .before .before .before .before .before .before .before .before .before .before .before .before .before .before .before .before .before .before .args .ws .now) (c .before .before .before .before .before .before .before .before .before .before .before .before .before .before .before .before .before .before .before .before .before .before .before .before .before .before .before .args .s)
 all-ready c = ready _ _ (c .before .before .before .before .before .before .before .before .before .before .before .before .before .before .before .before .before .before .before .before .before .before .before .before .before .before .before .pre .0) (program-passes _ (rows-pass (c .before .before .before .before .before .before .before .before .before .before .before .before .before .before .before .before .before .before .before .before .before)) (names-pass (c .before .before .before .before .before .before .before .before .before .before .before .before .before .before .before)) (scopes-pass (c .before .before .before .before .before .before))) (entries-pass c)
 
-row-words16-requires-3 : tie.Need-row-words16-requires-3
-row-words16-requires-3 c κs = search needs
-
-slice-aggregate-open-verdict : tie.Need-slice-aggregate-open-verdict
-slice-aggregate-open-verdict c = search needs
-
-slice-aggregate-open-verdict-2 : tie.Need-slice-aggregate-open-verdict-2
-slice-aggregate-open-verdict-2 c = search needs
-
-slice-aggregate-open-verdict-3 : tie.Need-slice-aggregate-open-verdict-3
-slice-aggregate-open-verdict-3 c = search needs
-
--- the table of the layout is as long as it was made
-afters-long : (c : tie.After-fill-ends) → length (c .fill-ends .last .1 .1 .0) ≡ row-room
-afters-long c = c .fill-ends .kept .1 .1 .0 ∙ c .before .before .row-words16 .ensures .room
+-- the tables of words are as long as they were made
+narrow-long : (c : tie.After-fill-ends) → length (c .fill-ends .last .1 .1 .0) ≡ rule-words
+narrow-long c = c .fill-ends .kept .1 .1 .0 ∙ c .before .before .rule-words16 .ensures .room
 
 open-verdict-requires : tie.Need-open-verdict-requires
 open-verdict-requires c κs =
     let r = c .before .before .before .before .before .before .before .before .before .before .before .before .before .before .before .before .before .before .before .before .before .before .before .before .before .before .before .before .before .before .before .before .before .pre .0 .limits in
-    (omega arith, (all-ready (c .before .before .before .before .before .before), (ends _ _ _ (omega (arith, r .rows .1, afters-long (c .before .before .before .before .before .before .before .before .before .before .before .before .before .before .before .before .before .before))) (c .before .before .before .before .before .before .before .before .before .before .before .before .before .before .before .before .before .before .fill-ends .ensures), (c .before .before .before .before .before .before .before .before .before .before .before .before .before .before .before .before .before .before .before .before .before .before .before .before .before .before .before .before .before .before .before .before .before .pre .1, (omega (arith, r .names .1, c .before .before .before .before .before .row-words162 .ensures .room), omega (arith, r .states, c .before .before .before .before .row-words163 .ensures .room))))))
-
-is-safe-requires-6 : tie.Need-is-safe-requires-6
-is-safe-requires-6 c κs = search needs
-
-same-length : tie.Need-same-length
-same-length c = search needs
+    (omega arith, (all-ready (c .before .before .before .before .before .before), (ends _ _ _ (omega (arith, r .rows .1, narrow-long (c .before .before .before .before .before .before .before .before .before .before .before .before .before .before .before .before .before .before))) (c .before .before .before .before .before .before .before .before .before .before .before .before .before .before .before .before .before .before .fill-ends .ensures), (c .before .before .before .before .before .before .before .before .before .before .before .before .before .before .before .before .before .before .before .before .before .before .before .before .before .before .before .before .before .before .before .before .before .pre .1, (omega (arith, r .names .1, c .before .before .before .before .before .row-words16 .ensures .room), omega (arith, r .states, c .before .before .before .before .row-words162 .ensures .room))))))
 
 returns-6 : tie.Need-returns-6
 unfolding from-8
@@ -188,82 +125,78 @@ goes-22 : (c : tie.Else6) → Goes (c .before .before .before .before .before .b
 unfolding from-8
 goes-22 c = goes-by _ _ _ (goes-8 (c .before .before .before .before .before .before .before .before .before .before .before .before .before)) (closed-pass c)
 
-name-width-requires : tie.Need-name-width-requires
-name-width-requires c κs = search needs
+slice-aggregate-join-tables : tie.Need-slice-aggregate-join-tables
+slice-aggregate-join-tables c = sym (c .before .before .before .before .before .before .before .open-verdict .kept .1 .1 .1 .1 .0 ∙ c .before .before .before .before .before .before .before .before .before .before .before .before .before .row-words16 .ensures .room)
+
+slice-aggregate-join-tables-2 : tie.Need-slice-aggregate-join-tables-2
+slice-aggregate-join-tables-2 c = sym (c .before .before .before .before .before .before .before .before .open-verdict .kept .1 .1 .1 .1 .1 .1 .0 ∙ c .before .before .before .before .before .before .before .before .before .before .before .before .before .row-words162 .ensures .room)
+
+slice-aggregate-join-tables-3 : tie.Need-slice-aggregate-join-tables-3
+slice-aggregate-join-tables-3 c = sym (narrow-long (c .before .before .before .before .before .before .before .before .before .before .before .before .before .before .before .before .before .before .before .before .before .before .before .before .before .before .before .before))
+
+join-tables-requires : tie.Need-join-tables-requires
+join-tables-requires c κs =
+    let r = c .before .before .before .before .before .before .before .before .before .before .before .before .before .before .before .before .before .before .before .before .before .before .before .before .before .before .before .before .before .before .before .before .before .before .before .before .before .before .before .before .before .before .before .pre .0 .limits in
+    let k = c .before .before .before .before .before .before .before .before .before .open-verdict .kept in
+    (r, ((omega (arith, r .names .1, k .1 .1 .1 .1 .0, c .before .before .before .before .before .before .before .before .before .before .before .before .before .before .before .row-words16 .ensures .room), omega (arith, r .states, k .1 .1 .1 .1 .1 .1 .0, c .before .before .before .before .before .before .before .before .before .before .before .before .before .before .row-words162 .ensures .room)), omega (arith, narrow-long (c .before .before .before .before .before .before .before .before .before .before .before .before .before .before .before .before .before .before .before .before .before .before .before .before .before .before .before .before))))
 
 slice-aggregate-system-verdict : tie.Need-slice-aggregate-system-verdict
-slice-aggregate-system-verdict c = sym (afters-long (c .before .before .before .before .before .before .before .before .before .before .before .before .before .before .before .before .before .before .before .before .before .before .before .before .before .before .before))
-
-slice-aggregate-system-verdict-2 : tie.Need-slice-aggregate-system-verdict-2
-slice-aggregate-system-verdict-2 c = sym (c .before .before .before .before .before .before .before .before .before .open-verdict .kept .1 .1 .1 .1 .0 ∙ c .before .before .before .before .before .before .before .before .before .before .before .before .before .before .before .row-words162 .ensures .room)
-
-slice-aggregate-system-verdict-3 : tie.Need-slice-aggregate-system-verdict-3
-slice-aggregate-system-verdict-3 c = sym (c .before .before .before .before .before .before .before .before .before .before .before .open-verdict .kept .1 .1 .1 .1 .1 .1 .0 ∙ c .before .before .before .before .before .before .before .before .before .before .before .before .before .before .before .before .row-words163 .ensures .room)
+slice-aggregate-system-verdict c = sym (c .before .before .join-tables .kept .1 .1 .1 .0 ∙ narrow-long (c .before .before .before .before .before .before .before .before .before .before .before .before .before .before .before .before .before .before .before .before .before .before .before .before .before .before .before .before .before .before .before))
 
 system-verdict-requires : tie.Need-system-verdict-requires
 system-verdict-requires c κs =
-    let safe = safe-only _ (sym (c .before .before .before .before .before .before .before .is-safe6 .ensures) ∙ not-false _ (c .before .before .before .before .before .before .if6 .left)) in
-    record {
-      ready = all-ready (c .before .before .before .before .before .before .before .before .before .before .before .before .before .before .before .before .before .before .before);
-      whole = ceilings-whole _ _ (c .before .before .before .before .before .before .before .before .before .before .before .before .before .before .before .before .before .before .before .before .before .before .before .before .before .before .before .before .before .before .before .before .before .before .before .before .before .before .before .before .before .before .before .before .before .before .pre .0);
-      bads = bad-none _ _ _ .0 (bads-pass (c .before .before .before .before .before .before .before .before .before .before .before .before .before .before .before .before .before .before .before .before .before .before));
-      closed = closed-pass (c .before .before .before .before .before .before);
-      ends = ends _ _ _ (omega (arith, c .before .before .before .before .before .before .before .before .before .before .before .before .before .before .before .before .before .before .before .before .before .before .before .before .before .before .before .before .before .before .before .before .before .before .before .before .before .before .before .before .before .before .before .before .before .before .pre .0 .limits .rows .1, afters-long (c .before .before .before .before .before .before .before .before .before .before .before .before .before .before .before .before .before .before .before .before .before .before .before .before .before .before .before .before .before .before .before))) (c .before .before .before .before .before .before .before .before .before .before .before .before .before .before .before .before .before .before .before .before .before .before .before .before .before .before .before .before .before .before .before .fill-ends .ensures);
-      flow-starts = c .before .before .before .before .before .before .before .before .before .before .before .before .open-verdict .ensures .1 .0 safe;
-      name-width = c .before .before .before .before .before .name-width .ensures;
-      fitting-sets = c .before .before .before .before .before .before .before .before .before .before .before .before .open-verdict .ensures .1 .1 .0 safe;
-      branch-bits = c .before .before .before .before .before .before .before .before .before .before .before .before .open-verdict .ensures .1 .1 .1 safe;
-    }
+    let safe = safe-only _ (sym (c .before .before .before .before .before .before .before .before .before .is-safe6 .ensures) ∙ not-false _ (c .before .before .before .before .before .before .before .before .if6 .left)) in
+    let long = narrow-long (c .before .before .before .before .before .before .before .before .before .before .before .before .before .before .before .before .before .before .before .before .before .before .before .before .before .before .before .before .before .before .before .before .before) in
+    let found = c .before .before .before .before .before .before .before .before .before .before .before .before .before .before .open-verdict .ensures .1 in
+    closed-tables _ _ _ _ _ _ _ (all-ready (c .before .before .before .before .before .before .before .before .before .before .before .before .before .before .before .before .before .before .before .before .before)) (ceilings-whole _ _ (c .before .before .before .before .before .before .before .before .before .before .before .before .before .before .before .before .before .before .before .before .before .before .before .before .before .before .before .before .before .before .before .before .before .before .before .before .before .before .before .before .before .before .before .before .before .before .before .before .pre .0)) (bad-none _ _ _ .0 (bads-pass (c .before .before .before .before .before .before .before .before .before .before .before .before .before .before .before .before .before .before .before .before .before .before .before .before))) (closed-pass (c .before .before .before .before .before .before .before .before)) long (ends _ _ _ (omega (arith, c .before .before .before .before .before .before .before .before .before .before .before .before .before .before .before .before .before .before .before .before .before .before .before .before .before .before .before .before .before .before .before .before .before .before .before .before .before .before .before .before .before .before .before .before .before .before .before .before .pre .0 .limits .rows .1, long)) (c .before .before .before .before .before .before .before .before .before .before .before .before .before .before .before .before .before .before .before .before .before .before .before .before .before .before .before .before .before .before .before .before .before .fill-ends .ensures)) (found .0 safe) (found .1 .0 safe) (found .1 .1 safe) (c .before .before .before .before .join-tables .ensures)
 
 same-length-2 : tie.Need-same-length-2
-same-length-2 c = c .before .before .before .before .before .before .before .before .before .before .before .before .before .before .before .open-verdict .kept .1 .1 .1 .1 .1 .0
-
-same-length-3 : tie.Need-same-length-3
-same-length-3 c = search needs
+same-length-2 c = c .before .before .before .before .before .before .before .before .before .before .before .before .before .before .before .before .before .before .open-verdict .kept .1 .1 .1 .1 .1 .0
 
 returns-7 : tie.Need-returns-7
-returns-7 c = (c .before .before .system-verdict .ensures .0 ∙ sym (ap answer (goes-22 (c .before .before .before .before .before .before .before .before .before))), c .before .before .system-verdict .ensures .1)
+returns-7 c = (c .before .before .before .system-verdict .ensures .0 ∙ sym (ap answer (goes-22 (c .before .before .before .before .before .before .before .before .before .before .before .before))), c .before .before .before .system-verdict .ensures .1)
 
 pub words-verdict-spec : {M : Type 1} → statement M
 words-verdict-spec =
     tie.close
     (tie.spec
-    row-check-requires
-    is-safe-requires
+    (λ c κs. search needs)
+    (λ c κs. search needs)
     returns
-    words16-512-requires
-    slice-aggregate-name-check
+    (λ c κs. search needs)
+    (λ c. search needs)
     name-check-requires
-    is-safe-requires-2
+    (λ c κs. search needs)
     returns-2
-    row-words16-requires
-    slice-aggregate-fill-ends
+    (λ c κs. search needs)
+    (λ c. search needs)
     fill-ends-requires
-    slice-aggregate-scope-check
-    slice-aggregate-scope-check-2
+    (λ c. search needs)
+    (λ c. search needs)
     scope-check-requires
-    is-safe-requires-3
+    (λ c κs. search needs)
     returns-3
-    bad-check-requires
-    is-safe-requires-4
+    (λ c κs. search needs)
+    (λ c κs. search needs)
     returns-4
-    entry-check-requires
-    is-safe-requires-5
+    (λ c κs. search needs)
+    (λ c κs. search needs)
     returns-5
-    row-words16-requires-2
-    row-words16-requires-3
-    slice-aggregate-open-verdict
-    slice-aggregate-open-verdict-2
-    slice-aggregate-open-verdict-3
+    (λ c κs. search needs)
+    (λ c κs. search needs)
+    (λ c. search needs)
+    (λ c. search needs)
+    (λ c. search needs)
     open-verdict-requires
-    is-safe-requires-6
-    same-length
+    (λ c κs. search needs)
+    (λ c. search needs)
     returns-6
-    name-width-requires
+    slice-aggregate-join-tables
+    slice-aggregate-join-tables-2
+    slice-aggregate-join-tables-3
+    join-tables-requires
     slice-aggregate-system-verdict
-    slice-aggregate-system-verdict-2
-    slice-aggregate-system-verdict-3
     system-verdict-requires
     same-length-2
-    same-length-3
+    (λ c. search needs)
     returns-7)

@@ -1,89 +1,78 @@
 use native.Mathlib.Omega.{arith}
 use mathlib.Core.Path.{refl, sym, ap, _∙_}
+use borrow.Author.Needs.{needs}
 use borrow.Author.Tests.{not-true, not-false}
 use Rattle.model.specs.Verify.{answer}
 use Rattle.answers.proofs.Passing.{passed}
 use Rattle.letter_codes.proofs.Capped.{capped-most}
 use Rattle.mailed.proofs.Mailing.{then-counters-refuse, counters-fit}
-use Rattle.checks.specs.Order.{from-22, from-10}
-use Rattle.checks.proofs.Answering.{goes-by, ends-with, form-refuses, form-told}
-use Rattle.checks.proofs.Laying.{all-counted}
-use borrow.Author.Needs.{needs}
+use Rattle.stages.specs.Order.{from-22, from-10}
+use Rattle.stages.proofs.Answering.{goes-by, ends-with, form-refuses, form-told}
+use Rattle.checks.proofs.Laying.{all-counted, letters-fit, closed-kept, letters-kept}
 use Rattle.checks.proofs.system.named_verdict.Statement.{statement}
 use Rattle.checks.proofs.system.named_verdict.Tie as tie
 
 fill-names-requires : tie.Need-fill-names-requires
-fill-names-requires c κs = (c .before .before .before .before .before .before .before .before .pre .0 .ready, c .before .before .before .before .before .before .before .before .pre .1)
+fill-names-requires c κs = (c .before .before .before .before .before .before .pre .0 .ready, c .before .before .before .before .before .before .pre .1)
 
-row-words16-requires : tie.Need-row-words16-requires
-row-words16-requires c κs = search needs
+sub-fill-codes : tie.Need-sub-fill-codes
+sub-fill-codes c = omega (arith, c .before .before .before .before .before .before .before .before .before .before .before .pre .0 .room)
 
-letter-codes-requires : tie.Need-letter-codes-requires
-letter-codes-requires c κs = search needs
-
-slice-aggregate-fill-codes : tie.Need-slice-aggregate-fill-codes
-slice-aggregate-fill-codes c = search needs
-
-slice-aggregate-fill-codes-2 : tie.Need-slice-aggregate-fill-codes-2
-slice-aggregate-fill-codes-2 c = search needs
+part-fill-codes-start : tie.Need-part-fill-codes-start
+part-fill-codes-start c = omega (arith, c .before .before .before .before .before .before .before .before .before .before .before .pre .0 .room)
 
 fill-codes-requires : tie.Need-fill-codes-requires
-fill-codes-requires c κs = (c .before .before .before .before .before .before .before .before .before .before .before .before .before .before .before .before .pre .0 .ready, (c .before .before .before .before .before .before .before .fill-names .ensures, ((omega arith, omega (arith, c .before .before .before .letter-codes .ensures .room)), omega (arith, c .before .before .before .before .before .before .before .before .before .before .before .before .before .before .before .before .pre .0 .ready .limits .rows .1, c .before .before .before .before .row-words16 .ensures .room))))
+fill-codes-requires c κs = (c .before .before .before .before .before .before .before .before .before .before .before .before .before .pre .0 .ready, (c .before .before .before .before .before .before .fill-names .ensures, ((omega arith, omega (arith, c .before .before .before .letter-codes .ensures .room)), letters-fit _ _ _ _ (c .before .before .before .before .before .before .before .before .before .before .before .before .before .pre .0))))
 
 counters-verdict-requires : tie.Need-counters-verdict-requires
-counters-verdict-requires c κs = (c .before .before .before .before .before .before .before .before .before .before .before .before .before .before .before .before .before .before .before .pre .0 .ready, c .before .before .fill-codes .ensures .0)
+counters-verdict-requires c κs = (c .before .before .before .before .before .before .before .before .before .before .before .before .before .before .before .before .before .pre .0 .ready, c .before .before .before .fill-codes .ensures .0)
 
-is-safe-requires : tie.Need-is-safe-requires
-is-safe-requires c κs = search needs
-
-same-length : tie.Need-same-length
-same-length c = c .before .before .before .before .before .before .before .before .before .before .before .before .before .fill-names .kept .1 .1 .0
+same-length-2 : tie.Need-same-length-2
+same-length-2 c = c .before .before .before .before .before .before .before .before .before .before .before .before .before .fill-names .kept .1 .1 .0
 
 returns : tie.Need-returns
 unfolding from-22
 returns c = ends-with _ _ _ _ _ _ _ _ refl (c .before .before .counters-verdict .ensures) (c .before .is-safe .ensures) (not-true _ (c .if1 .taken))
 
 add-n : tie.Need-add-n
-add-n c = record { fits = omega (arith, capped-most _ _ _ (c .before .before .before .before .before .before .fill-codes .ensures .0), c .before .before .before .before .before .before .before .before .before .before .before .before .before .before .before .before .before .before .before .before .before .before .before .pre .0 .ready .limits .states) }
+add-n c = record { fits = omega (arith, capped-most _ _ _ (c .before .before .before .before .before .before .before .fill-codes .ensures .0), c .before .before .before .before .before .before .before .before .before .before .before .before .before .before .before .before .before .before .before .before .before .pre .0 .ready .limits .states) }
 
 form-verdict-requires : tie.Need-form-verdict-requires
-form-verdict-requires c κs = (c .before .before .before .before .before .before .before .before .before .before .before .before .before .before .before .before .before .before .before .before .before .before .before .pre .0 .whole, omega (arith, all-counted _ _ _ (c .before .before .before .before .before .before .fill-codes .ensures .0) (counters-fit _ _ _ (passed _ _ _ (then-counters-refuse _ _ _) (c .before .before .before .counters-verdict .ensures) (c .before .before .is-safe .ensures) (not-false _ (c .before .if1 .left)))) .1))
+form-verdict-requires c κs = (c .before .before .before .before .before .before .before .before .before .before .before .before .before .before .before .before .before .before .before .before .before .pre .0 .whole, omega (arith, all-counted _ _ _ (c .before .before .before .before .before .before .before .fill-codes .ensures .0) (counters-fit _ _ _ (passed _ _ _ (then-counters-refuse _ _ _) (c .before .before .before .counters-verdict .ensures) (c .before .before .is-safe .ensures) (not-false _ (c .before .if1 .left)))) .1))
 
-is-safe-requires-2 : tie.Need-is-safe-requires-2
-is-safe-requires-2 c κs = search needs
-
-same-length-2 : tie.Need-same-length-2
-same-length-2 c = c .before .before .before .before .before .before .before .before .before .before .before .before .before .before .before .before .before .fill-names .kept .1 .1 .0
+same-length-4 : tie.Need-same-length-4
+same-length-4 c = c .before .before .before .before .before .before .before .before .before .before .before .before .before .before .before .before .before .fill-names .kept .1 .1 .0
 
 returns-2 : tie.Need-returns-2
 unfolding from-22 from-10
 returns-2 c =
     let both = passed _ _ _ (then-counters-refuse _ _ _) (c .before .before .before .before .before .before .counters-verdict .ensures) (c .before .before .before .before .before .is-safe .ensures) (not-false _ (c .before .before .before .before .if1 .left)) in
-    let all = all-counted _ _ _ (c .before .before .before .before .before .before .before .before .before .fill-codes .ensures .0) (counters-fit _ _ _ both) in
+    let all = all-counted _ _ _ (c .before .before .before .before .before .before .before .before .before .before .fill-codes .ensures .0) (counters-fit _ _ _ both) in
     ends-with _ _ _ _ _ _ _ _ (goes-by _ _ _ refl both) (form-told _ _ _ _ (c .before .before .form-verdict .ensures) (all .0)) (c .before .is-safe2 .ensures) (not-true _ (c .if2 .taken))
-
-slice-aggregate-sets-verdict : tie.Need-slice-aggregate-sets-verdict
-slice-aggregate-sets-verdict c = search needs
-
-slice-aggregate-sets-verdict-2 : tie.Need-slice-aggregate-sets-verdict-2
-slice-aggregate-sets-verdict-2 c = search needs
 
 sets-verdict-requires : tie.Need-sets-verdict-requires
 sets-verdict-requires c κs =
-    let all = all-counted _ _ _ (c .before .before .before .before .before .before .before .before .before .before .before .before .before .fill-codes .ensures .0) (counters-fit _ _ _ (passed _ _ _ (then-counters-refuse _ _ _) (c .before .before .before .before .before .before .before .before .before .before .counters-verdict .ensures) (c .before .before .before .before .before .before .before .before .before .is-safe .ensures) (not-false _ (c .before .before .before .before .before .before .before .before .if1 .left)))) in
-    (omega arith, (c .before .before .before .before .before .before .before .before .before .before .before .before .before .before .before .before .before .before .before .before .before .before .before .before .before .before .before .before .before .before .pre .0, (c .before .before .before .before .before .before .before .before .before .before .before .before .before .before .before .before .before .before .before .before .before .fill-names .ensures, (c .before .before .before .before .before .before .before .before .before .before .before .before .before .fill-codes .ensures .1 .0 (omega (arith, all .1)), (c .before .before .before .before .before .before .before .before .before .before .before .before .before .fill-codes .ensures .1 .1 (omega (arith, all .1)), (record { counted = all .0; in-form = passed _ _ _ (form-refuses _ _ _) (c .before .before .before .before .before .before .form-verdict .ensures) (c .before .before .before .before .before .is-safe2 .ensures) (not-false _ (c .before .before .before .before .if2 .left)); bads = c .before .before .before .before .before .before .before .before .before .before .before .before .before .before .before .before .before .before .before .before .before .before .before .before .before .before .before .before .before .before .pre .0 .bads }, all .1))))))
+    let k = c .before .before .before .before .before .before .before .before .before .before .before .before .before .before .before .before .before .before .before .before .before .before .before .before .before .before .before .before .pre .0 in
+    let all = all-counted _ _ _ (c .before .before .before .before .before .before .before .before .before .before .before .before .before .before .fill-codes .ensures .0) (counters-fit _ _ _ (passed _ _ _ (then-counters-refuse _ _ _) (c .before .before .before .before .before .before .before .before .before .before .counters-verdict .ensures) (c .before .before .before .before .before .before .before .before .before .is-safe .ensures) (not-false _ (c .before .before .before .before .before .before .before .before .if1 .left)))) in (
+      omega arith,
+      record {
+        closed-tables = closed-kept _ _ _ _ (c .before .before .before .before .before .before .before .before .before .before .before .before .before .before .fill-codes .last .1 .1 .1 .1 .0) k (c .before .before .before .before .before .before .before .before .before .before .before .before .before .before .fill-codes .kept .1 .1 .1 .1 .0);
+        name-heads = c .before .before .before .before .before .before .before .before .before .before .before .before .before .before .before .before .before .before .before .before .before .fill-names .ensures;
+        class-letters = letters-kept _ _ _ _ (c .before .before .before .before .before .before .before .before .before .before .before .before .before .before .fill-codes .last .1 .1 .1 .1 .0) k (c .before .before .before .before .before .before .before .before .before .before .before .before .before .before .fill-codes .ensures .1 .0 (omega (arith, all .1)));
+        coded = c .before .before .before .before .before .before .before .before .before .before .before .before .before .before .fill-codes .ensures .1 .1 (omega (arith, all .1));
+        formed = record { counted = all .0; in-form = passed _ _ _ (form-refuses _ _ _) (c .before .before .before .before .before .before .form-verdict .ensures) (c .before .before .before .before .before .is-safe2 .ensures) (not-false _ (c .before .before .before .before .if2 .left)); bads = k .bads };
+        few = all .1;
+      },
+    )
 
-same-length-3 : tie.Need-same-length-3
-same-length-3 c = c .before .before .before .before .before .before .before .before .before .before .before .before .before .before .before .before .before .before .before .before .before .before .before .before .fill-names .kept .1 .1 .0
-
-same-length-4 : tie.Need-same-length-4
-same-length-4 c = search needs
+same-length-6 : tie.Need-same-length-6
+same-length-6 c = c .before .before .before .before .before .before .before .before .before .before .before .before .before .before .before .before .before .before .before .before .before .before .before .before .fill-names .kept .1 .1 .0
 
 returns-3 : tie.Need-returns-3
 unfolding from-22 from-10
 returns-3 c =
     let both = passed _ _ _ (then-counters-refuse _ _ _) (c .before .before .before .before .before .before .before .before .before .before .before .before .before .counters-verdict .ensures) (c .before .before .before .before .before .before .before .before .before .before .before .before .is-safe .ensures) (not-false _ (c .before .before .before .before .before .before .before .before .before .before .before .if1 .left)) in
-    let all = all-counted _ _ _ (c .before .before .before .before .before .before .before .before .before .before .before .before .before .before .before .before .fill-codes .ensures .0) (counters-fit _ _ _ both) in
+    let all = all-counted _ _ _ (c .before .before .before .before .before .before .before .before .before .before .before .before .before .before .before .before .before .fill-codes .ensures .0) (counters-fit _ _ _ both) in
     let form = passed _ _ _ (form-refuses _ _ _) (form-told _ _ _ _ (c .before .before .before .before .before .before .before .before .before .form-verdict .ensures) (all .0)) (c .before .before .before .before .before .before .before .before .is-safe2 .ensures) (not-false _ (c .before .before .before .before .before .before .before .if2 .left)) in
     (c .before .before .sets-verdict .ensures .0 ∙ sym (ap answer (goes-by _ _ _ (goes-by _ _ _ refl both) form)), c .before .before .sets-verdict .ensures .1)
 
@@ -92,23 +81,26 @@ named-verdict-spec =
     tie.close
     (tie.spec
     fill-names-requires
-    row-words16-requires
-    letter-codes-requires
-    slice-aggregate-fill-codes
-    slice-aggregate-fill-codes-2
+    (λ c κs. search needs)
+    sub-fill-codes
+    part-fill-codes-start
+    (λ c. search needs)
+    (λ c. search needs)
     fill-codes-requires
     counters-verdict-requires
-    is-safe-requires
-    same-length
+    (λ c κs. search needs)
+    (λ c. search needs)
+    same-length-2
     returns
     add-n
     form-verdict-requires
-    is-safe-requires-2
-    same-length-2
-    returns-2
-    slice-aggregate-sets-verdict
-    slice-aggregate-sets-verdict-2
-    sets-verdict-requires
-    same-length-3
+    (λ c κs. search needs)
+    (λ c. search needs)
     same-length-4
+    returns-2
+    (λ c. search needs)
+    sets-verdict-requires
+    (λ c. search needs)
+    same-length-6
+    (λ c. search needs)
     returns-3)

@@ -1,0 +1,69 @@
+-- Room for what the stage makes, and for the rules of a state behind those that are kept.
+use Prim.Native.Nat.{ℕ, _+_, _*_, _≤_, _<_}
+use native.Mathlib.Omega.{arith}
+use mathlib.Core.Path.{_≡_}
+use mathlib.Core.List.{List}
+use lib.ListN.{length, length-drop}
+use Rattle.rooms.specs.Cleared.{Cleared}
+use Rattle.rooms.specs.Rooms.{limit-room}
+use Rattle.model.specs.declared.Sizes.{Sizes}
+use Rattle.model.specs.Words.{columns}
+use Rattle.model.specs.Rows.{program}
+use Rattle.model.specs.Limits.{present, maxRows, maxCounters, maxCeilings}
+use Rattle.model.specs.Tables.{tables, entries}
+use Rattle.model.specs.Counters.{counter-count}
+use Rattle.model.specs.Demands.{Within-limits}
+use Rattle.closure_sized.proofs.Opening.{product-most}
+use Rattle.rules.specs.Derived.{Rule-room}
+use Rattle.kept_rules.specs.Kept.{Room-from}
+use Rattle.stages.specs.Scratch.{Bounds-room, Mask-room, Rules-fit}
+use Rattle.stages.proofs.Laying.{rule-room, bounds-room}
+
+-- room for the rules of a state, also behind the first `spare` words
+pub rules-fit : (ws : List ℕ) (s : Sizes) (tos others : List ℕ) (room : ℕ) → room ≡ length tos → Rule-room ws s tos others → Rules-fit ws s 0 room
+rules-fit ws s tos others room e r = let v = r .values in let l = r .letters in let k = r .counters in record { values = omega arith; letters = omega arith; counters = omega arith }
+
+pub spare-room : (ws : List ℕ) (s : Sizes) (spare : ℕ) (tos others : List ℕ) (room : ℕ) → room ≡ length tos → Rule-room ws s tos others → Rules-fit ws s spare room → Room-from ws s spare tos others
+spare-room ws s spare tos others room e r f =
+    let a = r .alike in
+    let x = length-drop spare tos in
+    let y = length-drop spare others in
+    let v = f .values in
+    let l = f .letters in
+    let k = f .counters in
+    record { room = record { values = omega arith; letters = omega arith; counters = omega arith; alike = omega arith } }
+
+-- no message has more limits
+pub all-cells : (s : Sizes) (n : ℕ) → n ≤ maxCounters → Within-limits present s → n * s .ceilings ≤ limit-room
+all-cells s n h l = product-most n (s .ceilings) maxCounters maxCeilings (omega arith) (l .ceilings)
+
+-- sets of ceilings for n counters
+pub mask-room : (j k l n : ℕ) (holders unbounded group short more : List ℕ) → n * 8 ≤ j → n * 4 ≤ k → n * 12 ≤ l → Cleared j holders → Cleared k unbounded → Cleared l group → Cleared k short → Cleared k more → Mask-room n holders unbounded group short more
+mask-room j k l n holders unbounded group short more g h i a b c d e =
+    record {
+      held = let q = a .room in omega arith;
+      free = let q = b .room in omega arith;
+      states = let q = c .room in omega arith;
+      one-less = let q = d .room in omega arith;
+      one-more = let q = e .room in omega arith;
+    }
+
+-- each state is a counter
+pub states-few : (ws : List ℕ) (s : Sizes) (n : ℕ) → n ≡ counter-count (program ws s) (tables ws s) → s .states ≤ n
+unfolding counter-count tables entries columns
+states-few ws s n e = omega (arith, e)
+
+-- cleared tables of these sizes are all that the stage asks for where there are no more than m counters
+module _ (ws : List ℕ) (s : Sizes) (n m cells most held free states list : ℕ) (limits ceiling-at sums holders unbounded group short more tos others : List ℕ) where
+  pub limits-lent : Within-limits present s → n ≡ counter-count (program ws s) (tables ws s) → n ≤ m → n * s .ceilings ≤ cells → (m < most) × (m * 8 ≤ held) × (m * 4 ≤ free) × (m * 12 ≤ states) → (maxRows < list) × (16 * m ≤ list) × (maxCounters ≤ list) × (list ≤ 65536) → Cleared cells limits → Cleared 258 ceiling-at → Cleared most sums → Cleared held holders → Cleared free unbounded → Cleared states group → Cleared free short → Cleared free more → Cleared list tos → Cleared list others → (Bounds-room n (s .ceilings) limits ceiling-at × (n < length sums)) × (Mask-room n holders unbounded group short more × (Rule-room ws s tos others × (length tos ≤ 65536)))
+  limits-lent l e h k f g a b c d u v x y t o =
+      let rows = l .rows .1 in
+      let count = l .ceilings in
+      let q = c .room in
+      let r = t .room in (
+        (bounds-room _ _ _ _ _ _ k (omega arith) a b, omega arith),
+        (
+          mask-room held free states n holders unbounded group short more (omega arith) (omega arith) (omega arith) d u v x y,
+          (rule-room ws s n list tos others e (omega arith) (omega arith) (omega arith) t o, omega arith),
+        ),
+      )
