@@ -5,7 +5,6 @@ use ceilings::fill_limits;
 use ceilings_leaks::fill_groups;
 use ceilings_leaks::leak_check;
 use ceilings_masks::fill_holders;
-use matching::names::name_width;
 use model::MAX_BRANCHES;
 use model::MAX_COUNTERS;
 use model::Sizes;
@@ -27,8 +26,6 @@ use rooms::words64_384;
 use rooms::words64_512;
 use rooms::words64_1024;
 use rooms::words64_1536;
-use rule_tables::BRANCHES;
-use rule_tables::FLOW_AT;
 use rule_tables::LETTER_AT;
 use stages::met_verdict;
 use stages::start_verdict;
@@ -109,9 +106,6 @@ fn leaks_on(
     ensures { λ l. ⌜ Totalled (program (now (ws .entry)) s) (tables (now (ws .entry)) s) (l .totals) ⌝ }
 {
     fill_holders(limits, s.ceilings, n, holders, unbounded);
-    let w = name_width(s);
-    let flow_at = &narrow[FLOW_AT..];
-    let branches = &narrow[BRANCHES..];
     let letter_at = &narrow[LETTER_AT..];
     let spare = spare_words(ws, s, letter_at, tos.len());
     let mut first_at = words16_258();
@@ -119,13 +113,9 @@ fn leaks_on(
         ws,
         s,
         narrow,
-        flow_at,
-        w,
         fitting,
         names,
-        letter_at,
         letters,
-        branches,
         n,
         limits,
         ceiling_at,
@@ -143,13 +133,9 @@ fn leaks_on(
         ws,
         s,
         narrow,
-        flow_at,
-        w,
         fitting,
         names,
-        letter_at,
         letters,
-        branches,
         n,
         limits,
         ceiling_at,
