@@ -43,7 +43,8 @@ use Rattle.letter_codes.specs.Codes.{capped}
 use Rattle.letter_codes.proofs.Capped.{capped-few}
 use Rattle.letter_sets.specs.Sets.{Letter-room}
 use Rattle.rules.specs.Derived.{read-set, owner-at, Rule-room, Reads, Rule-tables}
-use Rattle.pattern_letters.specs.Picked.{Match-tables, Owners-room}
+use Rattle.pattern_heads.specs.Fitting.{Match-tables}
+use Rattle.branch_letters.specs.Kept.{Owners-room}
 use Rattle.kept_rules.specs.Kept.{Room-from}
 use Rattle.model.specs.Demands.{Within-limits}
 use Rattle.checks.specs.Order.{form-check}
