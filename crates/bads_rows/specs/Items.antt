@@ -1,23 +1,18 @@
--- What the lent tables of items say: the counters of each item of the bads.
+-- The items and the ends of the bads by their rows, and what the lent tables say of the counters of each item.
 use Prim.Native.Nat.{ℕ, _+_, _-_, _≤_, _<_}
 use mathlib.Core.Path.{_≡_}
-use mathlib.Core.Bool.{Bool, true, false}
+use mathlib.Core.Bool.{true, false}
 use mathlib.Core.List.{List, [], _∷_}
 use mathlib.Core.Option.{none}
 use lib.ListN.{length, getD, replicate}
 use Rattle.model.specs.declared.Sizes.{Sizes}
-use Rattle.model.specs.Limits.{maxCounters}
 use Rattle.model.specs.Words.{Columns}
 use Rattle.model.specs.Reader.{past, read, after, first-wrong}
 use Rattle.model.specs.Rows.{Program, program}
-use Rattle.model.specs.Tables.{Tables, tables}
+use Rattle.model.specs.Tables.{Tables}
 use Rattle.model.specs.Bads.{bad, bad-step, bad-rows, Subject, past-heads, subject-at}
-use Rattle.model.specs.Bads.{Item, item-at, items-from, items, met}
+use Rattle.model.specs.Bads.{Item, item-at, items-from}
 use Rattle.model.specs.Counters.{counter-count, counts}
-use Rattle.model.specs.Markings.{Marking, sum-in}
-use Rattle.model.specs.Ceilings.{ceilings-of}
-use Rattle.ceilings_form.specs.Parts.{Whole}
-use Rattle.ceilings.specs.Table.{Limits-table}
 
 -- the counters from `from` below `to`, and no others, are those whose sum an item of this subject counts
 pub record Range (p : Program) (t : Tables) (k : Subject) (from to : ℕ) : Type 0 where
@@ -41,14 +36,6 @@ pub record Items-counted (p : Program) (t : Tables) (rows : Columns) (froms tos 
   pub to-room : rows .size ≤ length tos
   pub range : (r : ℕ) → r < rows .size → Range p t (subject-from rows r) (getD froms r 0) (getD tos r 0)
 
--- what the check of bads under the ceilings is handed
-pub record Ready (ws : List ℕ) (s : Sizes) (n : ℕ) (limits froms tos : List ℕ) : Type 0 where
-  pub whole : Whole ws s
-  pub counters : n ≡ counter-count (program ws s) (tables ws s)
-  pub counters-low : n ≤ maxCounters
-  pub limits-table : Limits-table (ceilings-of ws s n) limits
-  pub items-table : Items-counted (program ws s) (tables ws s) (bad-rows ws s) froms tos
-
 -- refusal 6 refuses nothing: the rows are the bads and nothing else
 abbrev pub Bads-in-form : List ℕ → Sizes → Type 0
 Bads-in-form ws s = first-wrong (bad-step (program ws s)) (bad-rows ws s) (replicate (s .bads) bad) ≡ none
@@ -64,7 +51,3 @@ Bad-stands p rows r = read (bad-step p) rows (rows .size - r) (bad ∷ []) r ≡
 -- the items of the bad that stands at row r
 unfoldable pub items-at : Columns → ℕ → List Item
 items-at rows r = items-from rows (rows .size - r) r
-
--- the counts meet bad number j
-unfoldable pub bad-met : List ℕ → Sizes → Marking → ℕ → Bool
-bad-met ws s m j = met (sum-in (program ws s) (tables ws s) m) (items (program ws s) (bad-rows ws s) j)

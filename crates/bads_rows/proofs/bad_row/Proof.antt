@@ -1,10 +1,10 @@
 -- The loop's invariant: the first i bads end before row r.
 use Prim.Native.Nat.{_-_, _≤_}
 use mathlib.Core.Path.{_≡_}
-use Rattle.ceilings_met.proofs.Meeting.{Bads-walked, bads-start, bads-stand, bads-next, bads-inside, bads-row}
+use Rattle.bads_rows.proofs.Walking.{Bads-walked, bads-start, bads-stand, bads-next, bads-inside, bads-row}
 use borrow.Author.Needs.{needs}
-use Rattle.ceilings_met.proofs.bad_row.Statement.{statement}
-use Rattle.ceilings_met.proofs.bad_row.Tie as tie
+use Rattle.bads_rows.proofs.bad_row.Statement.{statement}
+use Rattle.bads_rows.proofs.bad_row.Tie as tie
 
 abbrev Inv-loop : tie.InvT-loop
 Inv-loop ws s j r₀ i₀ r i = Bads-walked ws s i r × (i ≤ j)

@@ -1,8 +1,8 @@
 use native.Mathlib.Omega.{arith}
-use Rattle.ceilings_met.proofs.Meeting.{item-ends}
+use Rattle.bads_rows.proofs.Walking.{item-ends}
 use borrow.Author.Needs.{needs}
-use Rattle.ceilings_met.proofs.next_item.Statement.{statement}
-use Rattle.ceilings_met.proofs.next_item.Tie as tie
+use Rattle.bads_rows.proofs.next_item.Statement.{statement}
+use Rattle.bads_rows.proofs.next_item.Tie as tie
 
 add-past-heads : tie.Need-add-past-heads
 add-past-heads c = search needs

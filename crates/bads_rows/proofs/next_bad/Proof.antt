@@ -6,12 +6,12 @@ use mathlib.Core.List.{[], _∷_}
 use Rattle.model.specs.Reader.{past, read}
 use Rattle.model.specs.Rows.{program}
 use Rattle.model.specs.Bads.{further, bad-step, bad-rows}
-use Rattle.ceilings_met.specs.Items.{bad-end}
-use Rattle.ceilings_met.proofs.BadRows.{bad-first, bad-next, bad-last, bad-inside}
-use Rattle.ceilings_met.proofs.Meeting.{inside}
+use Rattle.bads_rows.specs.Items.{bad-end}
+use Rattle.bads_rows.proofs.BadRows.{bad-first, bad-next, bad-last, bad-inside}
+use Rattle.bads_rows.proofs.Walking.{inside}
 use borrow.Author.Needs.{needs}
-use Rattle.ceilings_met.proofs.next_bad.Statement.{statement}
-use Rattle.ceilings_met.proofs.next_bad.Tie as tie
+use Rattle.bads_rows.proofs.next_bad.Statement.{statement}
+use Rattle.bads_rows.proofs.next_bad.Tie as tie
 
 abbrev Inv-loop : tie.InvT-loop
 Inv-loop ws s r i₀ i = ((m : ℕ) × (read (bad-step (program ws s)) (bad-rows ws s) m (further ∷ []) i ≡ past (bad-end (program ws s) (bad-rows ws s) r))) × (i ≤ s .badrows + 3)

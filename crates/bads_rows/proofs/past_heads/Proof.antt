@@ -3,11 +3,11 @@ use Prim.Native.Nat.{_-_}
 use native.Mathlib.Omega.{arith}
 use mathlib.Core.Path.{_≡_, refl, sym, _∙_}
 use Rattle.model.specs.Bads.{bad-rows, past-heads}
-use Rattle.ceilings_met.proofs.BadRows.{heads-over, heads-next, bad-inside}
-use Rattle.ceilings_met.proofs.Meeting.{inside}
+use Rattle.bads_rows.proofs.BadRows.{heads-over, heads-next, bad-inside}
+use Rattle.bads_rows.proofs.Walking.{inside}
 use borrow.Author.Needs.{needs}
-use Rattle.ceilings_met.proofs.past_heads.Statement.{statement}
-use Rattle.ceilings_met.proofs.past_heads.Tie as tie
+use Rattle.bads_rows.proofs.past_heads.Statement.{statement}
+use Rattle.bads_rows.proofs.past_heads.Tie as tie
 
 abbrev Inv-loop : tie.InvT-loop
 Inv-loop ws s r i₀ i = past-heads (bad-rows ws s) r ≡ past-heads (bad-rows ws s) i

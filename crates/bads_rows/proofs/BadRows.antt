@@ -18,7 +18,7 @@ use Rattle.model.specs.Bads.{Part, bad, subject, minimum, detail, further, item
 use Rattle.model.proofs.Logic.{test, and-left}
 use Rattle.model.proofs.Index.{first-end, first-hit, first-miss, first-is}
 use Rattle.model.proofs.Reader.{fits-some, by-option, past-wrong, past-row, read-none, read-end, read-stop, read-go}
-use Rattle.ceilings_met.specs.Items.{subject-from, item-from, items-at}
+use Rattle.bads_rows.specs.Items.{subject-from, item-from, items-at}
 
 module _ {Item : Type 0} (step : Grammar Item) (rows : Columns) where
   -- what is read to its end begins with a row that fits
