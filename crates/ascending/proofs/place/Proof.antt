@@ -2,9 +2,9 @@ use borrow.Author.Needs.{needs}
 use Prim.Native.Nat.{_-_}
 use native.Mathlib.Omega.{arith}
 use mathlib.Core.Path.{refl}
-use Rattle.letter_codes.proofs.Numbers.{Between, between-all, between-up, between-down, between-placed}
-use Rattle.letter_codes.proofs.place.Statement.{statement}
-use Rattle.letter_codes.proofs.place.Tie as tie
+use Rattle.ascending.proofs.Numbers.{Between, between-all, between-up, between-down, between-placed}
+use Rattle.ascending.proofs.place.Statement.{statement}
+use Rattle.ascending.proofs.place.Tie as tie
 
 abbrev Inv-loop : tie.InvT-loop
 Inv-loop codes from n x low₀ high₀ low high = Between from n codes x low high

@@ -1,8 +1,8 @@
 use borrow.Author.Needs.{needs}
 use mathlib.Core.Path.{refl}
-use Rattle.letter_codes.proofs.Values.{mask-heads}
-use Rattle.letter_codes.proofs.head_mask.Statement.{statement}
-use Rattle.letter_codes.proofs.head_mask.Tie as tie
+use Rattle.value_letters.proofs.Values.{mask-heads}
+use Rattle.value_letters.proofs.head_mask.Statement.{statement}
+use Rattle.value_letters.proofs.head_mask.Tie as tie
 
 mul-at : tie.Need-mul-at
 mul-at c = search needs

@@ -1,9 +1,9 @@
 use borrow.Author.Needs.{needs}
 use native.Mathlib.Omega.{arith}
-use Rattle.letter_codes.proofs.Values.{value-arguments}
-use Rattle.letter_codes.proofs.Extending.{value-none, value-extended, head-digit}
-use Rattle.letter_codes.proofs.add_value.Statement.{statement}
-use Rattle.letter_codes.proofs.add_value.Tie as tie
+use Rattle.value_letters.proofs.Values.{value-arguments}
+use Rattle.value_letters.proofs.Extending.{value-none, value-extended, head-digit}
+use Rattle.value_letters.proofs.add_value.Statement.{statement}
+use Rattle.value_letters.proofs.add_value.Tie as tie
 
 value-arity-requires : tie.Need-value-arity-requires
 value-arity-requires c κs = (c .before .before .before .pre .0 .whole, c .before .before .before .pre .1 .1 .0)

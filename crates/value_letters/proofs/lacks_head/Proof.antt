@@ -5,9 +5,9 @@ use native.Mathlib.Omega.{arith}
 use mathlib.Core.Path.{refl}
 use Rattle.model.specs.Rows.{program}
 use Rattle.model.proofs.Logic.{true-false}
-use Rattle.letter_codes.proofs.Values.{argument-row, lacking, Headed, headed-next, headed-all}
-use Rattle.letter_codes.proofs.lacks_head.Statement.{statement}
-use Rattle.letter_codes.proofs.lacks_head.Tie as tie
+use Rattle.value_letters.proofs.Values.{argument-row, lacking, Headed, headed-next, headed-all}
+use Rattle.value_letters.proofs.lacks_head.Statement.{statement}
+use Rattle.value_letters.proofs.lacks_head.Tie as tie
 
 abbrev Inv-loop : tie.InvT-loop
 Inv-loop ws s names v arity i₀ i = (i ≤ arity) × ((k : ℕ) → k < i → Headed (program ws s) v names k)

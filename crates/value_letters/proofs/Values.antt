@@ -36,7 +36,7 @@ use Rattle.lists.proofs.Facts.{rows-fit, columns-whole}
 use Rattle.values.proofs.Operands.{leaves, build-names}
 use Rattle.system_letters.specs.Letters.{Name-heads}
 use Rattle.system_letters.proofs.Tables.{head-low}
-use Rattle.letter_codes.specs.Codes.{value-arity, Arguments, Lacking}
+use Rattle.value_letters.specs.Letters.{value-arity, Arguments, Lacking}
 
 -- how many arguments a value has, by its row's tag
 pub arity-built : (p : Program) (v x k n : ℕ) → x ≡ tag p v → x ≡ 2 → k ≡ num p (v + 1) → n ≡ num p k → n ≡ value-arity p v

@@ -6,22 +6,22 @@ use borrow.Author.Needs.{needs}
 use Rattle.bits.specs.Bits.{member}
 use Rattle.model.specs.Rows.{program, num}
 use Rattle.model.specs.Tables.{tables}
-use Rattle.letter_codes.specs.Numbers.{Added}
-use Rattle.letter_codes.proofs.Numbers.{added-room}
-use Rattle.letter_codes.proofs.Values.{argument-row, mask-named, next-range, next-here, next-none}
-use Rattle.letter_codes.proofs.Extending.{Turned, within-arity, longer-fits, longer-low, longer-none}
-use Rattle.letter_codes.proofs.Extending.{extended-stop, extended-put, extended-on, turned-begin, turned-hit, turned-gap, turned-all}
+use Rattle.ascending.specs.Numbers.{Added}
+use Rattle.ascending.proofs.Numbers.{added-room}
+use Rattle.value_letters.proofs.Values.{argument-row, mask-named, next-range, next-here, next-none}
+use Rattle.value_letters.proofs.Extending.{Turned, within-arity, longer-fits, longer-low, longer-none}
+use Rattle.value_letters.proofs.Extending.{extended-stop, extended-put, extended-on, turned-begin, turned-hit, turned-gap, turned-all}
 use borrow.Fn.Kinds.{In}
 use borrow.Fn.PlainCycle.{Measures, is, falls, and}
-use Rattle.letter_codes.proofs.extend.Reads as extend
-use Rattle.letter_codes.proofs.extend.Kinds as extend-kinds
-use Rattle.letter_codes.proofs.+extend.Lts-extend as extend-lts
-use Rattle.letter_codes.proofs.head_mask.Reads as head-mask-reads
-use Rattle.letter_codes.proofs.insert.Reads as insert-reads
+use Rattle.value_letters.proofs.extend.Reads as extend
+use Rattle.value_letters.proofs.extend.Kinds as extend-kinds
+use Rattle.value_letters.proofs.+extend.Lts-extend as extend-lts
+use Rattle.value_letters.proofs.head_mask.Reads as head-mask-reads
+use Rattle.ascending.proofs.insert.Reads as insert-reads
 use Rattle.masks.proofs.next_in.Reads as next-in-reads
 use Rattle.program.proofs.rows.num.Reads as num-reads
-use Rattle.letter_codes.proofs.+extend.{statement}
-use Rattle.letter_codes.proofs.+extend.Tie.{close}
+use Rattle.value_letters.proofs.+extend.{statement}
+use Rattle.value_letters.proofs.+extend.Tie.{close}
 
 abbrev μ-extend : Measures 3 extend-kinds.ps ℕ
 μ-extend κs a = 9 - a .1 .1 .1 .1 .1 .0

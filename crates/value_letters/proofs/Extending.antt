@@ -25,10 +25,10 @@ use Rattle.model.proofs.Numbering.Choices.{head-of-name, chosen-of, gather-chos
 use Rattle.lists.specs.Ready.{Ready}
 use Rattle.system_letters.specs.Letters.{Name-heads}
 use Rattle.system_letters.proofs.Tables.{head-low}
-use Rattle.letter_codes.specs.Codes.{digits-code, letter-code, value-arity, Arguments, Allowed, Extended, Lacking}
-use Rattle.letter_codes.specs.Numbers.{Room, Added}
-use Rattle.letter_codes.proofs.Numbers.{added-none, added-then, added-same, added-within}
-use Rattle.letter_codes.proofs.Values.{member-head}
+use Rattle.value_letters.specs.Letters.{digits-code, letter-code, value-arity, Arguments, Allowed, Extended, Lacking}
+use Rattle.ascending.specs.Numbers.{Room, Added}
+use Rattle.ascending.proofs.Numbers.{added-none, added-then, added-same, added-within}
+use Rattle.value_letters.proofs.Values.{member-head}
 
 -- one digit more
 power : (i : ℕ) → i < maxArity → 128 ^ (maxArity - i) ≡ 128 * 128 ^ (maxArity - (i + 1))

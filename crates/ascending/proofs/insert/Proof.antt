@@ -2,9 +2,9 @@ use native.Mathlib.Omega.{arith}
 use mathlib.Core.Path.{refl}
 use mathlib.Core.Logic.{⊎-elim}
 use borrow.Author.Needs.{needs}
-use Rattle.letter_codes.proofs.Numbers.{strictly, placed-there, placed-new}
-use Rattle.letter_codes.proofs.insert.Statement.{statement}
-use Rattle.letter_codes.proofs.insert.Tie as tie
+use Rattle.ascending.proofs.Numbers.{strictly, placed-there, placed-new}
+use Rattle.ascending.proofs.insert.Statement.{statement}
+use Rattle.ascending.proofs.insert.Tie as tie
 
 place-requires : tie.Need-place-requires
 place-requires c κs = search needs

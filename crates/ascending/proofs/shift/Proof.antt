@@ -1,10 +1,10 @@
 use borrow.Author.Needs.{needs}
 use Prim.Native.Nat.{_≤_}
 use native.Mathlib.Omega.{arith}
-use Rattle.letter_codes.specs.Numbers.{Shifted}
-use Rattle.letter_codes.proofs.Numbers.{shifted-none, shifted-next, shifted-at}
-use Rattle.letter_codes.proofs.shift.Statement.{statement}
-use Rattle.letter_codes.proofs.shift.Tie as tie
+use Rattle.ascending.specs.Numbers.{Shifted}
+use Rattle.ascending.proofs.Numbers.{shifted-none, shifted-next, shifted-at}
+use Rattle.ascending.proofs.shift.Statement.{statement}
+use Rattle.ascending.proofs.shift.Tie as tie
 
 abbrev Inv-loop : tie.InvT-loop
 Inv-loop codes₀ at n k₀ codes k = Shifted k n codes₀ codes × (at ≤ k) × (k ≤ n)

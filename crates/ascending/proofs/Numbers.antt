@@ -7,7 +7,7 @@ use mathlib.Core.List.{List}
 use mathlib.Core.Logic.{_⊎_, inl, inr, ⊎-elim}
 use lib.ListN.{length, getD, set, length-set}
 use lib.Seq.{getD-set-same, getD-set-other}
-use Rattle.letter_codes.specs.Numbers.{Rising, Has, Placed, Shifted, Room, Added}
+use Rattle.ascending.specs.Numbers.{Rising, Has, Placed, Shifted, Room, Added}
 
 -- the search: the words before `low` are below x, those from `high` on are not
 pub record Between (from n : ℕ) (words : List ℕ) (x low high : ℕ) : Type 0 where

@@ -1,8 +1,8 @@
 use borrow.Author.Needs.{needs}
 use borrow.Author.Needs.{needs}
-use Rattle.letter_codes.proofs.Values.{arity-built, arity-plain}
-use Rattle.letter_codes.proofs.value_arity.Statement.{statement}
-use Rattle.letter_codes.proofs.value_arity.Tie as tie
+use Rattle.value_letters.proofs.Values.{arity-built, arity-plain}
+use Rattle.value_letters.proofs.value_arity.Statement.{statement}
+use Rattle.value_letters.proofs.value_arity.Tie as tie
 
 tag-requires : tie.Need-tag-requires
 tag-requires c κs = search needs
