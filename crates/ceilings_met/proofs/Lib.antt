@@ -1,4 +1,3 @@
-pub mod BadRows
 pub mod Filled
 pub mod Meeting
 pub mod Start

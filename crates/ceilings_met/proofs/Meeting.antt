@@ -2,7 +2,7 @@
 use Prim.Native.Nat.{ℕ, _+_, _*_, _-_, _≤_, _<_}
 use native.Mathlib.Decide.{decLt}
 use native.Mathlib.Omega.{arith}
-use mathlib.Core.Path.{_≡_, refl, sym, _∙_, ap}
+use mathlib.Core.Path.{_≡_, sym, _∙_, ap}
 use mathlib.Core.Bool.{Bool, true, false, _&&_}
 use mathlib.Core.List.{List}
 use lib.ListN.{length, getD}
@@ -12,12 +12,12 @@ use Rattle.model.specs.declared.Sizes.{Sizes}
 use Rattle.model.specs.declared.Verdict.{Verdict}
 use Rattle.model.specs.declared.Verdict.the-variants.{Safe, Met}
 use Rattle.model.specs.Index.{any, first}
-use Rattle.model.specs.Words.{Columns, left, right, columns}
+use Rattle.model.specs.Words.{Columns, left, right}
 use Rattle.model.specs.Message.{bads-at}
 use Rattle.model.specs.Verdict.{unless}
 use Rattle.model.specs.Rows.{Program, program}
 use Rattle.model.specs.Tables.{Tables, tables}
-use Rattle.model.specs.Bads.{bad, bad-step, bad-rows, bad-row, Subject, past-heads, Item, items, met}
+use Rattle.model.specs.Bads.{bad-rows, bad-row, Subject, past-heads, Item, items, met}
 use Rattle.model.specs.Counters.{counter-count, counts}
 use Rattle.model.specs.Markings.{Marking, sum-in}
 use Rattle.model.specs.Ceilings.{ceilings-of, highest, bad-allowed, met-check}
@@ -27,10 +27,11 @@ use Rattle.bits.specs.Bits.{Row}
 use Rattle.ceilings.specs.Table.{held, Limits-table}
 use Rattle.ceilings.proofs.Cells.{row-in}
 use Rattle.ceilings_form.proofs.Limited.{highest-same}
-use Rattle.ceilings_form.proofs.Repeated.{Walked, walked-start, walked-row, walked-inside, walked-stands, walked-next}
-use Rattle.ceilings_met.specs.Items.{Range, Items-counted, Ready, Bads-in-form, Bad-stands, bad-end, subject-from, items-at, bad-met}
+use Rattle.bads_rows.specs.Items.{Range, subject-from, items-at}
+use Rattle.bads_rows.proofs.Walking.{inside, row-range, Bads-walked, bads-row}
+use Rattle.ceilings_met.specs.Met.{Ready, bad-met}
 use Rattle.ceilings_met.specs.Sums.{counts-of, Sums-of, Summed}
-use Rattle.ceilings_met.proofs.BadRows.{heads-bounds, bad-inside, met-item, met-over}
+use Rattle.bads_rows.proofs.BadRows.{met-item, met-over}
 use Rattle.ceilings_met.proofs.Sums.{range-sum, between, sums-rise, sums-counts}
 
 -- the answer of a search for the first
@@ -92,30 +93,10 @@ module _ (ws : List ℕ) (s : Sizes) where
   abbrev rows : Columns
   rows = bad-rows ws s
 
-  -- the rows are as many as the message says
-  pub size-is : rows .size ≡ s .badrows
-  unfolding bad-rows columns
-  size-is = refl
-
-  pub inside : (r : ℕ) → 0 < left rows r → r < rows .size
-  inside r h = let e = size-is in omega (arith, bad-inside ws s r (left rows r) refl h)
-
-  -- an item takes three rows or more, and does not end past the rows by more than that
-  pub item-ends : (r : ℕ) → r ≤ s .badrows → (e : ℕ) → e ≡ past-heads rows (r + 2) → (r + 3 ≤ e + 1) × (e + 1 ≤ s .badrows + 3)
-  item-ends r low e is = let z = size-is in let (a, b) = heads-bounds rows (r + 2) in (omega arith, omega arith)
-
-  -- the counters of the item at a row
-  module _ (froms tos : List ℕ) (table : Items-counted (program ws s) (tables ws s) rows froms tos) (r : ℕ) (low : r < s .badrows) where
-    pub row-range : Range (program ws s) (tables ws s) (subject-from rows r) (getD froms r 0) (getD tos r 0)
-    row-range = table .range r (let e = size-is in omega arith)
-
-    pub row-room : (r < length froms) × (r < length tos)
-    row-room = let e = size-is in let a = table .from-room in let b = table .to-room in (omega arith, omega arith)
-
   -- the count of an item
   module _ (froms tos sums : List ℕ) (ready : Summed ws s froms tos sums) (r : ℕ) (low : r < s .badrows) where
     item-range : Range (program ws s) (tables ws s) (subject-from rows r) (getD froms r 0) (getD tos r 0)
-    item-range = row-range froms tos (ready .items-table) r low
+    item-range = row-range ws s froms tos (ready .items-table) r low
 
     module _ (from to : ℕ) (from-is : from ≡ getD froms r 0) (to-is : to ≡ getD tos r 0) where
       -- both ends are in the table of sums
@@ -137,13 +118,13 @@ module _ (ws : List ℕ) (s : Sizes) where
   -- one item more, the one that is not met, and the end of the bad
   module _ (count : Subject → ℕ) (r i t : ℕ) (so-far : met count (items-at rows r) ≡ met count (items-at rows i)) (tag : t ≡ left rows i) where
     pub meets-end : (t ≡ 40 → ⊥) → true ≡ met count (items-at rows r)
-    meets-end h = sym (so-far ∙ met-over rows inside count i (λ z. h (tag ∙ z)))
+    meets-end h = sym (so-far ∙ met-over rows (inside ws s) count i (λ z. h (tag ∙ z)))
 
     module _ (is-item : t ≡ 40) (next least c : ℕ) (next-is : next ≡ past-heads rows (i + 2) + 1) (minimum : least ≡ right rows (next - 1)) (counted : c ≡ count (subject-from rows i)) where
       by-item : met count (items-at rows r) ≡ (leb least c && met count (items-at rows next))
       by-item =
           let e : next - 1 ≡ past-heads rows (i + 2) = omega arith in
-          so-far ∙ (met-item rows inside count i (sym tag ∙ is-item) ∙ rw (minimum, e, counted, next-is))
+          so-far ∙ (met-item rows (inside ws s) count i (sym tag ∙ is-item) ∙ rw (minimum, e, counted, next-is))
 
       pub meets-not : c < least → false ≡ met count (items-at rows r)
       meets-not h = sym (by-item ∙ rw (lt-leb least c h))
@@ -151,32 +132,10 @@ module _ (ws : List ℕ) (s : Sizes) where
       pub meets-next : least ≤ c → met count (items-at rows r) ≡ met count (items-at rows next)
       meets-next h = by-item ∙ rw (le-leb least c h)
 
-  -- the bads one after the other: the first j end before row r
-  abbrev pub Bads-walked : ℕ → ℕ → Type 0
-  Bads-walked = Walked (bad-step (program ws s)) rows bad (s .bads)
-
-  pub bads-start : Bads-in-form ws s → Bads-walked 0 0
-  bads-start h = walked-start (bad-step (program ws s)) rows bad (s .bads) h
-
-  pub bads-stand : (j r : ℕ) → Bads-walked j r → j < s .bads → Bad-stands (program ws s) rows r
-  unfolding bad-end
-  bads-stand j r w h = walked-stands (bad-step (program ws s)) rows bad (s .bads) j r w h
-
-  pub bads-next : (j r q : ℕ) → Bads-walked j r → j < s .bads → q ≡ bad-end (program ws s) rows r → Bads-walked (j + 1) q
-  unfolding bad-end
-  bads-next j r q w h e = rw e (walked-next (bad-step (program ws s)) rows bad (s .bads) j r w h)
-
-  pub bads-inside : (j r : ℕ) → Bads-walked j r → r ≤ s .badrows
-  bads-inside j r w = let e = size-is in omega (arith, walked-inside (bad-step (program ws s)) rows bad (s .bads) j r w)
-
-  pub bads-row : (j r : ℕ) → Bads-walked j r → r ≡ bad-row (program ws s) rows j
-  unfolding bad-row
-  bads-row j r w = sym (walked-row (bad-step (program ws s)) rows bad (s .bads) j r w)
-
   -- bad j is met where its items, from its row on, are
-  pub bad-at : (m : Marking) (j r : ℕ) (b : Bool) → Bads-walked j r → b ≡ met (sum-in (program ws s) (tables ws s) m) (items-at rows r) → bad-met ws s m j ≡ b
+  pub bad-at : (m : Marking) (j r : ℕ) (b : Bool) → Bads-walked ws s j r → b ≡ met (sum-in (program ws s) (tables ws s) m) (items-at rows r) → bad-met ws s m j ≡ b
   unfolding bad-met items items-at
-  bad-at m j r b w e = rw (← bads-row j r w) (sym e)
+  bad-at m j r b w e = rw (← bads-row ws s j r w) (sym e)
 
   -- The ceilings
   module _ (n : ℕ) where

@@ -12,7 +12,7 @@ use Rattle.model.specs.Bads.{Subject}
 use Rattle.model.specs.Counters.{counter-count, counts}
 use Rattle.model.specs.Markings.{Marking, sum-in}
 use Rattle.model.proofs.Index.{total-end, total-turn, total-same, total-none}
-use Rattle.ceilings_met.specs.Items.{Range}
+use Rattle.bads_rows.specs.Items.{Range}
 use Rattle.ceilings_met.specs.Sums.{Sums-of, counts-of}
 use Rattle.ceilings_met.proofs.Filled.{Filled, filled-more}
 

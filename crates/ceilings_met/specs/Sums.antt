@@ -11,7 +11,7 @@ use Rattle.model.specs.Bads.{bad-rows}
 use Rattle.model.specs.Counters.{counter-count}
 use Rattle.model.specs.Markings.{Marking}
 use Rattle.ceilings_form.specs.Parts.{Whole}
-use Rattle.ceilings_met.specs.Items.{Items-counted}
+use Rattle.bads_rows.specs.Items.{Items-counted}
 
 -- the table holds the sums of these counts, of n counters
 abbrev pub Sums-of : Marking → ℕ → List ℕ → Type 0

@@ -39,14 +39,15 @@ use Rattle.values.specs.Values.{width, Empty}
 use Rattle.matching.specs.Patterns.{Fitting-sets}
 use Rattle.evidence.specs.Whole.{Parts-whole}
 use Rattle.ceilings_form.specs.Parts as ceilings
-use Rattle.ceilings_met.specs.Items.{Bads-in-form}
+use Rattle.bads_rows.specs.Items.{Bads-in-form}
 use Rattle.closure_sized.proofs.Opening.{sets-fit, empty-sets}
 use Rattle.system_letters.specs.Letters.{Class-letters, letter-width, allowed-set, Letter-sets}
 use Rattle.letter_codes.specs.Codes.{capped}
 use Rattle.letter_codes.proofs.Capped.{capped-few}
 use Rattle.letter_sets.specs.Sets.{Letter-room}
 use Rattle.rules.specs.Derived.{read-set, owner-at, Reads}
-use Rattle.pattern_letters.specs.Picked.{Match-tables, Owners-room}
+use Rattle.pattern_heads.specs.Fitting.{Match-tables}
+use Rattle.branch_letters.specs.Kept.{Owners-room}
 use Rattle.rule_tables.specs.Joined.{table-room, flow-from, branches-from, letter-from, Joined-tables, Same-below, Joined}
 use Rattle.rule_tables.proofs.Joining.{ends-kept, starts-kept, branches-kept, same-part, put-rest, put-below}
 use Rattle.stages.specs.Order.{form-check}

@@ -34,7 +34,7 @@ ghost use Rattle.values.specs.Values.{Empty};
 ghost use Rattle.system_letters.specs.Letters.{Class-letters, letter-width};
 ghost use Rattle.model.specs.Counters.{counter-count};
 ghost use Rattle.rules.specs.Derived.{owner-at};
-ghost use Rattle.pattern_letters.specs.Picked.{Owners-room};
+ghost use Rattle.branch_letters.specs.Kept.{Owners-room};
 ghost use Rattle.letter_sets.specs.Sets.{Letter-room};
 ghost use Rattle.system_space.specs.Space.{words-after};
 ghost use Rattle.stages.specs.Order.{from-22, from-11};

@@ -1,6 +1,9 @@
 // The letters that the branches of receives read, derived once: for each branch of each state that receives they are
 // kept for the state that it leads to. What is kept is looked at before it is taken (`branch_letters`), so nothing is
 // promised of how much is.
+use branch_letters::branch_letters;
+use branch_letters::forget_letters;
+use branch_letters::keep_letters;
 use lists::state_class;
 use lists::state_index;
 use lists::state_location;
@@ -8,13 +11,10 @@ use lists::state_return;
 use lists::word;
 use model::Sizes;
 use model::TAG_RECEIVE;
-use pattern_letters::LETTER_WORDS;
-use pattern_letters::branch_letters;
-use pattern_letters::forget_letters;
-use pattern_letters::keep_letters;
 use positions::branch_body;
 use program::rows::num;
 use program::rows::tag;
+use system_letters::LETTER_WORDS;
 ghost use mathlib.Core.Path.{_≡_};
 ghost use Prim.Native.Nat.{_+_, _-_, _≤_, _<_};
 ghost use Rattle.model.specs.Limits.{maxCounters, maxDepth};
@@ -25,7 +25,8 @@ ghost use Rattle.positions.specs.Positions.{Ends};
 ghost use Rattle.matching.specs.Patterns.{Pattern};
 ghost use Rattle.system_letters.specs.Letters.{Class-letters, Letter-sets};
 ghost use Rattle.rules.specs.Derived.{Reads};
-ghost use Rattle.pattern_letters.specs.Picked.{Match-tables, Owners-room};
+ghost use Rattle.pattern_heads.specs.Fitting.{Match-tables};
+ghost use Rattle.branch_letters.specs.Kept.{Owners-room};
 
 // The state before x, 0 where there is none.
 fn before(x: usize) -> usize

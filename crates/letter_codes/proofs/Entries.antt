@@ -12,9 +12,10 @@ use Rattle.model.specs.Tables.{Tables, tables, entries}
 use Rattle.lists.specs.Ready.{Ready}
 use Rattle.lists.proofs.Facts.{mail-form}
 use Rattle.values.proofs.Names.{value-upto}
-use Rattle.letter_codes.specs.Numbers.{Room, Added}
-use Rattle.letter_codes.specs.Codes.{Allowed, Allowed-in}
-use Rattle.letter_codes.proofs.Numbers.{added-none, added-then}
+use Rattle.ascending.specs.Numbers.{Room, Added}
+use Rattle.value_letters.specs.Letters.{Allowed}
+use Rattle.letter_codes.specs.Codes.{Allowed-in}
+use Rattle.ascending.proofs.Numbers.{added-none, added-then}
 
 -- the value of a mail entry is a row or a class
 pub mail-value-low : {ws : List ℕ} {s : Sizes} → Ready ws s → (j v : ℕ) → j < s .mails → v ≡ right (tables ws s .mail) j → v < 65536

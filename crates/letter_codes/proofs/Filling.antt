@@ -25,8 +25,9 @@ use Rattle.system_letters.specs.Letters.{letter-at, letters-before, Class-lette
 use Rattle.system_letters.proofs.Tables.{letter-class-low}
 use Rattle.system_letters.proofs.Classes.{before-most, before-rises, class-here, class-there}
 use Rattle.system_letters.proofs.Mailed.{letter-mailed, letter-numbered, letters-order, before-none, before-all}
-use Rattle.letter_codes.specs.Numbers.{Has, Room, Added}
-use Rattle.letter_codes.specs.Codes.{letter-code, Coded, capped, Allowed-in}
+use Rattle.ascending.specs.Numbers.{Has, Room, Added}
+use Rattle.value_letters.specs.Letters.{letter-code}
+use Rattle.letter_codes.specs.Codes.{Coded, capped, Allowed-in}
 use Rattle.letter_codes.proofs.Capped.{capped-few, capped-over}
 use Rattle.letter_codes.proofs.Order.{code-order}
 use Rattle.letter_codes.proofs.Starts.{start-next}

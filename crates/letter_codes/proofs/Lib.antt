@@ -1,9 +1,6 @@
 pub mod Capped
 pub mod Entries
-pub mod Extending
 pub mod Filling
-pub mod Numbers
 pub mod Order
 pub mod Same
 pub mod Starts
-pub mod Values

@@ -25,8 +25,8 @@ use Rattle.model.proofs.Numbering.Counters.{tag-inside}
 use Rattle.model.proofs.Parse.Lengths.{built-below}
 use Rattle.lists.specs.Ready.{Ready}
 use Rattle.lists.proofs.Facts.{rows-fit}
-use Rattle.letter_codes.specs.Codes.{digits-code, letter-code, value-arity}
-use Rattle.letter_codes.proofs.Values.{value-arguments}
+use Rattle.value_letters.specs.Letters.{digits-code, letter-code, value-arity}
+use Rattle.value_letters.proofs.Values.{value-arguments}
 
 -- each digit is below 128
 abbrev Low : List ℕ → Type 0

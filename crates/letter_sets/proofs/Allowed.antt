@@ -30,8 +30,9 @@ use Rattle.lists.specs.Ready.{Ready}
 use Rattle.lists.proofs.Facts.{rows-fit}
 use Rattle.system_letters.specs.Letters.{Name-heads, letter-at}
 use Rattle.system_letters.proofs.Tables.{head-low}
-use Rattle.letter_codes.specs.Codes.{Coded, value-arity}
-use Rattle.letter_codes.proofs.Values.{arity-built, arity-plain, value-arguments, member-head}
+use Rattle.letter_codes.specs.Codes.{Coded}
+use Rattle.value_letters.specs.Letters.{value-arity}
+use Rattle.value_letters.proofs.Values.{arity-built, arity-plain, value-arguments, member-head}
 use Rattle.letter_sets.specs.Sets.{digit-of, code-allowed}
 use Rattle.letter_sets.proofs.Digits.{letter-digit}
 

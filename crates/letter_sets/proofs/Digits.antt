@@ -6,7 +6,7 @@ use mathlib.Core.Path.{_≡_, refl, sym, _∙_, ap}
 use mathlib.Core.List.{List, [], _∷_}
 use lib.ListN.{getD}
 use lib.Pow.{pow-add}
-use Rattle.letter_codes.specs.Codes.{digits-code, letter-code}
+use Rattle.value_letters.specs.Letters.{digits-code, letter-code}
 use Rattle.letter_sets.specs.Sets.{digit-of}
 
 -- seven bits are one digit

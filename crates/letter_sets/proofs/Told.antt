@@ -18,8 +18,8 @@ use Rattle.model.specs.Closed.{argument}
 use Rattle.model.proofs.Index.{all-end, all-hit, all-miss}
 use Rattle.lists.specs.Ready.{Ready}
 use Rattle.system_letters.specs.Letters.{Name-heads}
-use Rattle.letter_codes.specs.Codes.{value-arity}
-use Rattle.letter_codes.proofs.Values.{value-arguments, argument-row}
+use Rattle.value_letters.specs.Letters.{value-arity}
+use Rattle.value_letters.proofs.Values.{value-arguments, argument-row}
 use Rattle.letter_sets.specs.Sets.{digit-of, code-allowed, Put-all, is-digit, in-digits, Digit-rows}
 use Rattle.letter_sets.proofs.Putting.{put-one, Put-upto, upto-next}
 use Rattle.letter_sets.proofs.Digits.{digit-small}

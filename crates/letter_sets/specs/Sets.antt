@@ -16,7 +16,7 @@ use Rattle.model.specs.Tables.{Tables}
 use Rattle.model.specs.Closed.{argument}
 use Rattle.model.specs.Counters.{letter-count}
 use Rattle.system_letters.specs.Letters.{digits, allowed-set, letter-width, letters-before}
-use Rattle.letter_codes.specs.Codes.{value-arity}
+use Rattle.value_letters.specs.Letters.{value-arity}
 
 -- digit i, from the left, of the number of a letter
 unfoldable pub digit-of : ℕ → ℕ → ℕ

@@ -1,5 +1,4 @@
 // The sets of letters: by what a digit is, and by mail entry.
-use letter_codes::value_arity;
 use lists::left;
 use lists::mail;
 use lists::mail_value;
@@ -13,6 +12,7 @@ use sets::put;
 use system_letters::letter_count;
 use system_letters::letter_width;
 use system_letters::row_head;
+use value_letters::value_arity;
 ghost use mathlib.Core.Path.{_≡_};
 ghost use Prim.Native.Nat.{_≤_, _<_};
 ghost use Rattle.values.specs.Values.{Empty};
@@ -22,7 +22,8 @@ ghost use Rattle.model.specs.Letters.{row-head};
 ghost use Rattle.model.specs.Tables.{tables};
 ghost use Rattle.lists.specs.Ready.{Ready};
 ghost use Rattle.system_letters.specs.Letters.{Name-heads, Class-letters, Letter-sets, letter-width};
-ghost use Rattle.letter_codes.specs.Codes.{Coded, value-arity};
+ghost use Rattle.letter_codes.specs.Codes.{Coded};
+ghost use Rattle.value_letters.specs.Letters.{value-arity};
 ghost use Rattle.letter_sets.specs.Sets.{digit-of, code-allowed, Letter-room, Put-all, Digit-rows};
 ghost use Rattle.letter_sets.specs.Sets.{in-digits, all-digits, in-allowed, all-allowed};
 

@@ -1,45 +1,39 @@
--- Sets of letters: what is found so far, and what of a value's letters is left.
+-- Sets of letters: what of a value's letters is left.
 use Prim.Native.Nat.{ℕ, zero, suc, _+_, _*_, _-_, _≤_, _<_}
 use native.Mathlib.Decide.{ℕ-discrete, decLt}
 use native.Mathlib.Nat.{mul-le-mul-right}
 use native.Mathlib.Omega.{arith}
 use mathlib.Core.Path.{_≡_, refl, sym, _∙_, ap}
 use mathlib.Core.Bool.{Bool, true, false, not, _&&_, _||_}
-use mathlib.Core.List.{List, [], _∷_, _++_, append-nil, List·Memᴰ, List·Memᴰ·not-nil, Memᴰ·append-left, Memᴰ·append-right, List·Memᴰ·append-cases}
+use mathlib.Core.List.{List, [], _∷_, _++_, append-nil, List·Memᴰ, List·Memᴰ·not-nil, Memᴰ·append-left, List·Memᴰ·append-cases}
 use mathlib.Core.Logic.{_↔_, ⊎-elim}
 use lib.Dec.{eqb, ltb}
-use lib.ListN.{length, getD}
+use lib.ListN.{getD}
 use borrow.Author.Tests.{eqb-true, eq-eqb, ne-eqb, lt-ltb, le-ltb, not-true, not-false}
 use Rattle.bits.specs.Bits.{member, Row, Set-is}
 use Rattle.bits.proofs.Loops.{both}
 use Rattle.model.specs.declared.Sizes.{Sizes}
 use Rattle.model.specs.Limits.{maxArity, maxDepth}
 use Rattle.model.specs.Index.{gather, any, all, implies}
-use Rattle.model.specs.Words.{Columns, left, right}
+use Rattle.model.specs.Words.{left, right}
 use Rattle.model.specs.Rows.{Program, program, tag, num, arity}
 use Rattle.model.specs.Letters.{Letter, head-count, row-head}
-use Rattle.model.specs.Tables.{Tables, entries}
+use Rattle.model.specs.Tables.{Tables}
 use Rattle.model.specs.Closed.{argument, subpattern, same-constructor, may-match, may-take}
-use Rattle.model.specs.Counters.{letters-where, letters-allowed, any-argument, letter-count}
-use Rattle.model.specs.Rules.{from-each, argument-fits, letters-read}
+use Rattle.model.specs.Counters.{letters-where, letters-allowed, any-argument}
+use Rattle.model.specs.Rules.{argument-fits, letters-read}
 use Rattle.model.specs.Wanted.{Member}
 use Rattle.model.specs.TwoDeep.{Letter-of, with-heads, alone}
-use Rattle.model.proofs.Logic.{test, true-false, and-left, and-right, and-intro, or-cases, or-left, or-right, implies-elim, implies-intro}
-use Rattle.model.proofs.Index.{any-intro, all-intro, all-elim, all-end, gather-end}
+use Rattle.model.proofs.Logic.{test, true-false, and-left, and-right, and-intro, implies-elim, implies-intro}
+use Rattle.model.proofs.Index.{any-intro, all-intro, all-elim, all-end}
 use Rattle.model.proofs.Exact.Members.{some-of-iff}
 use Rattle.model.proofs.Numbering.Choices.{where-allowed}
 use Rattle.model.proofs.TwoDeep.{letter-told, letter-listed}
-use Rattle.lists.specs.Lists.{Ascending, range-from, range-to}
-use Rattle.rules.proofs.Gather.{gather-last, each-range}
-use Rattle.system_letters.specs.Letters.{class-at, letter-at, letter-width, digits, digit-set, allowed-set, Letter-sets, Found}
-use Rattle.pattern_letters.specs.Picked.{begins, value-fits, head-fits, has-head, leaves-head, head-of, leaves-argument, leaves-below, leaves-first, leaves, Left}
-
--- a set that keeps its length has its row
-pub row-kept : (w n : ℕ) (u u′ : List ℕ) → Row u w n → length u′ ≡ length u → Row u′ w n
-row-kept w n u u′ r e = record { room = omega (arith, r .room) }
-
-pub wide-row : (w w′ : ℕ) (u : List ℕ) → w ≡ w′ → Row u w′ 0 → Row u w 0
-wide-row w w′ u e r = rw e r
+use Rattle.rules.proofs.Gather.{gather-last}
+use Rattle.system_letters.specs.Letters.{letter-at, letter-width, digit-set, allowed-set, Letter-sets, Found}
+use Rattle.sent_letters.proofs.Found.{row-kept, letter-inside, found-join, entry-has}
+use Rattle.pattern_heads.specs.Fitting.{begins, value-fits, head-fits, has-head}
+use Rattle.pattern_letters.specs.Picked.{leaves-head, head-of, leaves-argument, leaves-below, leaves-first, leaves, Left}
 
 -- the sum of a set's number
 pub set-small : (i k h : ℕ) → i ≤ 8 → k ≤ 66 → h < k → i * k + h < 4096
@@ -100,57 +94,6 @@ read-allowed p t q v l m =
     (λ e. absurd (List·Memᴰ·not-nil (rw (e, letters-read) at m)))
 
 module _ (p : Program) (t : Tables) where
-  -- a letter has its bit
-  pub letter-inside : (y : ℕ) → y < letter-count p t → y < 64 * letter-width p t
-  unfolding letter-width
-  letter-inside y l = omega arith
-
-  -- what is found
-  module _ (c : ℕ) where
-    found-none : (w : ℕ) (u u′ : List ℕ) → w ≡ letter-width p t → Row u (letter-width p t) 0 → Set-is w 0 (λ v. false) u u′ → Found p t c [] u′
-    found-none w u u′ e r is = record {
-      row = row-kept (letter-width p t) 0 u u′ r (is .long);
-      has = λ y l. (
-        λ h. true-false h (rw e at (is .here y (rw e (letter-inside y l)))),
-        λ h. absurd (List·Memᴰ·not-nil (h .1)),
-      );
-    }
-
-    pub found-start : (from w : ℕ) (f : ℕ → List Letter) (u u′ : List ℕ) → w ≡ letter-width p t → Row u (letter-width p t) 0 → Set-is w 0 (λ v. false) u u′ → Found p t c (gather from from f) u′
-    found-start from w f u u′ e r is = rw (gather-end from from f (omega arith)) (found-none w u u′ e r is)
-
-    -- all entries that begin with a
-    pub found-end : (l : Columns) → Ascending l [] → (a from to i : ℕ) (f : ℕ → List Letter) (u : List ℕ) → from ≡ range-from l a → to ≡ range-to l a → i ≡ to → Found p t c (gather from i (λ k. f (right l k))) u → Found p t c (from-each l a f) u
-    found-end l rising a from to i f u x y z g = rw (each-range l a f rising) (rw (x, z, y) at g)
-
-    found-join : (ls ms : List Letter) (w : ℕ) (g : ℕ → Bool) (u u′ : List ℕ) → w ≡ letter-width p t → Found p t c ls u → ((y : ℕ) → y < letter-count p t → (g y ≡ true) ↔ ((class-at p t y ≡ c) × List·Memᴰ (letter-at p t y) ms)) → Set-is w 0 (λ v. member u w 0 v || g v) u u′ → Found p t c (ls ++ ms) u′
-    found-join ls ms w g u u′ e f k is = record {
-      row = row-kept (letter-width p t) 0 u u′ (f .row) (is .long);
-      has = λ y l.
-          let here : member u′ (letter-width p t) 0 y ≡ (member u (letter-width p t) 0 y || g y) = rw e at (is .here y (rw e (letter-inside y l))) in (
-            λ h. ⊎-elim
-                (λ z. let (a, b) = f .has y l .0 z in (a, Memᴰ·append-left ms b))
-                (λ z. let (a, b) = k y l .0 z in (a, Memᴰ·append-right ls b))
-                (or-cases (member u (letter-width p t) 0 y) (g y) (sym here ∙ h)),
-            λ h. here ∙ ⊎-elim
-                (λ m. or-left (member u (letter-width p t) 0 y) (g y) (f .has y l .1 (h .0, m)))
-                (λ m. or-right (member u (letter-width p t) 0 y) (g y) (k y l .1 (h .0, m)))
-                (List·Memᴰ·append-cases ls (h .1)),
-          );
-    }
-
-    -- the letters of one mail entry
-    module _ (letters : List ℕ) (sets : Letter-sets p t letters) (w set j v : ℕ) (e : w ≡ letter-width p t) (at : set ≡ allowed-set p j) (low : j < t .mail .size) (class : left (t .mail) j ≡ c) (value : right (t .mail) j ≡ v) where
-      entry-has : (y : ℕ) → y < letter-count p t → (member letters w set y ≡ true) ↔ ((class-at p t y ≡ c) × List·Memᴰ (letter-at p t y) (letters-allowed p t v))
-      entry-has y l = rw (e, at, ← class, ← value) (sets .allowed j y low l)
-
-      pub entry-room : Row letters w set
-      unfolding allowed-set
-      entry-room = rw (e, at) (sets .room (allowed-set p j) (omega arith))
-
-      pub found-sent : (from i : ℕ) (f : ℕ → List Letter) (u u′ : List ℕ) → from ≤ i → f i ≡ letters-allowed p t v → Found p t c (gather from i f) u → Set-is w 0 (λ y. member u w 0 y || member letters w set y) u u′ → Found p t c (gather from (i + 1) f) u′
-      found-sent from i f u u′ a b g is = rw (gather-last from i f a, b) (found-join (gather from i f) (letters-allowed p t v) w (member letters w set) u u′ e g entry-has is)
-
   -- the letters of a value that a pattern leaves are those that it reads
   module _ (low : (v : ℕ) → row-head p v < head-count p) (q v : ℕ) (begun : begins p t q v ≡ true) where
     -- the letters where each argument passes, as a list and outright
@@ -305,8 +248,8 @@ module _ (p : Program) (t : Tables) where
           λ h. let (x, m) = f .has y l .0 h in (x, Memᴰ·append-left (letters-read p t q v) m),
           λ h. ⊎-elim
               (λ m. f .has y l .1 (h .0, m))
-              (λ m. let in-set = entry-has c letters sets w set j v e at there class (sym value) y l .1 (h .0, read-allowed p t q v (letter-at p t y) m) in
-              true-false (any-intro 0 (64 * w) y (λ k. member letters w set k && member letters w set k) (omega arith) (rw e (letter-inside y l)) (and-intro (member letters w set y) _ in-set in-set)) (sym e′ ∙ not-true b n))
+              (λ m. let in-set = entry-has p t c letters sets w set j v e at there class (sym value) y l .1 (h .0, read-allowed p t q v (letter-at p t y) m) in
+              true-false (any-intro 0 (64 * w) y (λ k. member letters w set k && member letters w set k) (omega arith) (rw e (letter-inside p t y l)) (and-intro (member letters w set y) _ in-set in-set)) (sym e′ ∙ not-true b n))
               (List·Memᴰ·append-cases (gather from j Turn) (h .1)),
         );
       })
@@ -314,12 +257,12 @@ module _ (p : Program) (t : Tables) where
       pub found-read : (b : Bool) (u u′ part part₁ part₂ : List ℕ) → b ≡ begins p t q v → not b ≡ false → Found p t c (gather from j Turn) u → Set-is w 0 (member letters w set) part part₁ → Left p t (leaves p t q v) part₁ part₂ → Set-is w 0 (λ y. member u w 0 y || member part₂ w 0 y) u u′ → Found p t c (gather from (j + 1) Turn) u′
       found-read b u u′ part part₁ part₂ e′ n f copied less is =
           let begun : begins p t q v ≡ true = sym e′ ∙ not-false b n in
-          rw turned (found-join c (gather from j Turn) (letters-read p t q v) w (member part₂ w 0) u u′ e f
+          rw turned (found-join p t c (gather from j Turn) (letters-read p t q v) w (member part₂ w 0) u u′ e f
           (λ y l.
-          let inside : y < 64 * w = rw e (letter-inside y l) in
+          let inside : y < 64 * w = rw e (letter-inside p t y l) in
           let has : member part₂ w 0 y ≡ (member part₁ w 0 y && leaves p t q v y) = rw e (less .has y l) in
           let was = copied .here y inside in
-          let (to, from′) = entry-has c letters sets w set j v e at there class (sym value) y l in (
+          let (to, from′) = entry-has p t c letters sets w set j v e at there class (sym value) y l in (
             λ h.
                 let both′ = sym has ∙ h in
                 let (x, m) = to (sym was ∙ and-left (member part₁ w 0 y) (leaves p t q v y) both′) in
@@ -392,7 +335,7 @@ module _ (p : Program) (t : Tables) where
       long = is .long ∙ f .long;
       row = row-kept (letter-width p t) 0 u₁ u₂ (f .row) (is .long);
       has = λ y l.
-          let here : member u₂ (letter-width p t) 0 y ≡ (member u₁ (letter-width p t) 0 y && not (member letters (letter-width p t) (digit-set p (i + 1) h) y)) = rw (e, at) at (is .here y (rw e (letter-inside y l))) in
+          let here : member u₂ (letter-width p t) 0 y ≡ (member u₁ (letter-width p t) 0 y && not (member letters (letter-width p t) (digit-set p (i + 1) h) y)) = rw (e, at) at (is .here y (rw e (letter-inside p t y l))) in
           here ∙ (rw (f .has y l, sets .digit (i + 1) h y (omega arith) low l)
           (and-and (member u (letter-width p t) 0 y) (leaves-below p t i n q h y) (not (eqb (head-of p t i y) h)) ∙
           ap (λ x. member u (letter-width p t) 0 y && x) (below-lost (leaves-head p t n q) h (head-of p t i y) lost)));
@@ -426,10 +369,6 @@ module _ (p : Program) (t : Tables) where
     }
 
 -- the numbers of sets, as the code has them
-pub entry-number : (ws : List ℕ) (s : Sizes) (j n : ℕ) → n ≡ digits * (s .constructors + 2) + j → n ≡ allowed-set (program ws s) j
-unfolding allowed-set head-count program
-entry-number ws s j n e = e
-
 pub digit-number : (ws : List ℕ) (s : Sizes) (i h n : ℕ) → n ≡ i * (s .constructors + 2) + h → n ≡ digit-set (program ws s) i h
 unfolding digit-set head-count program
 digit-number ws s i h n e = e

@@ -1,4 +1,3 @@
 pub mod Lessening
-pub mod Fitting
-pub mod Keeping
-pub mod Passing
+mod Arguments
+mod Passing

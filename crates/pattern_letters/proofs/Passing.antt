@@ -10,8 +10,9 @@ use Rattle.model.specs.Index.{first}
 use Rattle.model.specs.Rows.{program}
 use Rattle.model.specs.Tables.{tables}
 use Rattle.model.proofs.Index.{First, first-is}
-use Rattle.pattern_letters.specs.Picked.{leaves-below, Left, Match-tables}
-use Rattle.pattern_letters.proofs.Fitting.{absent-left}
+use Rattle.pattern_heads.specs.Fitting.{Match-tables}
+use Rattle.pattern_letters.specs.Picked.{leaves-below, Left}
+use Rattle.pattern_letters.proofs.Arguments.{absent-left}
 use Rattle.pattern_letters.proofs.Lessening.{heads-upto}
 
 pub next-above : (from h end : ℕ) (f : ℕ → Bool) → from ≤ end → h ≡ first from end f → from ≤ h

@@ -23,7 +23,7 @@ use Rattle.rule_tables.specs.Joined.{flow-from, branches-from, letter-from}
 use Rattle.ceilings_form.specs.Parts as ceilings
 use Rattle.ceilings_form.specs.Limits.{In-form, Starts-table}
 use Rattle.ceilings.specs.Table.{Limits-table}
-use Rattle.ceilings_met.specs.Items.{Bads-in-form}
+use Rattle.bads_rows.specs.Items.{Bads-in-form}
 use Rattle.weights_form.specs.Form.{Weights-in-form}
 use Rattle.stages.specs.Order.{form-check}
 

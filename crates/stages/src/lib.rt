@@ -28,7 +28,7 @@ ghost use Rattle.positions.specs.Positions.{Ends};
 ghost use Rattle.system_letters.specs.Letters.{Class-letters, Letter-sets};
 ghost use Rattle.ceilings_form.specs.Parts.{Whole};
 ghost use Rattle.ceilings.specs.Table.{Limits-table};
-ghost use Rattle.ceilings_met.specs.Items.{Bads-in-form};
+ghost use Rattle.bads_rows.specs.Items.{Bads-in-form};
 ghost use Rattle.weights.specs.Table.{Weights-table};
 ghost use Prim.Native.Nat.{_≤_, _<_};
 ghost use lib.ListN.{length};

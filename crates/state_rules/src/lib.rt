@@ -1,4 +1,5 @@
 // The rules of a state, all at once: where they lead, and the other counter. All rules of a state are of one kind.
+use branch_letters::branch_letters;
 use lists::flow_value;
 use lists::state_class;
 use lists::state_location;
@@ -10,9 +11,6 @@ use model::TAG_GIVE;
 use model::TAG_RECEIVE;
 use model::TAG_SEND;
 use model::TAG_SPAWN;
-use pattern_letters::LETTER_WORDS;
-use pattern_letters::branch_letters;
-use pattern_letters::sent_letters;
 use plain_rules::behind;
 use plain_rules::call_rules;
 use plain_rules::case_rules;
@@ -25,10 +23,12 @@ use positions::branch_body;
 use positions::is_class;
 use program::rows::num;
 use program::rows::tag;
+use sent_letters::sent_letters;
 use sets::copy_into;
 use sets::holds;
 use sets::meets;
 use sets::take_from;
+use system_letters::LETTER_WORDS;
 use system_letters::letter_width;
 ghost use mathlib.Core.Path.{_≡_};
 ghost use mathlib.Core.Bool.{Bool, true, not, _&&_, _||_};
@@ -52,7 +52,7 @@ ghost use Rattle.system_letters.specs.Letters.{Class-letters, Letter-sets, lett
 ghost use Rattle.lists.specs.Ready.{Ready};
 ghost use Rattle.state_rules.specs.Heads.{Letter-room, class-turn};
 ghost use Rattle.state_rules.specs.Within.{only-passing, Asked-letters, Rules-within};
-ghost use Rattle.pattern_letters.specs.Picked.{Match-tables};
+ghost use Rattle.pattern_heads.specs.Fitting.{Match-tables};
 
 // A rule to the state `next` for each letter of class d that set 0 has, with its counter; n rules stand in the lists.
 fn letter_rules(

@@ -26,8 +26,8 @@ use Rattle.lists.proofs.Facts.{states-rise}
 use Rattle.system_letters.specs.Letters.{class-at, letter-at, letters-before}
 use Rattle.system_letters.proofs.Tables.{letter-class-low}
 use Rattle.system_letters.proofs.Classes.{class-there, before-most}
-use Rattle.ceilings_met.specs.Items.{Range, subject-from}
-use Rattle.ceilings_met.proofs.BadRows.{heads-bounds}
+use Rattle.bads_rows.specs.Items.{Range, subject-from}
+use Rattle.bads_rows.proofs.BadRows.{heads-bounds}
 use Rattle.system_items.specs.Stretches.{is-named, names-letters, Stretched}
 use Rattle.system_items.proofs.Begun.{begins-elim, begins-same, begins-intro, numbers-turn, numbers-one, numbers-length}
 use Rattle.system_items.proofs.Letters.{key-is, letter-proper, named-key}

@@ -12,8 +12,8 @@ use Rattle.model.specs.Rows.{program}
 use Rattle.model.specs.Tables.{tables}
 use Rattle.model.specs.Bads.{bad-rows}
 use Rattle.model.specs.Counters.{counter-count}
-use Rattle.ceilings_met.specs.Items.{Range, subject-from, Items-counted}
-use Rattle.ceilings_met.proofs.Meeting.{size-is}
+use Rattle.bads_rows.specs.Items.{Range, subject-from, Items-counted}
+use Rattle.bads_rows.proofs.Walking.{size-is}
 
 module _ (ws : List ℕ) (s : Sizes) where
   -- the counters of the item at row r

@@ -1,8 +1,8 @@
 // The tables of the items' counters, as the check of bads under the ceilings is handed them (refusal 12).
 use bads::letter_arity;
-use ceilings_met::bad_number;
-use ceilings_met::bad_tag;
-use ceilings_met::past_heads;
+use bads_rows::bad_number;
+use bads_rows::bad_tag;
+use bads_rows::past_heads;
 use lists::heads_from;
 use lists::heads_to;
 use lists::word;
@@ -26,7 +26,7 @@ ghost use Rattle.lists.specs.Lists.{head-from, head-to};
 ghost use Rattle.lists.specs.Ready.{Ready};
 ghost use Rattle.system_letters.specs.Letters.{letter-at, letters-before, Class-letters, letter-width};
 ghost use Rattle.system_letters.specs.Letters.{digits, Letter-sets};
-ghost use Rattle.ceilings_met.specs.Items.{subject-from, Range, Items-counted};
+ghost use Rattle.bads_rows.specs.Items.{subject-from, Range, Items-counted};
 ghost use Rattle.system_items.specs.Stretches.{is-named, names-letters, Stretched};
 
 // Counters that stand together: those from `from` below `to`.

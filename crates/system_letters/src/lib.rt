@@ -4,6 +4,7 @@ use lists::left;
 use lists::right;
 use lists::word;
 use model::ADDRESS_HEAD;
+use model::MAX_COUNTERS;
 use model::Sizes;
 use model::TAG_BUILD;
 use model::TAG_FUNCTION;
@@ -21,6 +22,9 @@ ghost use Rattle.model.specs.Counters.{letter-count};
 ghost use Rattle.program.specs.Rows.{Whole};
 ghost use Rattle.lists.specs.Ready.{Ready};
 ghost use Rattle.system_letters.specs.Letters.{Name-heads, Class-letters, letter-width};
+
+// A set of letters has at most so many words: a bit for each letter, one word more where they fill all.
+pub const LETTER_WORDS: usize = MAX_COUNTERS / 64 + 1;
 
 // The head of a value of the tables: a constructor's number, C for a function, C + 1 for an address.
 pub fn row_head(ws: &[u16], s: Sizes, v: usize) -> usize

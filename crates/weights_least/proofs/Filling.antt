@@ -20,7 +20,7 @@ use Rattle.model.specs.Weights.{Line, weighed, lightest, fill}
 use Rattle.model.proofs.Logic.{test}
 use Rattle.model.proofs.Index.{total-same, total-plus, total-turn}
 use Rattle.model.proofs.Weighed.Least.{pick, only-at, total-at}
-use Rattle.ceilings_met.specs.Items.{Range}
+use Rattle.bads_rows.specs.Items.{Range}
 use Rattle.ceilings_met.proofs.Sums.{total-split, range-sum}
 use Rattle.weights_least.specs.Least.{counts-in, Lightest-in, lacking, Put-lacking, most-put}
 use Rattle.weights_least.proofs.Lightest.{lightest-is}

@@ -22,9 +22,9 @@ use Rattle.model.specs.Weights.{Line, lines-of, weighed, is-single, fill, fill-
 use Rattle.model.proofs.Logic.{true-false, or-false-left, or-false-right}
 use Rattle.model.proofs.Index.{any-elim, total-none}
 use Rattle.ceilings.specs.Table.{held}
-use Rattle.ceilings_met.specs.Items.{Range, subject-from, item-from, items-at}
-use Rattle.ceilings_met.proofs.BadRows.{items-next, items-over}
-use Rattle.ceilings_met.proofs.Meeting.{inside, row-range}
+use Rattle.bads_rows.specs.Items.{Range, subject-from, item-from, items-at}
+use Rattle.bads_rows.proofs.BadRows.{items-next, items-over}
+use Rattle.bads_rows.proofs.Walking.{inside, row-range}
 use Rattle.weights_least.specs.Least.{counters-of, line-of, Weighable, counts-in, Put-lacking, in-pass, Has-counter, All-counted, Grown}
 use Rattle.weights_least.proofs.Lightest.{in-range}
 use Rattle.weights_least.proofs.Filling.{filled-in, grown}

@@ -15,7 +15,7 @@ use Rattle.model.specs.Counters.{counter-count, counts}
 use Rattle.model.specs.Weights.{Line, lightest}
 use Rattle.model.proofs.Logic.{test, true-false, and-left, and-right, and-intro, implies-elim, implies-intro}
 use Rattle.model.proofs.Index.{all-elim, all-intro, first-unique}
-use Rattle.ceilings_met.specs.Items.{Range}
+use Rattle.bads_rows.specs.Items.{Range}
 use Rattle.weights_least.specs.Least.{Lightest-in}
 
 module _ (w : Line) (from : ℕ) where

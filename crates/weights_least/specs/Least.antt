@@ -15,7 +15,7 @@ use Rattle.model.specs.Counters.{counter-count, counts}
 use Rattle.model.specs.Markings.{Marking}
 use Rattle.model.specs.Weights.{Line, lines-of, weighed, is-single, without-counter}
 use Rattle.ceilings_form.specs.Parts.{Whole}
-use Rattle.ceilings_met.specs.Items.{Items-counted, subject-from, items-at}
+use Rattle.bads_rows.specs.Items.{Items-counted, subject-from, items-at}
 use Rattle.weights.specs.Table.{Weights-table}
 
 -- how many counters a message has

@@ -1,8 +1,8 @@
 // The least weight of a bad in a line: what its items lack is put on the lightest of their counters, items on a single
 // letter first, so that what these ask for counts for the groups too.
-use ceilings_met::bad_number;
-use ceilings_met::bad_tag;
-use ceilings_met::next_item;
+use bads_rows::bad_number;
+use bads_rows::bad_tag;
+use bads_rows::next_item;
 use model::Sizes;
 use model::TAG_CLASS;
 use model::TAG_HEAD;
@@ -18,7 +18,7 @@ ghost use Rattle.model.specs.Bads.{bad-rows, past-heads};
 ghost use Rattle.model.specs.Weights.{is-single, fill, fill-those, least-weight};
 ghost use Rattle.ceilings.specs.Table.{held};
 ghost use Rattle.ceilings_form.specs.Parts.{Whole};
-ghost use Rattle.ceilings_met.specs.Items.{subject-from, item-from, items-at};
+ghost use Rattle.bads_rows.specs.Items.{subject-from, item-from, items-at};
 ghost use Rattle.weights_least.specs.Least.{counters-of, line-of, Weighable, counts-in, Lightest-in, Put-lacking};
 ghost use Rattle.weights_least.specs.Least.{in-pass, Has-counter, All-counted, most-put, Grown};
 

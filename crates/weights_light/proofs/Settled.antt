@@ -22,8 +22,9 @@ use Rattle.model.specs.Verify.{answer}
 use Rattle.model.proofs.Index.{any-intro, any-hit, any-miss, none-any}
 use Rattle.model.proofs.Weighed.Form.{start-weighs}
 use Rattle.ceilings.specs.Table.{held}
-use Rattle.ceilings_met.specs.Items.{Range, Items-counted, subject-from, items-at}
-use Rattle.ceilings_met.proofs.Meeting.{row-range, first-refused, first-passed, Bads-walked, bads-row}
+use Rattle.bads_rows.specs.Items.{Range, Items-counted, subject-from, items-at}
+use Rattle.bads_rows.proofs.Walking.{row-range, Bads-walked, bads-row}
+use Rattle.ceilings_met.proofs.Meeting.{first-refused, first-passed}
 use Rattle.weights_least.specs.Least.{line-of, Weighable}
 use Rattle.weights_least.proofs.Lightest.{in-range}
 use Rattle.weights_least.proofs.Items.{without-item}

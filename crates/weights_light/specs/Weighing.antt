@@ -11,7 +11,7 @@ use Rattle.model.specs.Bads.{bad-rows}
 use Rattle.model.specs.Counters.{counter-count}
 use Rattle.model.specs.Weights.{lines-of}
 use Rattle.ceilings_form.specs.Parts.{Whole}
-use Rattle.ceilings_met.specs.Items.{Items-counted}
+use Rattle.bads_rows.specs.Items.{Items-counted}
 use Rattle.weights.specs.Table.{Weights-table}
 
 -- the counters, how many they are, the table of weights, the counters of the items, and the start's counter

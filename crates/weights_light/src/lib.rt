@@ -1,7 +1,7 @@
 // Bads that no line of weights weighs above the start: refusal 18.
-use ceilings_met::bad_tag;
-use ceilings_met::next_bad;
-use ceilings_met::next_item;
+use bads_rows::bad_tag;
+use bads_rows::next_bad;
+use bads_rows::next_item;
 use model::Sizes;
 use model::TAG_CLASS;
 use model::Verdict;
@@ -20,7 +20,7 @@ ghost use Rattle.model.specs.Verify.{answer};
 ghost use Rattle.bits.specs.Bits.{Row};
 ghost use Rattle.ceilings_form.specs.Parts.{Whole};
 ghost use Rattle.ceilings.specs.Table.{held};
-ghost use Rattle.ceilings_met.specs.Items.{Items-counted, Bads-in-form, items-at};
+ghost use Rattle.bads_rows.specs.Items.{Items-counted, Bads-in-form, items-at};
 ghost use Rattle.weights_light.specs.Weighing.{Weighing};
 
 // Some item of the bad that stands at row r has no counter, so that no counts meet the bad.

@@ -4,9 +4,10 @@ use native.Mathlib.Omega.{arith}
 use mathlib.Core.Path.{_≡_, refl, sym, _∙_}
 use Rattle.model.specs.Index.{first}
 use Rattle.model.proofs.Index.{first-hit, first-miss, first-end}
-use Rattle.ceilings_met.specs.Items.{bad-met}
+use Rattle.ceilings_met.specs.Met.{bad-met}
 use Rattle.ceilings_met.specs.Sums.{counts-of}
-use Rattle.ceilings_met.proofs.Meeting.{Bads-walked, bads-start, bads-stand, bads-next, bads-inside, bad-at}
+use Rattle.bads_rows.proofs.Walking.{Bads-walked, bads-start, bads-stand, bads-next, bads-inside}
+use Rattle.ceilings_met.proofs.Meeting.{bad-at}
 use borrow.Author.Needs.{needs}
 use Rattle.ceilings_met.proofs.first_met.Statement.{statement}
 use Rattle.ceilings_met.proofs.first_met.Tie as tie

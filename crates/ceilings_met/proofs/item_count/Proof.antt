@@ -1,7 +1,8 @@
 use lib.ListN.{getD}
 use native.Mathlib.Omega.{arith}
 use mathlib.Core.Path.{refl}
-use Rattle.ceilings_met.proofs.Meeting.{row-room, ends-room, sums-order, sum-told}
+use Rattle.bads_rows.proofs.Walking.{row-room}
+use Rattle.ceilings_met.proofs.Meeting.{ends-room, sums-order, sum-told}
 use borrow.Author.Needs.{needs}
 use Rattle.ceilings_met.proofs.item_count.Statement.{statement}
 use Rattle.ceilings_met.proofs.item_count.Tie as tie

@@ -6,9 +6,9 @@ use Rattle.model.specs.Bads.{bad-rows, met}
 use Rattle.model.specs.Rows.{program}
 use Rattle.model.specs.Tables.{tables}
 use Rattle.model.specs.Markings.{sum-in}
-use Rattle.ceilings_met.specs.Items.{items-at}
+use Rattle.bads_rows.specs.Items.{items-at}
 use Rattle.ceilings_met.specs.Sums.{counts-of}
-use Rattle.ceilings_met.proofs.BadRows.{bad-inside}
+use Rattle.bads_rows.proofs.BadRows.{bad-inside}
 use Rattle.ceilings_met.proofs.Meeting.{meets-end, meets-not, meets-next}
 use borrow.Author.Needs.{needs}
 use Rattle.ceilings_met.proofs.meets.Statement.{statement}

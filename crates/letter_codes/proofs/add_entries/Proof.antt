@@ -5,9 +5,9 @@ use Rattle.model.specs.Rows.{program}
 use Rattle.model.specs.Tables.{tables}
 use Rattle.lists.proofs.Facts.{mail-usable}
 use Rattle.lists.proofs.Told.{mail-told}
-use Rattle.letter_codes.specs.Numbers.{Added}
+use Rattle.ascending.specs.Numbers.{Added}
 use Rattle.letter_codes.specs.Codes.{Allowed-in}
-use Rattle.letter_codes.proofs.Numbers.{added-room}
+use Rattle.ascending.proofs.Numbers.{added-room}
 use Rattle.letter_codes.proofs.Entries.{mail-value-low, entries-none, entries-next, entries-all}
 use Rattle.letter_codes.proofs.add_entries.Statement.{statement}
 use Rattle.letter_codes.proofs.add_entries.Tie as tie

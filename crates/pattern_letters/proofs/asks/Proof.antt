@@ -1,4 +1,4 @@
-use Rattle.pattern_letters.proofs.Fitting.{asks-made, asks-held}
+use Rattle.pattern_letters.proofs.Arguments.{asks-made, asks-held}
 use borrow.Author.Needs.{needs}
 use Rattle.pattern_letters.proofs.asks.Statement.{statement}
 use Rattle.pattern_letters.proofs.asks.Tie as tie

@@ -6,8 +6,10 @@ use Rattle.model.specs.Rows.{program}
 use Rattle.model.specs.Tables.{tables}
 use Rattle.system_letters.proofs.Tables.{head-low}
 use Rattle.pattern_letters.specs.Picked.{leaves-below, Left}
-use Rattle.pattern_letters.proofs.Fitting.{asked, unasked, head-room, next-there, fitting-left, next-lost}
-use Rattle.pattern_letters.proofs.Lessening.{wide-row, heads-first, heads-kept, heads-lost, heads-over, heads-any, digit-room, digit-number, head-below, heads-above}
+use Rattle.pattern_letters.proofs.Arguments.{asked, unasked, next-there, fitting-left, next-lost}
+use Rattle.pattern_heads.proofs.Fitting.{head-room}
+use Rattle.sent_letters.proofs.Found.{wide-row}
+use Rattle.pattern_letters.proofs.Lessening.{heads-first, heads-kept, heads-lost, heads-over, heads-any, digit-room, digit-number, head-below, heads-above}
 use Rattle.pattern_letters.proofs.Passing.{next-above, passed-over}
 use borrow.Author.Needs.{needs}
 use Rattle.pattern_letters.proofs.leave_argument.Statement.{statement}
@@ -32,7 +34,7 @@ loop-holds : tie.Need-loop-holds Inv-loop μ-loop
 loop-holds c = (search needs, search needs, heads-first _ _ _ _ _ _ _ (c .before .before .before .before .before .before .before .before .pre .1 .1 .0) (c .before .before .before .before .before .before .before .before .pre .1 .1 .1 .1 .1))
 
 next-of-two-requires : tie.Need-next-of-two-requires Inv-loop μ-loop
-next-of-two-requires c κs = (head-room (c .before .before .before .before .before .before .before .before .before .pre .0) _ 0 0 (c .before .before .before .before .before .before .before .before .before .pre .1 .1 .1 .0 .1) (omega arith) .1, (c .loop .inv .1, omega (arith, c .loop .inv .0, c .before .before .before .before .before .before .before .before .before .pre .0 .ready .limits .constructors)))
+next-of-two-requires c κs = (head-room (c .before .before .before .before .before .before .before .before .before .pre .0) _ 0 (c .before .before .before .before .before .before .before .before .before .pre .1 .1 .1 .0 .1) (omega arith) .1, (c .loop .inv .1, omega (arith, c .loop .inv .0, c .before .before .before .before .before .before .before .before .before .pre .0 .ready .limits .constructors)))
 
 same-length : tie.Need-same-length Inv-loop μ-loop
 same-length c = c .before .before .loop .inv .2 .long

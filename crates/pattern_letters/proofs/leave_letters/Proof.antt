@@ -6,8 +6,9 @@ use Rattle.model.specs.Rows.{program}
 use Rattle.model.specs.Closed.{subpattern}
 use Rattle.model.specs.Tables.{tables}
 use Rattle.pattern_letters.specs.Picked.{leaves-first, Left}
-use Rattle.pattern_letters.proofs.Fitting.{row-small, first-row, argument-at, argument-name, arity-short, value-low}
-use Rattle.pattern_letters.proofs.Lessening.{wide-row, left-first, left-next, left-over, left-whole}
+use Rattle.pattern_letters.proofs.Arguments.{row-small, first-row, argument-at, argument-name, arity-short, value-low}
+use Rattle.sent_letters.proofs.Found.{wide-row}
+use Rattle.pattern_letters.proofs.Lessening.{left-first, left-next, left-over, left-whole}
 use borrow.Author.Needs.{needs}
 use Rattle.pattern_letters.proofs.leave_letters.Statement.{statement}
 use Rattle.pattern_letters.proofs.leave_letters.Tie as tie

@@ -12,7 +12,8 @@ use Rattle.lists.proofs.Facts.{mail-rises}
 use Rattle.system_letters.specs.Letters.{Found}
 use Rattle.system_letters.proofs.Tables.{head-low}
 use Rattle.rules.proofs.Entries.{mail-order, mail-low, mail-class}
-use Rattle.pattern_letters.proofs.Lessening.{row-kept, wide-row, found-start, found-passed, found-hollow, found-read, found-end, entry-room, entry-number}
+use Rattle.sent_letters.proofs.Found.{row-kept, wide-row, found-start, found-end, entry-room, entry-number}
+use Rattle.pattern_letters.proofs.Lessening.{found-passed, found-hollow, found-read}
 use borrow.Author.Needs.{needs}
 use Rattle.pattern_letters.proofs.read_letters.Statement.{statement}
 use Rattle.pattern_letters.proofs.read_letters.Tie as tie

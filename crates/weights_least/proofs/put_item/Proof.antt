@@ -1,7 +1,7 @@
 use native.Mathlib.Omega.{arith}
 use mathlib.Core.Path.{refl}
 use lib.ListN.{getD}
-use Rattle.ceilings_met.proofs.Meeting.{row-room}
+use Rattle.bads_rows.proofs.Walking.{row-room}
 use Rattle.weights_least.proofs.Items.{range-low, range-some, weights-room, item-filled, item-grown}
 use borrow.Author.Needs.{needs}
 use Rattle.weights_least.proofs.put_item.Statement.{statement}

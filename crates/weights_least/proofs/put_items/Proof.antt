@@ -7,8 +7,8 @@ use Rattle.model.specs.Rows.{program}
 use Rattle.model.specs.Tables.{tables}
 use Rattle.model.specs.Bads.{bad-rows}
 use Rattle.model.specs.Weights.{fill-those}
-use Rattle.ceilings_met.specs.Items.{items-at}
-use Rattle.ceilings_met.proofs.BadRows.{bad-inside}
+use Rattle.bads_rows.specs.Items.{items-at}
+use Rattle.bads_rows.proofs.BadRows.{bad-inside}
 use Rattle.weights_least.specs.Least.{counters-of, line-of, counts-in, in-pass, All-counted, most-put, Grown}
 use Rattle.weights_least.proofs.Items.{those-over, those-in, those-out, item-counted, rest-counted}
 use borrow.Author.Needs.{needs}

@@ -6,9 +6,9 @@ use Rattle.model.specs.Rows.{program}
 use Rattle.model.specs.Tables.{tables}
 use Rattle.model.specs.Bads.{bad-rows}
 use Rattle.model.specs.Weights.{without-counter}
-use Rattle.ceilings_met.specs.Items.{items-at}
-use Rattle.ceilings_met.proofs.BadRows.{bad-inside}
-use Rattle.ceilings_met.proofs.Meeting.{row-room}
+use Rattle.bads_rows.specs.Items.{items-at}
+use Rattle.bads_rows.proofs.BadRows.{bad-inside}
+use Rattle.bads_rows.proofs.Walking.{row-room}
 use Rattle.weights_least.proofs.Items.{without-over}
 use Rattle.weights_light.proofs.Settled.{without-here, without-next}
 use borrow.Author.Needs.{needs}

@@ -6,7 +6,7 @@ use lib.ListN.{length}
 use Rattle.model.specs.Index.{first}
 use Rattle.model.specs.Message.{bads-at}
 use Rattle.model.proofs.Index.{first-hit, first-miss, first-end}
-use Rattle.ceilings_met.proofs.Meeting.{Bads-walked, bads-start, bads-stand, bads-next, bads-inside}
+use Rattle.bads_rows.proofs.Walking.{Bads-walked, bads-start, bads-stand, bads-next, bads-inside}
 use Rattle.weights_light.proofs.Settled.{unsettled, unsettled-at, light-refused, light-passed}
 use borrow.Author.Needs.{needs}
 use Rattle.weights_light.proofs.light_check.Statement.{statement}

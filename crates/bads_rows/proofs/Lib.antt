@@ -1,0 +1,2 @@
+pub mod BadRows
+pub mod Walking

@@ -1,0 +1,147 @@
+use Prim.Native.Nat.{ℕ, _+_, _-_, _≤_, _<_}
+use native.Mathlib.Omega.{arith}
+use mathlib.Core.Path.{_≡_, refl}
+use mathlib.Core.Bool.{true}
+use borrow.Author.Needs.{needs}
+use Rattle.bits.specs.Bits.{member}
+use Rattle.model.specs.Rows.{program, num}
+use Rattle.model.specs.Tables.{tables}
+use Rattle.ascending.specs.Numbers.{Added}
+use Rattle.ascending.proofs.Numbers.{added-room}
+use Rattle.value_letters.proofs.Values.{argument-row, mask-named, next-range, next-here, next-none}
+use Rattle.value_letters.proofs.Extending.{Turned, within-arity, longer-fits, longer-low, longer-none}
+use Rattle.value_letters.proofs.Extending.{extended-stop, extended-put, extended-on, turned-begin, turned-hit, turned-gap, turned-all}
+use borrow.Fn.Kinds.{In}
+use borrow.Fn.PlainCycle.{Measures, is, falls, and}
+use Rattle.value_letters.proofs.extend.Reads as extend
+use Rattle.value_letters.proofs.extend.Kinds as extend-kinds
+use Rattle.value_letters.proofs.+extend.Lts-extend as extend-lts
+use Rattle.value_letters.proofs.head_mask.Reads as head-mask-reads
+use Rattle.ascending.proofs.insert.Reads as insert-reads
+use Rattle.masks.proofs.next_in.Reads as next-in-reads
+use Rattle.program.proofs.rows.num.Reads as num-reads
+use Rattle.value_letters.proofs.+extend.{statement}
+use Rattle.value_letters.proofs.+extend.Tie.{close}
+
+abbrev μ-extend : Measures 3 extend-kinds.ps ℕ
+μ-extend κs a = 9 - a .1 .1 .1 .1 .1 .0
+
+abbrev extend-at : ℕ → In 3 extend-kinds.ps
+extend-at t = and 3 extend-kinds.ps (is 3 extend-kinds.ps μ-extend t) extend.Pre
+
+abbrev extend-below : ℕ → In 3 extend-kinds.ps
+extend-below t = and 3 extend-kinds.ps (falls 3 extend-kinds.ps _<_ μ-extend t) extend.Pre
+
+abbrev extend-claims : ℕ → extend-lts.Claims
+extend-claims t = (insert-reads.Asked, insert-reads.Learnt, extend-below t, extend.Post, num-reads.Asked, num-reads.Learnt, head-mask-reads.Asked, head-mask-reads.Learnt, next-in-reads.Asked, next-in-reads.Learnt)
+
+abbrev extend-Inv-loop : extend-lts.InvT-loop
+extend-Inv-loop ws s names v arity i prefix most from n codes₀ next longer x heads m₀ h₀ codes m h =
+    Added (Turned (program ws s) (tables ws s) v arity i prefix h) most from n codes₀ m codes × (h ≤ 256) × (h < heads → member names 2 (num (program ws s) (v + 2 + i)) h ≡ true)
+
+abbrev extend-μ-loop : extend-lts.MeasureT-loop
+extend-μ-loop ws s names v arity i prefix most from n codes₀ next longer x heads m₀ h₀ codes m h =
+    heads - h
+
+extend-returns : (t : ℕ) → extend-lts.Need-returns (extend-claims t) (extend-at t) extend.Post extend-Inv-loop extend-μ-loop
+extend-returns t c = extended-stop (c .before .before .before .before .pre .1 .0) (c .before .before .before .before .pre .1 .1 .0) (c .before .before .before .before .pre .1 .1 .1 .0) _ _ (c .before .before .before .before .pre .1 .1 .1 .1 .1) (c .if1 .taken)
+
+extend-insert-requires : (t : ℕ) → extend-lts.Need-insert-requires (extend-claims t) (extend-at t) extend.Post extend-Inv-loop extend-μ-loop
+extend-insert-requires t c κs = ((c .before .before .before .before .before .before .pre .1 .1 .1 .1 .1 .begun, omega (arith, c .before .before .if1 .left, c .before .before .before .before .before .before .pre .1 .1 .1 .1 .1 .limit), omega (arith, c .before .before .if1 .left, c .before .before .before .before .before .before .pre .1 .1 .1 .1 .1 .long)), c .before .before .before .before .before .before .pre .1 .1 .1 .1 .1 .rising)
+
+extend-same-length : (t : ℕ) → extend-lts.Need-same-length (extend-claims t) (extend-at t) extend.Post extend-Inv-loop extend-μ-loop
+extend-same-length t c = search needs
+
+extend-returns-2 : (t : ℕ) → extend-lts.Need-returns-2 (extend-claims t) (extend-at t) extend.Post extend-Inv-loop extend-μ-loop
+extend-returns-2 t c = extended-put (c .before .before .before .before .before .before .before .before .before .pre .1 .0) (c .before .before .before .before .before .before .before .before .before .pre .1 .1 .0) (c .before .before .before .before .before .before .before .before .before .pre .1 .1 .1 .0) _ _ (c .before .before .before .before .if2 .taken) (c .before .before .insert .ensures .0) (c .before .before .insert .ensures .1) (c .before .before .before .before .before .if1 .left)
+
+extend-add-next : (t : ℕ) → extend-lts.Need-add-next (extend-claims t) (extend-at t) extend.Post extend-Inv-loop extend-μ-loop
+extend-add-next t c = search needs
+
+extend-mul-longer : (t : ℕ) → extend-lts.Need-mul-longer (extend-claims t) (extend-at t) extend.Post extend-Inv-loop extend-μ-loop
+extend-mul-longer t c = record { fits = omega (arith, longer-fits _ _ (within-arity (c .before .before .before .before .before .pre .1 .1 .1 .1 .0 .1) (c .if2 .left)) (c .before .before .before .before .before .pre .1 .1 .1 .1 .0 .2)) }
+
+extend-extend-requires : (t : ℕ) → extend-lts.Need-extend-requires (extend-claims t) (extend-at t) extend.Post extend-Inv-loop extend-μ-loop
+extend-extend-requires t c κs = (omega (arith, c .before .before .before .before .before .before .before .pre .0, (within-arity (c .before .before .before .before .before .before .before .pre .1 .1 .1 .1 .0 .1) (c .before .before .if2 .left))), ((c .before .before .before .before .before .before .before .pre .1 .0), ((c .before .before .before .before .before .before .before .pre .1 .1 .0), ((c .before .before .before .before .before .before .before .pre .1 .1 .1 .0), ((c .before .before .before .before .before .before .before .pre .1 .1 .1 .1 .0 .0, omega (arith, (within-arity (c .before .before .before .before .before .before .before .pre .1 .1 .1 .1 .0 .1) (c .before .before .if2 .left))), omega (arith, longer-none _ _ (c .before .before .before .before .before .before .before .pre .1 .1 .1 .1 .0 .2))), (c .before .before .before .before .before .before .before .pre .1 .1 .1 .1 .1))))))
+
+extend-same-length-2 : (t : ℕ) → extend-lts.Need-same-length-2 (extend-claims t) (extend-at t) extend.Post extend-Inv-loop extend-μ-loop
+extend-same-length-2 t c = search needs
+
+extend-returns-3 : (t : ℕ) → extend-lts.Need-returns-3 (extend-claims t) (extend-at t) extend.Post extend-Inv-loop extend-μ-loop
+extend-returns-3 t c = extended-on (c .before .before .before .before .before .before .before .before .before .before .pre .1 .0) (c .before .before .before .before .before .before .before .before .before .before .pre .1 .1 .0) (c .before .before .before .before .before .before .before .before .before .before .pre .1 .1 .1 .0) _ _ (c .before .before .before .before .if3 .taken) (within-arity (c .before .before .before .before .before .before .before .before .before .before .pre .1 .1 .1 .1 .0 .1) (c .before .before .before .before .before .if2 .left)) (c .before .before .extend .ensures)
+
+extend-add-num : (t : ℕ) → extend-lts.Need-add-num (extend-claims t) (extend-at t) extend.Post extend-Inv-loop extend-μ-loop
+extend-add-num t c = search needs
+
+extend-add-num-2 : (t : ℕ) → extend-lts.Need-add-num-2 (extend-claims t) (extend-at t) extend.Post extend-Inv-loop extend-μ-loop
+extend-add-num-2 t c = record { fits = omega (arith, c .before .before .before .before .before .before .pre .1 .1 .1 .1 .0 .0, c .before .before .before .before .before .before .pre .1 .1 .1 .1 .0 .1) }
+
+extend-num-requires : (t : ℕ) → extend-lts.Need-num-requires (extend-claims t) (extend-at t) extend.Post extend-Inv-loop extend-μ-loop
+extend-num-requires t c κs = search needs
+
+extend-head-mask-requires : (t : ℕ) → extend-lts.Need-head-mask-requires (extend-claims t) (extend-at t) extend.Post extend-Inv-loop extend-μ-loop
+extend-head-mask-requires t c κs = argument-row (c .before .before .before .before .before .before .before .pre .1 .0) (c .before .before .before .before .before .before .before .pre .1 .1 .0) (c .before .before .before .before .before .before .before .pre .1 .1 .1 .0) _ _ (c .num .ensures) (c .before .if3 .left)
+
+extend-add-heads : (t : ℕ) → extend-lts.Need-add-heads (extend-claims t) (extend-at t) extend.Post extend-Inv-loop extend-μ-loop
+extend-add-heads t c = search needs
+
+extend-next-in-requires : (t : ℕ) → extend-lts.Need-next-in-requires (extend-claims t) (extend-at t) extend.Post extend-Inv-loop extend-μ-loop
+extend-next-in-requires t c κs = omega arith
+
+extend-loop-holds : (t : ℕ) → extend-lts.Need-loop-holds (extend-claims t) (extend-at t) extend.Post extend-Inv-loop extend-μ-loop
+extend-loop-holds t c = (turned-gap (c .before .before .before .before .before .before .before .before .before .before .pre .1 .0) (c .before .before .before .before .before .before .before .before .before .before .pre .1 .1 .0) (c .before .before .before .before .before .before .before .before .before .before .pre .1 .1 .1 .0) _ _ _ refl (c .before .before .before .before .if3 .left) (omega arith) (next-none _ _ _ (mask-named _ _ _ _ (c .before .before .head-mask .ensures) (c .before .before .before .num .ensures)) _ _ (c .next-in .ensures) (omega arith)) (turned-begin (c .before .before .before .before .before .before .before .before .before .before .pre .1 .0) (c .before .before .before .before .before .before .before .before .before .before .pre .1 .1 .0) (c .before .before .before .before .before .before .before .before .before .before .pre .1 .1 .1 .0) _ _ (c .before .before .before .before .before .before .before .before .before .before .pre .1 .1 .1 .1 .1)), next-range _ _ _ (mask-named _ _ _ _ (c .before .before .head-mask .ensures) (c .before .before .before .num .ensures)) _ _ (c .next-in .ensures) (omega arith) .1, λ l. next-here _ _ _ (mask-named _ _ _ _ (c .before .before .head-mask .ensures) (c .before .before .before .num .ensures)) _ _ (c .next-in .ensures) (omega arith) (omega (arith, c .before .before .before .before .before .before .before .before .before .before .pre .1 .0 .limits .constructors)))
+
+extend-add-extend : (t : ℕ) → extend-lts.Need-add-extend (extend-claims t) (extend-at t) extend.Post extend-Inv-loop extend-μ-loop
+extend-add-extend t c = record { fits = omega (arith, c .before .before .before .before .before .before .before .before .before .before .before .before .pre .1 .0 .limits .constructors, longer-fits _ _ (within-arity (c .before .before .before .before .before .before .before .before .before .before .before .before .pre .1 .1 .1 .1 .0 .1) (c .before .before .before .before .before .before .before .if2 .left)) (c .before .before .before .before .before .before .before .before .before .before .before .before .pre .1 .1 .1 .1 .0 .2)) }
+
+extend-extend-requires-2 : (t : ℕ) → extend-lts.Need-extend-requires-2 (extend-claims t) (extend-at t) extend.Post extend-Inv-loop extend-μ-loop
+extend-extend-requires-2 t c κs = (omega (arith, c .before .before .before .before .before .before .before .before .before .before .before .before .before .pre .0, (within-arity (c .before .before .before .before .before .before .before .before .before .before .before .before .before .pre .1 .1 .1 .1 .0 .1) (c .before .before .before .before .before .before .before .before .if2 .left))), ((c .before .before .before .before .before .before .before .before .before .before .before .before .before .pre .1 .0), ((c .before .before .before .before .before .before .before .before .before .before .before .before .before .pre .1 .1 .0), ((c .before .before .before .before .before .before .before .before .before .before .before .before .before .pre .1 .1 .1 .0), ((c .before .before .before .before .before .before .before .before .before .before .before .before .before .pre .1 .1 .1 .1 .0 .0, omega (arith, (within-arity (c .before .before .before .before .before .before .before .before .before .before .before .before .before .pre .1 .1 .1 .1 .0 .1) (c .before .before .before .before .before .before .before .before .if2 .left))), omega (arith, longer-low _ _ 127 (omega arith) (c .before .before .before .before .before .before .before .before .before .before .before .before .before .pre .1 .1 .1 .1 .0 .2), c .before .before .before .before .before .before .before .before .before .before .before .before .before .pre .1 .0 .limits .constructors)), added-room (c .before .before .before .before .before .before .before .before .before .before .before .before .before .pre .1 .1 .1 .1 .1) (c .before .before .loop .inv .0))))))
+
+extend-add-next-in : (t : ℕ) → extend-lts.Need-add-next-in (extend-claims t) (extend-at t) extend.Post extend-Inv-loop extend-μ-loop
+extend-add-next-in t c = record { fits = omega (arith, c .before .before .before .before .before .before .before .before .before .before .before .before .before .before .before .before .pre .1 .0 .limits .constructors) }
+
+extend-next-in-requires-2 : (t : ℕ) → extend-lts.Need-next-in-requires-2 (extend-claims t) (extend-at t) extend.Post extend-Inv-loop extend-μ-loop
+extend-next-in-requires-2 t c κs = omega (arith, c .before .before .before .before .before .before .before .before .before .before .before .before .before .before .before .before .pre .1 .0 .limits .constructors)
+
+extend-loop-less : (t : ℕ) → extend-lts.Need-loop-less (extend-claims t) (extend-at t) extend.Post extend-Inv-loop extend-μ-loop
+extend-loop-less t c = omega (arith, next-range _ _ _ (mask-named _ _ _ _ (c .before .before .before .before .before .before .before .before .before .head-mask .ensures) (c .before .before .before .before .before .before .before .before .before .before .num .ensures)) _ _ (c .next-in2 .ensures) (omega (arith, c .before .before .before .before .before .before .before .before .before .before .before .before .before .before .before .before .before .pre .1 .0 .limits .constructors)) .0)
+
+extend-loop-again : (t : ℕ) → extend-lts.Need-loop-again (extend-claims t) (extend-at t) extend.Post extend-Inv-loop extend-μ-loop
+extend-loop-again t c = (turned-gap (c .before .before .before .before .before .before .before .before .before .before .before .before .before .before .before .before .before .pre .1 .0) (c .before .before .before .before .before .before .before .before .before .before .before .before .before .before .before .before .before .pre .1 .1 .0) (c .before .before .before .before .before .before .before .before .before .before .before .before .before .before .before .before .before .pre .1 .1 .1 .0) _ _ _ refl (c .before .before .before .before .before .before .before .before .before .before .before .if3 .left) (next-range _ _ _ (mask-named _ _ _ _ (c .before .before .before .before .before .before .before .before .before .head-mask .ensures) (c .before .before .before .before .before .before .before .before .before .before .num .ensures)) _ _ (c .next-in2 .ensures) (omega (arith, c .before .before .before .before .before .before .before .before .before .before .before .before .before .before .before .before .before .pre .1 .0 .limits .constructors)) .0) (next-none _ _ _ (mask-named _ _ _ _ (c .before .before .before .before .before .before .before .before .before .head-mask .ensures) (c .before .before .before .before .before .before .before .before .before .before .num .ensures)) _ _ (c .next-in2 .ensures) (omega (arith, c .before .before .before .before .before .before .before .before .before .before .before .before .before .before .before .before .before .pre .1 .0 .limits .constructors))) (turned-hit (c .before .before .before .before .before .before .before .before .before .before .before .before .before .before .before .before .before .pre .1 .0) (c .before .before .before .before .before .before .before .before .before .before .before .before .before .before .before .before .before .pre .1 .1 .0) (c .before .before .before .before .before .before .before .before .before .before .before .before .before .before .before .before .before .pre .1 .1 .1 .0) _ _ _ refl (c .before .before .before .before .before .before .before .before .before .before .before .if3 .left) (omega arith) (c .before .before .before .before .before .before .loop .inv .2 (c .before .before .before .before .before .loop-test .taken)) (c .before .before .before .before .before .before .loop .inv .0) (c .before .before .before .extend2 .ensures)), next-range _ _ _ (mask-named _ _ _ _ (c .before .before .before .before .before .before .before .before .before .head-mask .ensures) (c .before .before .before .before .before .before .before .before .before .before .num .ensures)) _ _ (c .next-in2 .ensures) (omega (arith, c .before .before .before .before .before .before .before .before .before .before .before .before .before .before .before .before .before .pre .1 .0 .limits .constructors)) .1, λ l. next-here _ _ _ (mask-named _ _ _ _ (c .before .before .before .before .before .before .before .before .before .head-mask .ensures) (c .before .before .before .before .before .before .before .before .before .before .num .ensures)) _ _ (c .next-in2 .ensures) (omega (arith, c .before .before .before .before .before .before .before .before .before .before .before .before .before .before .before .before .before .pre .1 .0 .limits .constructors)) (omega (arith, c .before .before .before .before .before .before .before .before .before .before .before .before .before .before .before .before .before .pre .1 .0 .limits .constructors)))
+
+extend-same-length-3 : (t : ℕ) → extend-lts.Need-same-length-3 (extend-claims t) (extend-at t) extend.Post extend-Inv-loop extend-μ-loop
+extend-same-length-3 t c = search needs
+
+extend-returns-4 : (t : ℕ) → extend-lts.Need-returns-4 (extend-claims t) (extend-at t) extend.Post extend-Inv-loop extend-μ-loop
+extend-returns-4 t c = turned-all (c .before .before .before .before .before .before .before .before .before .before .before .before .pre .1 .0) (c .before .before .before .before .before .before .before .before .before .before .before .before .pre .1 .1 .0) (c .before .before .before .before .before .before .before .before .before .before .before .before .pre .1 .1 .1 .0) _ _ (c .before .before .before .before .before .before .if3 .left) (c .loop-test .left) (c .before .loop .inv .0)
+
+pub +extend-spec : {M : Type 1} → statement M
++extend-spec = close μ-extend λ t. extend-lts.spec (extend-claims t)
+    (extend-at t)
+    extend.Post
+    extend-Inv-loop
+    extend-μ-loop
+    (extend-returns t)
+    (extend-insert-requires t)
+    (extend-same-length t)
+    (extend-returns-2 t)
+    (extend-add-next t)
+    (extend-mul-longer t)
+    (extend-extend-requires t)
+    (extend-same-length-2 t)
+    (extend-returns-3 t)
+    (extend-add-num t)
+    (extend-add-num-2 t)
+    (extend-num-requires t)
+    (extend-head-mask-requires t)
+    (extend-add-heads t)
+    (extend-next-in-requires t)
+    (extend-loop-holds t)
+    (extend-add-extend t)
+    (extend-extend-requires-2 t)
+    (extend-add-next-in t)
+    (extend-next-in-requires-2 t)
+    (extend-loop-less t)
+    (extend-loop-again t)
+    (extend-same-length-3 t)
+    (extend-returns-4 t)

@@ -1,0 +1,2 @@
+pub mod Extending
+pub mod Values
