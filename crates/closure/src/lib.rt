@@ -33,7 +33,7 @@ ghost use Rattle.matching.specs.Patterns.{Matches, Unfitted, Fitting-sets};
 ghost use Rattle.codes.specs.Codes.{Codes};
 ghost use Rattle.stated.specs.Stated.{Stated};
 ghost use Rattle.closure.specs.Told.{first-open, Told, states-verdict};
-ghost use Rattle.closure.specs.Lent.{Indexed, Cleared, Unsettled};
+ghost use Rattle.closure.specs.Lent.{Indexed, Cleared, Unsettled, Opened};
 
 // The tables that the states are told by: where each name's entries begin, the sets of names and classes, the sets of
 // constructor patterns.
@@ -170,13 +170,7 @@ pub fn open_check(
     requires { ⌜ Unfitted (s .names) (s .rows) (now fitting) ⌝ }
     requires { ⌜ s .states ≤ length (now branches) ⌝ }
     requires { ⌜ Unsettled s (now codes) ⌝ }
-    ensures { λ v. ⌜ v ≡ answer (open-check s (program (now (ws .entry)) s) (tables (now (ws .entry)) s)) ⌝ }
-    ensures { λ v. ⌜ (v ≡ Safe →
-        Starts (tables (now (ws .entry)) s .flow) (s .names) (now (starts .exit))) ⌝ }
-    ensures { λ v. ⌜ (v ≡ Safe →
-        Fitting-sets (program (now (ws .entry)) s) (tables (now (ws .entry)) s) (now (fitting .exit))) ⌝ }
-    ensures { λ v. ⌜ (v ≡ Safe →
-        Branch-bits (program (now (ws .entry)) s) (tables (now (ws .entry)) s) (now (branches .exit))) ⌝ }
+    ensures { λ v. ⌜ Opened (now (ws .entry)) s (now (starts .exit)) (now (fitting .exit)) (now (branches .exit)) v ⌝ }
 {
     if !opening_closed(ws, s, afters) {
         return Verdict::Open(tables_at(s));
