@@ -146,7 +146,8 @@ fn state_verdict(s: Sizes, i: usize) -> Verdict
 }
 
 // Refusal 8. Where it is none, `starts` has where the values of each name begin, `fitting` the names with values that
-// patterns may match, and `branches` for each state the bits of the branches that may match.
+// patterns may match, for held names with such a class, and `branches` for each state the bits of the branches that may
+// match. The guesses of states stand in `nexts`, which nothing reads once the tables are filled.
 pub fn open_check(
     ws: &[u16],
     s: Sizes,
@@ -160,7 +161,6 @@ pub fn open_check(
     may: &mut [u64],
     held: &mut [u64],
     codes: &mut [u32],
-    at: &mut [u16],
     branches: &mut [u16],
 ) -> Verdict
     requires { ⌜ Ready (now ws) s ⌝ }
@@ -186,7 +186,7 @@ pub fn open_check(
         may,
         held,
         codes,
-        at,
+        nexts,
         branches,
     );
     if i < s.states {

@@ -37,7 +37,6 @@ fn small_open(
     let mut may = words64_130();
     let mut held = words64_130();
     let mut codes = words32_66();
-    let mut at = words16_66();
     open_check(
         ws,
         s,
@@ -51,7 +50,6 @@ fn small_open(
         &mut may,
         &mut held,
         &mut codes,
-        &mut at,
         branches,
     )
 }
@@ -76,7 +74,6 @@ fn middle_open(
     let mut may = words64_1285();
     let mut held = words64_1285();
     let mut codes = words32_258();
-    let mut at = words16_258();
     open_check(
         ws,
         s,
@@ -90,7 +87,6 @@ fn middle_open(
         &mut may,
         &mut held,
         &mut codes,
-        &mut at,
         branches,
     )
 }
@@ -114,7 +110,6 @@ fn large_open(
     let mut may = row_sets();
     let mut held = row_sets();
     let mut codes = row_words32();
-    let mut at = row_words16();
     open_check(
         ws,
         s,
@@ -128,14 +123,13 @@ fn large_open(
         &mut may,
         &mut held,
         &mut codes,
-        &mut at,
         branches,
     )
 }
 
 // Refusal 8 over the least tables that fit, which those for `most` rows and names or more may be; after none the
-// tables that later checks read are filled. It calls itself for the next size, so that LLVM keeps each size's tables in
-// a frame of their own (DECISIONS 46).
+// tables that later checks read are filled. It calls itself for the next size, so that LLVM keeps each size's tables
+// in a frame of their own (DECISIONS 46).
 pub fn open_verdict(
     most: usize,
     ws: &[u16],
