@@ -146,8 +146,8 @@ fn state_verdict(s: Sizes, i: usize) -> Verdict
 }
 
 // Refusal 8. Where it is none, `starts` has where the values of each name begin, `fitting` the names with values that
-// patterns may match, for held names with such a class, and `branches` for each state the bits of the branches that may
-// match. The guesses of states stand in `nexts`, which nothing reads once the tables are filled.
+// patterns may match, for held names with such a class, and `branches` for each state the bits of the branches that
+// may match. The guesses of states stand in `nexts`, which nothing reads once the tables are filled.
 pub fn open_check(
     ws: &[u16],
     s: Sizes,
