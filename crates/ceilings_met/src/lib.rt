@@ -2,11 +2,11 @@
 use ceilings::highest;
 use ceilings::limit;
 use ceilings_form::entries::ceilings_at;
-use ceilings_form::entries::column;
 use model::Sizes;
 use model::TAG_ARGUMENT;
 use model::TAG_CLASS;
 use model::Verdict;
+use program::rows::cell;
 ghost use mathlib.Core.Path.{_≡_};
 ghost use Prim.Native.Nat.{_+_, _*_, _≤_, _<_};
 ghost use lib.ListN.{length};
@@ -32,7 +32,7 @@ pub fn bad_tag(ws: &[u16], s: Sizes, r: usize) -> usize
     requires { ⌜ Whole (now ws) s ⌝ }
     ensures { λ t. ⌜ t ≡ left (bad-rows (now (ws .entry)) s) r ⌝ }
 {
-    column(ws, s.badrows, 4 + 2 * s.rows + 2, r) as usize
+    cell(ws, s.badrows, 4 + 2 * s.rows + 2, r) as usize
 }
 
 // The number of a row of the bads, and 0 past the last row.
@@ -40,7 +40,7 @@ pub fn bad_number(ws: &[u16], s: Sizes, r: usize) -> usize
     requires { ⌜ Whole (now ws) s ⌝ }
     ensures { λ t. ⌜ (t ≡ right (bad-rows (now (ws .entry)) s) r) × (t < 65536) ⌝ }
 {
-    column(ws, s.badrows, 4 + 2 * s.rows + 2 + s.badrows, r) as usize
+    cell(ws, s.badrows, 4 + 2 * s.rows + 2 + s.badrows, r) as usize
 }
 
 // The row behind the heads that stand from row r on: of an item whose first row is r - 2, the row of its minimum.
