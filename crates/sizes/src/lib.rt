@@ -169,7 +169,8 @@ pub fn program_outside(s: Sizes) -> usize
 pub fn bads_outside(s: Sizes) -> usize
     ensures { λ r. ⌜ r ≡ first-outside (bads-sizes s) ⌝ }
 {
-    outside(s.bads, 1, MAX_BADS, outside(s.badrows, MIN_BAD_ROWS, MAX_BAD_ROWS, 0))
+    let badrows = outside(s.badrows, MIN_BAD_ROWS, MAX_BAD_ROWS, 0);
+    outside(s.bads, 1, MAX_BADS, badrows)
 }
 
 // The same for the tables part, of three sizes.
@@ -185,12 +186,14 @@ pub fn tables_outside(s: Sizes) -> usize
 pub fn ceilings_outside(s: Sizes) -> usize
     ensures { λ r. ⌜ r ≡ first-outside (ceilings-sizes s) ⌝ }
 {
-    outside(s.ceilings, 0, MAX_CEILINGS, outside(s.entries, 0, MAX_CEILING_ENTRIES, 0))
+    let entries = outside(s.entries, 0, MAX_CEILING_ENTRIES, 0);
+    outside(s.ceilings, 0, MAX_CEILINGS, entries)
 }
 
 // The same for the weights part, of two sizes.
 pub fn weights_outside(s: Sizes) -> usize
     ensures { λ r. ⌜ r ≡ first-outside (weights-sizes s) ⌝ }
 {
-    outside(s.lines, 1, MAX_LINES, outside(s.weights, 0, MAX_WEIGHT_ENTRIES, 0))
+    let weights = outside(s.weights, 0, MAX_WEIGHT_ENTRIES, 0);
+    outside(s.lines, 1, MAX_LINES, weights)
 }
