@@ -5,62 +5,25 @@ use native.Mathlib.Omega.{arith}
 use mathlib.Core.Path.{_≡_, refl, sym, _∙_, ap}
 use mathlib.Core.List.{List}
 use mathlib.Core.Logic.{_⊎_, inl, inr, ⊎-elim}
+use lib.Dec.{ltb}
 use lib.ListN.{length, getD, set, length-set}
 use lib.Seq.{getD-set-same, getD-set-other}
+use borrow.Author.Tests.{ltb-true, ltb-false, lt-ltb}
+use Rattle.lists.proofs.Halving.{Between, Falling}
 use Rattle.ascending.specs.Numbers.{Rising, Has, Placed, Shifted, Room, Added}
 
--- the search: the words before `low` are below x, those from `high` on are not
-pub record Between (from n : ℕ) (words : List ℕ) (x low high : ℕ) : Type 0 where
-  pub behind : from ≤ low
-  pub order : low ≤ high
-  pub upto : high ≤ n
-  pub less : (i : ℕ) → from ≤ i → i < low → getD words i 0 < x
-  pub more : (i : ℕ) → high ≤ i → i < n → x ≤ getD words i 0
+-- the search, by whether a word is below x
+module _ {from n : ℕ} {words : List ℕ} where
+  pub words-fall : (x : ℕ) → Rising from n words → Falling from n (λ i. ltb (getD words i 0) x)
+  words-fall x r i j a l h u = lt-ltb (getD words i 0) x (omega (arith, r .order i j a l h, ltb-true (getD words j 0) x u))
 
-module _ {from n : ℕ} {words : List ℕ} {x : ℕ} where
-  pub between-all : from ≤ n → Between from n words x from n
-  between-all l =
+  pub between-placed : {low high : ℕ} (x : ℕ) → Between from n (λ i. ltb (getD words i 0) x) low high → high ≤ low → Placed from n words x low
+  between-placed {low} {high} x b l =
       record {
-        behind = omega arith;
-        order = l;
-        upto = omega arith;
-        less = λ i a b. absurd (omega arith);
-        more = λ i a b. absurd (omega arith);
-      }
-
-  pub between-up : {low high : ℕ} (mid w : ℕ) → Rising from n words → Between from n words x low high → low ≤ mid → mid < high → w ≡ getD words mid 0 → w < x → Between from n words x (mid + 1) high
-  between-up {low} {high} mid w r b l u e f =
-      record {
-        behind = omega (arith, b .behind);
-        order = omega arith;
-        upto = b .upto;
-        less = λ i a c. elim (ℕ-discrete i mid) [
-          | yes z ↦ let y = ap (λ k. getD words k 0) z in omega arith
-          | no z ↦ omega (arith, r .order i mid a (omega arith) (omega (arith, b .upto)))
-        ];
-        more = b .more;
-      }
-
-  pub between-down : {low high : ℕ} (mid w : ℕ) → Rising from n words → Between from n words x low high → low ≤ mid → mid < high → w ≡ getD words mid 0 → x ≤ w → Between from n words x low mid
-  between-down {low} {high} mid w r b l u e f =
-      record {
-        behind = b .behind;
-        order = l;
-        upto = omega (arith, b .upto);
-        less = b .less;
-        more = λ i a c. elim (ℕ-discrete i mid) [
-          | yes z ↦ let y = ap (λ k. getD words k 0) z in omega arith
-          | no z ↦ omega (arith, r .order mid i (omega (arith, b .behind)) (omega arith) c)
-        ];
-      }
-
-  pub between-placed : {low high : ℕ} → Between from n words x low high → high ≤ low → Placed from n words x low
-  between-placed {low} {high} b l =
-      record {
-        behind = b .behind;
+        behind = b .since;
         upto = omega (arith, b .order, b .upto);
-        less = b .less;
-        more = λ i a c. b .more i (omega arith) c;
+        less = λ i a c. ltb-true (getD words i 0) x (b .before i a c);
+        more = λ i a c. ltb-false (getD words i 0) x (b .behind i (omega arith) c);
       }
 
 -- the words move up one by one

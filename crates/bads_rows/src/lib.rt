@@ -1,8 +1,8 @@
 // The rows of the bads: what stands in a row, where an item and a bad end.
-use ceilings_form::entries::column;
 use model::Sizes;
 use model::TAG_ARGUMENT;
 use model::TAG_CLASS;
+use program::rows::cell;
 ghost use mathlib.Core.Path.{_≡_};
 ghost use Prim.Native.Nat.{_+_, _≤_, _<_};
 ghost use Rattle.model.specs.Words.{left, right};
@@ -16,7 +16,7 @@ pub fn bad_tag(ws: &[u16], s: Sizes, r: usize) -> usize
     requires { ⌜ Whole (now ws) s ⌝ }
     ensures { λ t. ⌜ t ≡ left (bad-rows (now (ws .entry)) s) r ⌝ }
 {
-    column(ws, s.badrows, 4 + 2 * s.rows + 2, r) as usize
+    cell(ws, s.badrows, 4 + 2 * s.rows + 2, r) as usize
 }
 
 // The number of a row of the bads, and 0 past the last row.
@@ -24,7 +24,7 @@ pub fn bad_number(ws: &[u16], s: Sizes, r: usize) -> usize
     requires { ⌜ Whole (now ws) s ⌝ }
     ensures { λ t. ⌜ (t ≡ right (bad-rows (now (ws .entry)) s) r) × (t < 65536) ⌝ }
 {
-    column(ws, s.badrows, 4 + 2 * s.rows + 2 + s.badrows, r) as usize
+    cell(ws, s.badrows, 4 + 2 * s.rows + 2 + s.badrows, r) as usize
 }
 
 // The row behind the heads that stand from row r on: of an item whose first row is r - 2, the row of its minimum.

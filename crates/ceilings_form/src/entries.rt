@@ -3,9 +3,10 @@
 use model::OMEGA;
 use model::Sizes;
 use model::Verdict;
+use program::rows::cell;
+use program::rows::column;
 ghost use mathlib.Core.Path.{_≡_};
-ghost use Prim.Native.Nat.{_+_, _≤_, _<_};
-ghost use lib.ListN.{length, getD, take, drop};
+ghost use Prim.Native.Nat.{_≤_};
 ghost use Rattle.model.specs.Limits.{present, maxCounters};
 ghost use Rattle.model.specs.Words.{left, right};
 ghost use Rattle.model.specs.Message.{ceilings-at};
@@ -29,20 +30,12 @@ pub enum Form {
     Wrong(usize),
 }
 
-// Word i of the n words that stand from `at`, and 0 past them.
-pub fn column(ws: &[u16], n: usize, at: usize, i: usize) -> u16
-    requires { ⌜ at + n ≤ length (now ws) ⌝ }
-    ensures { λ w. ⌜ w ≡ getD (take n (drop at (now (ws .entry)))) i 0 ⌝ }
-{
-    if i < n { ws[at + i] } else { 0 }
-}
-
 // The counter number of entry e of a part, and 0 past the last entry.
 pub fn entry_counter(ws: &[u16], part: Part, e: usize) -> usize
     requires { ⌜ Part-held (now ws) part ⌝ }
     ensures { λ r. ⌜ r ≡ left (part-entries (now (ws .entry)) part) e ⌝ }
 {
-    column(ws, part.size, part.at, e) as usize
+    column(ws, part.size, part.at, e)
 }
 
 // The number of entry e of a part, a limit or a weight, and 0 past the last entry.
@@ -50,7 +43,7 @@ pub fn entry_number(ws: &[u16], part: Part, e: usize) -> u16
     requires { ⌜ Part-held (now ws) part ⌝ }
     ensures { λ r. ⌜ r ≡ right (part-entries (now (ws .entry)) part) e ⌝ }
 {
-    column(ws, part.size, part.at + part.size, e)
+    cell(ws, part.size, part.at + part.size, e)
 }
 
 // An entry of a ceiling or of a line that goes on.

@@ -33,7 +33,7 @@ ghost use Rattle.matching.specs.Patterns.{Matches, Unfitted, Fitting-sets};
 ghost use Rattle.codes.specs.Codes.{Codes};
 ghost use Rattle.stated.specs.Stated.{Stated};
 ghost use Rattle.closure.specs.Told.{first-open, Told, states-verdict};
-ghost use Rattle.closure.specs.Lent.{Indexed, Cleared, Unsettled};
+ghost use Rattle.closure.specs.Lent.{Indexed, Cleared, Unsettled, Opened};
 
 // The tables that the states are told by: where each name's entries begin, the sets of names and classes, the sets of
 // constructor patterns.
@@ -146,7 +146,8 @@ fn state_verdict(s: Sizes, i: usize) -> Verdict
 }
 
 // Refusal 8. Where it is none, `starts` has where the values of each name begin, `fitting` the names with values that
-// patterns may match, and `branches` for each state the bits of the branches that may match.
+// patterns may match, for held names with such a class, and `branches` for each state the bits of the branches that
+// may match. The guesses of states stand in `nexts`, which nothing reads once the tables are filled.
 pub fn open_check(
     ws: &[u16],
     s: Sizes,
@@ -160,7 +161,6 @@ pub fn open_check(
     may: &mut [u64],
     held: &mut [u64],
     codes: &mut [u32],
-    at: &mut [u16],
     branches: &mut [u16],
 ) -> Verdict
     requires { ⌜ Ready (now ws) s ⌝ }
@@ -170,13 +170,7 @@ pub fn open_check(
     requires { ⌜ Unfitted (s .names) (s .rows) (now fitting) ⌝ }
     requires { ⌜ s .states ≤ length (now branches) ⌝ }
     requires { ⌜ Unsettled s (now codes) ⌝ }
-    ensures { λ v. ⌜ v ≡ answer (open-check s (program (now (ws .entry)) s) (tables (now (ws .entry)) s)) ⌝ }
-    ensures { λ v. ⌜ (v ≡ Safe →
-        Starts (tables (now (ws .entry)) s .flow) (s .names) (now (starts .exit))) ⌝ }
-    ensures { λ v. ⌜ (v ≡ Safe →
-        Fitting-sets (program (now (ws .entry)) s) (tables (now (ws .entry)) s) (now (fitting .exit))) ⌝ }
-    ensures { λ v. ⌜ (v ≡ Safe →
-        Branch-bits (program (now (ws .entry)) s) (tables (now (ws .entry)) s) (now (branches .exit))) ⌝ }
+    ensures { λ v. ⌜ Opened (now (ws .entry)) s (now (starts .exit)) (now (fitting .exit)) (now (branches .exit)) v ⌝ }
 {
     if !opening_closed(ws, s, afters) {
         return Verdict::Open(tables_at(s));
@@ -192,7 +186,7 @@ pub fn open_check(
         may,
         held,
         codes,
-        at,
+        nexts,
         branches,
     );
     if i < s.states {

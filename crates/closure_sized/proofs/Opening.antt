@@ -15,7 +15,7 @@ use Rattle.bits.proofs.Bits.{bit-zero}
 use Rattle.rooms.specs.Cleared.{Cleared}
 use Rattle.values.specs.Values.{width, Empty, Room}
 use Rattle.closure.specs.Lent as lent
-use Rattle.closure.specs.Lent.{Indexed, Unsettled}
+use Rattle.closure.specs.Lent.{Indexed, Unsettled, Openable}
 use Rattle.matching.specs.Patterns.{Unfitted}
 
 -- a cleared table holds empty sets
@@ -38,8 +38,8 @@ unfolding width
 width-most r R h = omega arith
 
 -- what refusal 8 asks of cleared tables: room for a message of no more than R rows and N names
-pub lends : (ws : List ℕ) (s : Sizes) (afters starts fitting : List ℕ) (k R N a b d e : ℕ) (flow mail firsts nexts may held codes : List ℕ) → Ready ws s → Ends (program ws s) afters → Unfitted (s .names) (s .rows) fitting → (s .names < length starts) × (s .states ≤ k) → s .rows ≤ R → s .names ≤ N → Cleared a flow → Cleared a mail → Cleared b firsts → Cleared d nexts → Cleared e may → Cleared e held → Cleared d codes → (N + 1) * width R ≤ a → maxConstructors ≤ b → R * width R ≤ e → R ≤ d → Ready ws s × (Ends (program ws s) afters × (Indexed s starts firsts nexts × (lent.Cleared s flow mail may held × (Unfitted (s .names) (s .rows) fitting × ((s .states ≤ k) × Unsettled s codes)))))
-lends ws s afters starts fitting k R N a b d e flow mail firsts nexts may held codes ready ends fits tables r n l m f x y z o am bc er rd =
+pub lends : (ws : List ℕ) (s : Sizes) (afters starts fitting : List ℕ) (room R N a b d e : ℕ) (flow mail firsts nexts may held codes : List ℕ) → Openable ws s afters starts fitting room → s .rows ≤ R → s .names ≤ N → Cleared a flow → Cleared a mail → Cleared b firsts → Cleared d nexts → Cleared e may → Cleared e held → Cleared d codes → (N + 1) * width R ≤ a → maxConstructors ≤ b → R * width R ≤ e → R ≤ d → Ready ws s × (Ends (program ws s) afters × (Indexed s starts firsts nexts × (lent.Cleared s flow mail may held × (Unfitted (s .names) (s .rows) fitting × ((s .states ≤ room) × Unsettled s codes)))))
+lends ws s afters starts fitting room R N a b d e flow mail firsts nexts may held codes (ready, (ends, (fits, tables))) r n l m f x y z o am bc er rd =
     let w = width-most (s .rows) R r in (
       ready,
       (

@@ -13,19 +13,9 @@ use rooms::words32_66;
 use rooms::words32_258;
 use rooms::words64_130;
 use rooms::words64_1285;
-ghost use mathlib.Core.Path.{_≡_};
-ghost use Prim.Native.Nat.{_≤_, _<_};
+ghost use Prim.Native.Nat.{_≤_};
 ghost use lib.ListN.{length};
-ghost use Rattle.model.specs.declared.Verdict.the-variants.{Safe};
-ghost use Rattle.model.specs.Rows.{program};
-ghost use Rattle.model.specs.Tables.{tables};
-ghost use Rattle.model.specs.Closed.{open-check};
-ghost use Rattle.model.specs.Verify.{answer};
-ghost use Rattle.lists.specs.Lists.{Starts};
-ghost use Rattle.lists.specs.Ready.{Ready};
-ghost use Rattle.positions.specs.Positions.{Ends};
-ghost use Rattle.positions.specs.Branches.{Branch-bits};
-ghost use Rattle.matching.specs.Patterns.{Unfitted, Fitting-sets};
+ghost use Rattle.closure.specs.Lent.{Openable, Opened};
 
 // Refusal 8 of a small message.
 fn small_open(
@@ -36,18 +26,9 @@ fn small_open(
     fitting: &mut [u64],
     branches: &mut [u16],
 ) -> Verdict
-    requires { ⌜ Ready (now ws) s ⌝ }
-    requires { ⌜ Ends (program (now ws) s) (now afters) ⌝ }
-    requires { ⌜ Unfitted (s .names) (s .rows) (now fitting) ⌝ }
-    requires { ⌜ (s .names < length (now starts)) × (s .states ≤ length (now branches)) ⌝ }
     requires { ⌜ (s .rows ≤ 64) × (s .names ≤ 64) ⌝ }
-    ensures { λ v. ⌜ v ≡ answer (open-check s (program (now (ws .entry)) s) (tables (now (ws .entry)) s)) ⌝ }
-    ensures { λ v. ⌜ (v ≡ Safe →
-        Starts (tables (now (ws .entry)) s .flow) (s .names) (now (starts .exit))) ⌝ }
-    ensures { λ v. ⌜ (v ≡ Safe →
-        Fitting-sets (program (now (ws .entry)) s) (tables (now (ws .entry)) s) (now (fitting .exit))) ⌝ }
-    ensures { λ v. ⌜ (v ≡ Safe →
-        Branch-bits (program (now (ws .entry)) s) (tables (now (ws .entry)) s) (now (branches .exit))) ⌝ }
+    requires { ⌜ Openable (now ws) s (now afters) (now starts) (now fitting) (length (now branches)) ⌝ }
+    ensures { λ v. ⌜ Opened (now (ws .entry)) s (now (starts .exit)) (now (fitting .exit)) (now (branches .exit)) v ⌝ }
 {
     let mut flow = words64_130();
     let mut mail = words64_130();
@@ -56,7 +37,6 @@ fn small_open(
     let mut may = words64_130();
     let mut held = words64_130();
     let mut codes = words32_66();
-    let mut at = words16_66();
     open_check(
         ws,
         s,
@@ -70,7 +50,6 @@ fn small_open(
         &mut may,
         &mut held,
         &mut codes,
-        &mut at,
         branches,
     )
 }
@@ -84,18 +63,9 @@ fn middle_open(
     fitting: &mut [u64],
     branches: &mut [u16],
 ) -> Verdict
-    requires { ⌜ Ready (now ws) s ⌝ }
-    requires { ⌜ Ends (program (now ws) s) (now afters) ⌝ }
-    requires { ⌜ Unfitted (s .names) (s .rows) (now fitting) ⌝ }
-    requires { ⌜ (s .names < length (now starts)) × (s .states ≤ length (now branches)) ⌝ }
     requires { ⌜ (s .rows ≤ 256) × (s .names ≤ 256) ⌝ }
-    ensures { λ v. ⌜ v ≡ answer (open-check s (program (now (ws .entry)) s) (tables (now (ws .entry)) s)) ⌝ }
-    ensures { λ v. ⌜ (v ≡ Safe →
-        Starts (tables (now (ws .entry)) s .flow) (s .names) (now (starts .exit))) ⌝ }
-    ensures { λ v. ⌜ (v ≡ Safe →
-        Fitting-sets (program (now (ws .entry)) s) (tables (now (ws .entry)) s) (now (fitting .exit))) ⌝ }
-    ensures { λ v. ⌜ (v ≡ Safe →
-        Branch-bits (program (now (ws .entry)) s) (tables (now (ws .entry)) s) (now (branches .exit))) ⌝ }
+    requires { ⌜ Openable (now ws) s (now afters) (now starts) (now fitting) (length (now branches)) ⌝ }
+    ensures { λ v. ⌜ Opened (now (ws .entry)) s (now (starts .exit)) (now (fitting .exit)) (now (branches .exit)) v ⌝ }
 {
     let mut flow = words64_1285();
     let mut mail = words64_1285();
@@ -104,7 +74,6 @@ fn middle_open(
     let mut may = words64_1285();
     let mut held = words64_1285();
     let mut codes = words32_258();
-    let mut at = words16_258();
     open_check(
         ws,
         s,
@@ -118,7 +87,6 @@ fn middle_open(
         &mut may,
         &mut held,
         &mut codes,
-        &mut at,
         branches,
     )
 }
@@ -132,17 +100,8 @@ fn large_open(
     fitting: &mut [u64],
     branches: &mut [u16],
 ) -> Verdict
-    requires { ⌜ Ready (now ws) s ⌝ }
-    requires { ⌜ Ends (program (now ws) s) (now afters) ⌝ }
-    requires { ⌜ Unfitted (s .names) (s .rows) (now fitting) ⌝ }
-    requires { ⌜ (s .names < length (now starts)) × (s .states ≤ length (now branches)) ⌝ }
-    ensures { λ v. ⌜ v ≡ answer (open-check s (program (now (ws .entry)) s) (tables (now (ws .entry)) s)) ⌝ }
-    ensures { λ v. ⌜ (v ≡ Safe →
-        Starts (tables (now (ws .entry)) s .flow) (s .names) (now (starts .exit))) ⌝ }
-    ensures { λ v. ⌜ (v ≡ Safe →
-        Fitting-sets (program (now (ws .entry)) s) (tables (now (ws .entry)) s) (now (fitting .exit))) ⌝ }
-    ensures { λ v. ⌜ (v ≡ Safe →
-        Branch-bits (program (now (ws .entry)) s) (tables (now (ws .entry)) s) (now (branches .exit))) ⌝ }
+    requires { ⌜ Openable (now ws) s (now afters) (now starts) (now fitting) (length (now branches)) ⌝ }
+    ensures { λ v. ⌜ Opened (now (ws .entry)) s (now (starts .exit)) (now (fitting .exit)) (now (branches .exit)) v ⌝ }
 {
     let mut flow = name_sets();
     let mut mail = name_sets();
@@ -151,7 +110,6 @@ fn large_open(
     let mut may = row_sets();
     let mut held = row_sets();
     let mut codes = row_words32();
-    let mut at = row_words16();
     open_check(
         ws,
         s,
@@ -165,14 +123,13 @@ fn large_open(
         &mut may,
         &mut held,
         &mut codes,
-        &mut at,
         branches,
     )
 }
 
 // Refusal 8 over the least tables that fit, which those for `most` rows and names or more may be; after none the
-// tables that later checks read are filled. It calls itself for the next size, so that LLVM keeps each size's tables in
-// a frame of their own (DECISIONS 46).
+// tables that later checks read are filled. It calls itself for the next size, so that LLVM keeps each size's tables
+// in a frame of their own (DECISIONS 46).
 pub fn open_verdict(
     most: usize,
     ws: &[u16],
@@ -183,17 +140,8 @@ pub fn open_verdict(
     branches: &mut [u16],
 ) -> Verdict
     requires { ⌜ 1 ≤ most ⌝ }
-    requires { ⌜ Ready (now ws) s ⌝ }
-    requires { ⌜ Ends (program (now ws) s) (now afters) ⌝ }
-    requires { ⌜ Unfitted (s .names) (s .rows) (now fitting) ⌝ }
-    requires { ⌜ (s .names < length (now starts)) × (s .states ≤ length (now branches)) ⌝ }
-    ensures { λ v. ⌜ v ≡ answer (open-check s (program (now (ws .entry)) s) (tables (now (ws .entry)) s)) ⌝ }
-    ensures { λ v. ⌜ (v ≡ Safe →
-        Starts (tables (now (ws .entry)) s .flow) (s .names) (now (starts .exit))) ⌝ }
-    ensures { λ v. ⌜ (v ≡ Safe →
-        Fitting-sets (program (now (ws .entry)) s) (tables (now (ws .entry)) s) (now (fitting .exit))) ⌝ }
-    ensures { λ v. ⌜ (v ≡ Safe →
-        Branch-bits (program (now (ws .entry)) s) (tables (now (ws .entry)) s) (now (branches .exit))) ⌝ }
+    requires { ⌜ Openable (now ws) s (now afters) (now starts) (now fitting) (length (now branches)) ⌝ }
+    ensures { λ v. ⌜ Opened (now (ws .entry)) s (now (starts .exit)) (now (fitting .exit)) (now (branches .exit)) v ⌝ }
 {
     if most >= 1024 {
         return large_open(ws, s, afters, starts, fitting, branches);

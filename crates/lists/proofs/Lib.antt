@@ -1,3 +1,4 @@
+pub mod Halving
 pub mod Rising
 pub mod Facts
 pub mod Told

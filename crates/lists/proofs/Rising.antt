@@ -12,9 +12,10 @@ use borrow.Author.Tests.{eqb-true, eq-eqb, ne-eqb, le-ltb, not-false, not-true}
 use Rattle.model.specs.Keys.{Key, below}
 use Rattle.model.specs.Words.{Columns, left, right}
 use Rattle.model.specs.Demands.{Below}
-use Rattle.model.proofs.Logic.{true-false, test, and-left, and-right, and-intro, not-passes, not-fails}
+use Rattle.model.proofs.Logic.{true-false, test, and-left, and-right}
 use Rattle.model.proofs.Index.{First, first-is, first-unique}
 use Rattle.model.proofs.Keys.{below-iff, below-trans, below-irrefl}
+use Rattle.lists.proofs.Halving.{Between, Falling, between-first}
 use Rattle.lists.specs.Lists.{key-at, Ascending, place, is-entry, entry-index}
 
 or-false : (x : Bool) → (x || false) ≡ x
@@ -26,54 +27,13 @@ and-false true = refl
 and-false false = refl
 
 module _ (c : Columns) (ts : List ℕ) (k : Key) where
-  -- Halving: everything before `low` is below the key, nothing from `high` on is
-  pub record Between (low high : ℕ) : Type 0 where
-    pub order : low ≤ high
-    pub upto : high ≤ c .size
-    pub before : (i : ℕ) → i < low → below (key-at c ts i) k ≡ true
-    pub behind : (i : ℕ) → high ≤ i → i < c .size → below (key-at c ts i) k ≡ false
+  -- what stands before an entry below the key is below it too
+  pub under-before : Ascending c ts → Falling 0 (c .size) (λ i. below (key-at c ts i) k)
+  under-before rising i j _ l h u = below-iff (key-at c ts i) k .1 (below-trans (key-at c ts i) (key-at c ts j) k (rising i j l h) (below-iff (key-at c ts j) k .0 u))
 
-  pub between-all : Between 0 (c .size)
-  between-all = record { order = omega arith; upto = omega arith; before = λ i l. absurd (omega arith); behind = λ i l h. absurd (omega arith) }
-
-  module _ (rising : Ascending c ts) where
-    -- what stands before an entry below the key is below it too
-    pub under-before : (i j : ℕ) → i < j → j < c .size → below (key-at c ts j) k ≡ true → below (key-at c ts i) k ≡ true
-    under-before i j l h u = below-iff (key-at c ts i) k .1 (below-trans (key-at c ts i) (key-at c ts j) k (rising i j l h) (below-iff (key-at c ts j) k .0 u))
-
-    pub between-up : (low high mid : ℕ) → Between low high → mid < high → below (key-at c ts mid) k ≡ true → Between (mid + 1) high
-    between-up low high mid h l u =
-        let w = h .upto in
-        record {
-          order = omega arith;
-          upto = h .upto;
-          before = λ i z. elim (ℕ-discrete i mid) [ yes e ↦ ap (λ x. below (key-at c ts x) k) e ∙ u | no e ↦ under-before i mid (omega arith) (omega arith) u ];
-          behind = h .behind;
-        }
-
-    pub between-down : (low high mid : ℕ) → Between low high → low ≤ mid → mid < high → below (key-at c ts mid) k ≡ false → Between low mid
-    between-down low high mid h l z u =
-        let w = h .upto in
-        record {
-          order = l;
-          upto = omega arith;
-          before = h .before;
-          behind = λ i x y. test (below (key-at c ts i) k)
-              (λ t. elim (ℕ-discrete i mid) [ yes e ↦ true-false t (ap (λ v. below (key-at c ts v) k) e ∙ u) | no e ↦ true-false (under-before mid i (omega arith) y t) u ])
-              (λ t. t);
-        }
-
-    pub between-place : (low high : ℕ) → Between low high → high ≤ low → low ≡ place c ts k
-    unfolding place
-    between-place low high h e =
-        let x = h .order in
-        let w = h .upto in
-        sym (first-unique 0 (c .size) low (λ i. not (below (key-at c ts i) k)) (omega arith) (record {
-          from = omega arith;
-          upto = omega arith;
-          passes = λ l. not-passes (below (key-at c ts low) k) (h .behind low (omega arith) l);
-          before = λ j x y. not-fails (below (key-at c ts j) k) (h .before j y);
-        }))
+  pub between-place : (low high : ℕ) → Between 0 (c .size) (λ i. below (key-at c ts i) k) low high → high ≤ low → low ≡ place c ts k
+  unfolding place
+  between-place low high h e = between-first 0 (c .size) (λ i. below (key-at c ts i) k) low high h e
 
   -- what the place tells
   pub place-first : First 0 (c .size) (λ i. not (below (key-at c ts i) k)) (place c ts k)
@@ -91,7 +51,7 @@ module _ (c : Columns) (ts : List ℕ) (k : Key) where
       let at : below (key-at c ts (place c ts k)) k ≡ false = not-true (below (key-at c ts (place c ts k)) k) (place-first .passes (omega arith)) in
       elim (ℕ-discrete i (place c ts k)) [
         | yes e ↦ ap (λ x. below (key-at c ts x) k) e ∙ at
-        | no e ↦ test (below (key-at c ts i) k) (λ t. true-false (under-before rising (place c ts k) i (omega arith) l t) at) (λ t. t)
+        | no e ↦ test (below (key-at c ts i) k) (λ t. true-false (under-before rising (place c ts k) i (omega arith) (omega arith) l t) at) (λ t. t)
       ]
 
 -- The test of an entry, from its three numbers

@@ -9,7 +9,7 @@ use Rattle.model.specs.Words.{left, right}
 use Rattle.model.specs.Tables.{tables}
 use Rattle.lists.specs.declared.Span.{Span}
 use Rattle.lists.specs.Lists.{flow-span, mail-span, state-span, listed, thirds, place}
-use Rattle.lists.proofs.Facts.{flow-listed, flow-thirds, mail-listed, mail-thirds, states-listed, states-thirds}
+use Rattle.lists.proofs.Facts.{flow-listed, mail-listed, mail-thirds, states-listed, states-thirds}
 
 -- what was read from a span
 module _ (ws : List ℕ) (s : Sizes) (l : Span) (j v : ℕ) (same : v ≡ right (listed ws l) j) where
@@ -30,9 +30,6 @@ return-told ws s l j v same e = same ∙ rw (e, states-thirds ws s)
 
 -- where a key has its place in a span
 module _ (ws : List ℕ) (s : Sizes) (l : Span) (k : Key) (i : ℕ) (same : i ≡ place (listed ws l) (thirds ws l) k) where
-  pub flow-placed : l ≡ flow-span s → i ≡ place (tables ws s .flow) [] k
-  flow-placed e = same ∙ rw (e, flow-listed ws s, flow-thirds ws s)
-
   pub mail-placed : l ≡ mail-span s → i ≡ place (tables ws s .mail) [] k
   mail-placed e = same ∙ rw (e, mail-listed ws s, mail-thirds ws s)
 

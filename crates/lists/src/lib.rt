@@ -1,5 +1,6 @@
 // The flow, mail and state lists, as the words of the message have them.
 use model::Sizes;
+use program::rows::column;
 ghost use mathlib.Core.Path.{_≡_};
 ghost use mathlib.Core.Bool.{Bool};
 ghost use mathlib.Core.List.{[], _∷_};
@@ -83,11 +84,7 @@ pub fn left(ws: &[u16], l: Span, i: usize) -> usize
     requires { ⌜ Held (now ws) l ⌝ }
     ensures { λ a. ⌜ a ≡ left (listed (now (ws .entry)) l) i ⌝ }
 {
-    if i < l.size {
-        ws[l.lefts + i] as usize
-    } else {
-        0
-    }
+    column(ws, l.size, l.lefts, i)
 }
 
 // The second number of entry i, and 0 past the last entry.
@@ -95,11 +92,7 @@ pub fn right(ws: &[u16], l: Span, i: usize) -> usize
     requires { ⌜ Held (now ws) l ⌝ }
     ensures { λ b. ⌜ b ≡ right (listed (now (ws .entry)) l) i ⌝ }
 {
-    if i < l.size {
-        ws[l.rights + i] as usize
-    } else {
-        0
-    }
+    column(ws, l.size, l.rights, i)
 }
 
 // The third number of entry i, and 0 past the last entry; 0 too where the list has two columns.
@@ -108,12 +101,9 @@ pub fn third(ws: &[u16], l: Span, i: usize) -> usize
     ensures { λ d. ⌜ d ≡ getD (thirds (now (ws .entry)) l) i 0 ⌝ }
 {
     if l.thirds == 0 {
-        return 0;
-    }
-    if i < l.size {
-        ws[l.thirds + i] as usize
-    } else {
         0
+    } else {
+        column(ws, l.size, l.thirds, i)
     }
 }
 
@@ -270,23 +260,6 @@ pub fn state_return(ws: &[u16], s: Sizes, j: usize) -> usize
     ensures { λ b. ⌜ b ≡ getD (tables (now (ws .entry)) s .returns) j 0 ⌝ }
 {
     third(ws, states(s), j)
-}
-
-// The flow entries of a name stand from here ...
-pub fn flow_from(ws: &[u16], s: Sizes, n: usize) -> usize
-    requires { ⌜ Ready (now ws) s ⌝ }
-    ensures { λ i. ⌜ i ≡ range-from (tables (now (ws .entry)) s .flow) n ⌝ }
-{
-    place(ws, flow(s), n, 0, 0)
-}
-
-// ... up to here.
-pub fn flow_to(ws: &[u16], s: Sizes, n: usize) -> usize
-    requires { ⌜ Ready (now ws) s ⌝ }
-    requires { ⌜ n < 512 ⌝ }
-    ensures { λ i. ⌜ i ≡ range-to (tables (now (ws .entry)) s .flow) n ⌝ }
-{
-    place(ws, flow(s), n + 1, 0, 0)
 }
 
 // The mail entries of a class stand from here ...

@@ -1,6 +1,6 @@
 -- The codes of patterns of any depth; for each constructor pattern the set of values that it may match, and of those
--- that find its names' values there; for each held name the set of values that it may match; for both the names with
--- such a value.
+-- that find its names' values there; for each held name the set of values that it may match; for a constructor pattern
+-- the names with such a value, for a held name those with such a class.
 use Prim.Native.Nat.{ℕ, _+_, _*_, _-_, _≤_, _<_}
 use mathlib.Core.Path.{_≡_}
 use mathlib.Core.Bool.{Bool, true, false, _&&_, _||_}

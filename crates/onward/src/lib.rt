@@ -6,11 +6,12 @@ use lists::state_near;
 use lists::state_return;
 use model::Sizes;
 ghost use mathlib.Core.Path.{_≡_};
-ghost use Prim.Native.Nat.{_<_};
+ghost use Prim.Native.Nat.{_+_, _<_};
 ghost use lib.ListN.{length};
 ghost use Rattle.model.specs.Words.{left, right};
 ghost use Rattle.model.specs.Tables.{tables, state, onward, state-at, state-index};
 ghost use Rattle.lists.specs.Ready.{Ready};
+ghost use Rattle.onward.specs.Guesses.{Guessed};
 
 // What the table has for row r, and 0 past its end.
 fn guess(at: &[u16], r: usize) -> usize
@@ -22,6 +23,7 @@ fn guess(at: &[u16], r: usize) -> usize
 // Row r of the table becomes i, where it is another than the row noted last.
 fn note(at: &mut [u16], last: usize, r: usize, i: usize)
     requires { ⌜ i < 65536 ⌝ }
+    ensures { λ _. ⌜ Guessed (i + 1) (now (at .entry)) (now (at .exit)) ⌝ }
 {
     if r == last {
         return;
@@ -31,9 +33,11 @@ fn note(at: &mut [u16], last: usize, r: usize, i: usize)
     }
 }
 
-// Where i is the first state of its class: for each row of the class's states, the first that stands there.
+// Where i is the first state of its class: for each row of the class's states, the first that stands there. Which rows
+// it notes is left free, as nothing rests on a guess; a word that it changes is the number of a state.
 pub fn guess_class(ws: &[u16], s: Sizes, at: &mut [u16], i: usize)
     requires { ⌜ Ready (now ws) s ⌝ }
+    ensures { λ _. ⌜ Guessed (s .states) (now (at .entry)) (now (at .exit)) ⌝ }
 {
     let c = state_class(ws, s, i);
     if i > 0 {

@@ -13,11 +13,19 @@ ghost use Rattle.model.specs.Limits.{maxArity};
 ghost use Rattle.program.specs.Rows.{Whole};
 
 // Word i of the n words that stand from `at`, and 0 past them.
+pub fn cell(ws: &[u16], n: usize, at: usize, i: usize) -> u16
+    requires { ⌜ at + n ≤ length (now ws) ⌝ }
+    ensures { λ w. ⌜ w ≡ getD (take n (drop at (now (ws .entry)))) i 0 ⌝ }
+{
+    if i < n { ws[at + i] } else { 0 }
+}
+
+// The same as a number.
 pub fn column(ws: &[u16], n: usize, at: usize, i: usize) -> usize
     requires { ⌜ at + n ≤ length (now ws) ⌝ }
     ensures { λ w. ⌜ w ≡ getD (take n (drop at (now (ws .entry)))) i 0 ⌝ }
 {
-    if i < n { ws[at + i] as usize } else { 0 }
+    cell(ws, n, at, i) as usize
 }
 
 // The tag of a row, and 0 past the last row.

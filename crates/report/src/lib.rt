@@ -16,6 +16,14 @@ fn wide(word: u32) -> u64
     word as u64
 }
 
+// Word i of the words as a number.
+fn word(ws: &[u32], i: usize) -> u64
+    requires { ⌜ i < length (now ws) ⌝ }
+    ensures { λ r. ⌜ r ≡ getD (now (ws .entry)) i 0 ⌝ }
+{
+    wide(ws[i])
+}
+
 // Word i of the words and the next.
 fn put_two(out: &mut [u8], at: usize, ws: &[u32], i: usize) -> usize
     requires { ⌜ at + 41 ≤ length (now out) ⌝ }
@@ -24,8 +32,8 @@ fn put_two(out: &mut [u8], at: usize, ws: &[u32], i: usize) -> usize
         put-at at (pair (getD (now (ws .entry)) i 0) (getD (now (ws .entry)) (i + 1) 0)) (now (out .entry)) ⌝ }
     ensures { λ r. ⌜ r ≡ at + length (pair (getD (now (ws .entry)) i 0) (getD (now (ws .entry)) (i + 1) 0)) ⌝ }
 {
-    let a = wide(ws[i]);
-    let b = wide(ws[i + 1]);
+    let a = word(ws, i);
+    let b = word(ws, i + 1);
     put_pair(out, at, a, b)
 }
 
@@ -50,8 +58,8 @@ fn put_row(out: &mut [u8], at: usize, ws: &[u32], rows: usize, r: usize) -> usiz
     ensures { λ q. ⌜ now (out .exit) ≡ put-at at (row-text (now (ws .entry)) r) (now (out .entry)) ⌝ }
     ensures { λ q. ⌜ q ≡ at + length (row-text (now (ws .entry)) r) ⌝ }
 {
-    let tag = wide(ws[4 + r]);
-    let number = wide(ws[4 + rows + r]);
+    let tag = word(ws, 4 + r);
+    let number = word(ws, 4 + rows + r);
     put_line(out, at, tag, number)
 }
 
@@ -76,7 +84,7 @@ pub fn put_system(out: &mut [u8], at: usize, ws: &[u32]) -> usize
     ensures { λ r. ⌜ now (out .exit) ≡ put-at at (system-text (now (ws .entry))) (now (out .entry)) ⌝ }
     ensures { λ r. ⌜ r ≡ at + length (system-text (now (ws .entry))) ⌝ }
 {
-    let rows = wide(ws[3]) as usize;
+    let rows = word(ws, 3) as usize;
     let first = put_sizes(out, at, ws);
     put_rows(out, first, ws, rows)
 }

@@ -35,7 +35,8 @@ letter-codes = maxCounters + 1
 abbrev pub letter-words : ℕ
 letter-words = maxCounters / 64 + 1
 
--- a set of letters for each digit and each head, and for each mail entry
+-- a set of letters for each digit and each head, and for each mail entry; a set and a word for each state find room
+-- with them, since states and letters together are no more than the counters
 abbrev pub letter-sets : ℕ
 letter-sets = ((maxArity + 1) * (maxConstructors + 2) + maxMails) * letter-words
 

@@ -176,7 +176,7 @@ pub fn letter_codes() -> [u64; LETTER_CODES]
     [0; LETTER_CODES]
 }
 
-// A set of letters for each digit and what it is, and for each mail entry.
+// A set of letters for each digit and what it is, for each mail entry and for each state, and a word for each state.
 pub fn letter_sets() -> [u64; LETTER_SETS]
     ensures { λ r. ⌜ Cleared letter-sets r ⌝ }
 {

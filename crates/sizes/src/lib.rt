@@ -1,14 +1,16 @@
 // The sizes of the parts of a message: as they are read, where they say that the parts begin, and the first one
 // outside its limits.
 ghost use mathlib.Core.Path.{_≡_};
-ghost use Prim.Native.Nat.{_+_, _^_, _<_};
+ghost use mathlib.Core.List.{List, _∷_};
+ghost use Prim.Native.Nat.{_+_, _^_, _≤_, _<_};
 ghost use lib.ListN.{getD};
 ghost use Rattle.model.specs.Limits.{present};
 ghost use Rattle.model.specs.Words.{words};
-ghost use Rattle.model.specs.Message.{limited, program-sizes, bads-sizes, tables-sizes, ceilings-sizes, weights-sizes};
+ghost use Rattle.model.specs.Message.{Limited, limited};
+ghost use Rattle.model.specs.Message.{program-sizes, bads-sizes, tables-sizes, ceilings-sizes, weights-sizes};
 ghost use Rattle.model.specs.Message.{fifth-size, sizes, table-cells};
 ghost use Rattle.model.specs.Message.{bads-at, tables-at, ceilings-at, weights-at, end-at};
-ghost use Rattle.sizes.specs.Sizes.{Placed, inside, first-outside};
+ghost use Rattle.sizes.specs.Sizes.{Placed, first-outside};
 use model::MAX_BAD_ROWS;
 use model::MAX_BADS;
 use model::MAX_CEILING_ENTRIES;
@@ -138,83 +140,61 @@ pub fn end_at(s: Sizes) -> usize
     }
 }
 
-// A size is within its limits, both allowed.
-fn within(size: usize, least: usize, most: usize) -> bool
-    ensures { λ r. ⌜ r ≡ inside (limited size least most) ⌝ }
+// The number of the first size outside its limits, both allowed, of a size and of those behind it, of which it is
+// number `behind`.
+fn outside(size: usize, least: usize, most: usize, behind: usize) -> usize
+    requires { ⌜ behind < 65536 ⌝ }
+    ensures { λ r. ⌜ ((ls : List Limited) →
+        behind ≡ first-outside ls → r ≡ first-outside (limited size least most ∷ ls)) × (r ≤ behind + 1) ⌝ }
 {
-    least <= size && size <= most
+    if size < least {
+        return 0;
+    }
+    if size > most {
+        return 0;
+    }
+    1 + behind
 }
 
 // The number of the first size of the program part that is outside its limits, and 4 where none is.
 pub fn program_outside(s: Sizes) -> usize
     ensures { λ r. ⌜ r ≡ first-outside (program-sizes present s) ⌝ }
 {
-    if !within(s.rows, 1, MAX_ROWS) {
-        return 0;
-    }
-    if !within(s.names, 1, MAX_NAMES) {
-        return 1;
-    }
-    if !within(s.constructors, 0, MAX_CONSTRUCTORS) {
-        return 2;
-    }
-    if !within(s.functions, 0, MAX_FUNCTIONS) {
-        return 3;
-    }
-    4
+    let functions = outside(s.functions, 0, MAX_FUNCTIONS, 0);
+    let constructors = outside(s.constructors, 0, MAX_CONSTRUCTORS, functions);
+    let names = outside(s.names, 1, MAX_NAMES, constructors);
+    outside(s.rows, 1, MAX_ROWS, names)
 }
 
 // The same for the bads part, of two sizes.
 pub fn bads_outside(s: Sizes) -> usize
     ensures { λ r. ⌜ r ≡ first-outside (bads-sizes s) ⌝ }
 {
-    if !within(s.bads, 1, MAX_BADS) {
-        return 0;
-    }
-    if !within(s.badrows, MIN_BAD_ROWS, MAX_BAD_ROWS) {
-        return 1;
-    }
-    2
+    let badrows = outside(s.badrows, MIN_BAD_ROWS, MAX_BAD_ROWS, 0);
+    outside(s.bads, 1, MAX_BADS, badrows)
 }
 
 // The same for the tables part, of three sizes.
 pub fn tables_outside(s: Sizes) -> usize
     ensures { λ r. ⌜ r ≡ first-outside (tables-sizes present s) ⌝ }
 {
-    if !within(s.flows, 0, MAX_FLOWS) {
-        return 0;
-    }
-    if !within(s.mails, 0, MAX_MAILS) {
-        return 1;
-    }
-    if !within(s.states, 0, MAX_STATES) {
-        return 2;
-    }
-    3
+    let states = outside(s.states, 0, MAX_STATES, 0);
+    let mails = outside(s.mails, 0, MAX_MAILS, states);
+    outside(s.flows, 0, MAX_FLOWS, mails)
 }
 
 // The same for the ceilings part, of two sizes.
 pub fn ceilings_outside(s: Sizes) -> usize
     ensures { λ r. ⌜ r ≡ first-outside (ceilings-sizes s) ⌝ }
 {
-    if !within(s.ceilings, 0, MAX_CEILINGS) {
-        return 0;
-    }
-    if !within(s.entries, 0, MAX_CEILING_ENTRIES) {
-        return 1;
-    }
-    2
+    let entries = outside(s.entries, 0, MAX_CEILING_ENTRIES, 0);
+    outside(s.ceilings, 0, MAX_CEILINGS, entries)
 }
 
 // The same for the weights part, of two sizes.
 pub fn weights_outside(s: Sizes) -> usize
     ensures { λ r. ⌜ r ≡ first-outside (weights-sizes s) ⌝ }
 {
-    if !within(s.lines, 1, MAX_LINES) {
-        return 0;
-    }
-    if !within(s.weights, 0, MAX_WEIGHT_ENTRIES) {
-        return 1;
-    }
-    2
+    let weights = outside(s.weights, 0, MAX_WEIGHT_ENTRIES, 0);
+    outside(s.lines, 1, MAX_LINES, weights)
 }

@@ -6,26 +6,26 @@ use borrow.Author.Needs.{needs}
 use Rattle.bads_rows.proofs.bad_tag.Statement.{statement}
 use Rattle.bads_rows.proofs.bad_tag.Tie as tie
 
-mul-column : tie.Need-mul-column
-mul-column c = search needs
+mul-cell : tie.Need-mul-cell
+mul-cell c = search needs
 
-add-column : tie.Need-add-column
-add-column c = search needs
+add-cell : tie.Need-add-cell
+add-cell c = search needs
 
-add-column-2 : tie.Need-add-column-2
-add-column-2 c = search needs
+add-cell-2 : tie.Need-add-cell-2
+add-cell-2 c = search needs
 
-column-requires : tie.Need-column-requires
+cell-requires : tie.Need-cell-requires
 unfolding weights-at ceilings-at
-column-requires c κs = let past = end-past (c .before .before .args .s) in search needs
+cell-requires c κs = let past = end-past (c .before .before .args .s) in search needs
 
 cast-result : tie.Need-cast-result
 cast-result c = search needs
 
 returns : tie.Need-returns
 unfolding bad-rows left columns bads-at
-returns c = c .column .ensures
+returns c = c .cell .ensures
 
 pub bad-tag-spec : {M : Type 1} → statement M
 bad-tag-spec =
-    tie.close (tie.spec mul-column add-column add-column-2 column-requires cast-result returns)
+    tie.close (tie.spec mul-cell add-cell add-cell-2 cell-requires cast-result returns)

@@ -47,7 +47,7 @@ open-verdict-returns : (t : ℕ) → open-verdict-lts.Need-returns (open-verdict
 open-verdict-returns t c = search needs
 
 open-verdict-small-open-requires : (t : ℕ) → open-verdict-lts.Need-small-open-requires (open-verdict-claims t) (open-verdict-at t) open-verdict.Post
-open-verdict-small-open-requires t c κs = (c .before .before .before .before .before .before .before .before .before .before .before .before .before .before .pre .1 .1 .0, (c .before .before .before .before .before .before .before .before .before .before .before .before .before .before .pre .1 .1 .1 .0, (c .before .before .before .before .before .before .before .before .before .before .before .before .before .before .pre .1 .1 .1 .1 .0, (c .before .before .before .before .before .before .before .before .before .before .before .before .before .before .pre .1 .1 .1 .1 .1, (omega arith, omega arith)))))
+open-verdict-small-open-requires t c κs = ((omega arith, omega arith), c .before .before .before .before .before .before .before .before .before .before .before .before .before .before .pre .1 .1)
 
 open-verdict-same-length-4 : (t : ℕ) → open-verdict-lts.Need-same-length-4 (open-verdict-claims t) (open-verdict-at t) open-verdict.Post
 open-verdict-same-length-4 t c = search needs
@@ -62,7 +62,7 @@ open-verdict-returns-2 : (t : ℕ) → open-verdict-lts.Need-returns-2 (open-ver
 open-verdict-returns-2 t c = search needs
 
 open-verdict-middle-open-requires : (t : ℕ) → open-verdict-lts.Need-middle-open-requires (open-verdict-claims t) (open-verdict-at t) open-verdict.Post
-open-verdict-middle-open-requires t c κs = (c .before .before .before .before .before .before .before .before .before .before .before .before .before .before .before .pre .1 .1 .0, (c .before .before .before .before .before .before .before .before .before .before .before .before .before .before .before .pre .1 .1 .1 .0, (c .before .before .before .before .before .before .before .before .before .before .before .before .before .before .before .pre .1 .1 .1 .1 .0, (c .before .before .before .before .before .before .before .before .before .before .before .before .before .before .before .pre .1 .1 .1 .1 .1, (omega arith, omega arith)))))
+open-verdict-middle-open-requires t c κs = ((omega arith, omega arith), c .before .before .before .before .before .before .before .before .before .before .before .before .before .before .before .pre .1 .1)
 
 open-verdict-same-length-7 : (t : ℕ) → open-verdict-lts.Need-same-length-7 (open-verdict-claims t) (open-verdict-at t) open-verdict.Post
 open-verdict-same-length-7 t c = search needs

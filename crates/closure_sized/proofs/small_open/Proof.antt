@@ -5,94 +5,32 @@ use borrow.Author.Needs.{needs}
 use Rattle.closure_sized.proofs.small_open.Statement.{statement}
 use Rattle.closure_sized.proofs.small_open.Tie as tie
 
-words64-130-requires : tie.Need-words64-130-requires
-words64-130-requires c κs = search needs
-
-words64-130-requires-2 : tie.Need-words64-130-requires-2
-words64-130-requires-2 c κs = search needs
-
-words16-66-requires : tie.Need-words16-66-requires
-words16-66-requires c κs = search needs
-
-words16-66-requires-2 : tie.Need-words16-66-requires-2
-words16-66-requires-2 c κs = search needs
-
-words64-130-requires-3 : tie.Need-words64-130-requires-3
-words64-130-requires-3 c κs = search needs
-
-words64-130-requires-4 : tie.Need-words64-130-requires-4
-words64-130-requires-4 c κs = search needs
-
-words32-66-requires : tie.Need-words32-66-requires
-words32-66-requires c κs = search needs
-
-words16-66-requires-3 : tie.Need-words16-66-requires-3
-words16-66-requires-3 c κs = search needs
-
-slice-aggregate-open-check : tie.Need-slice-aggregate-open-check
-slice-aggregate-open-check c = search needs
-
-slice-aggregate-open-check-2 : tie.Need-slice-aggregate-open-check-2
-slice-aggregate-open-check-2 c = search needs
-
-slice-aggregate-open-check-3 : tie.Need-slice-aggregate-open-check-3
-slice-aggregate-open-check-3 c = search needs
-
-slice-aggregate-open-check-4 : tie.Need-slice-aggregate-open-check-4
-slice-aggregate-open-check-4 c = search needs
-
-slice-aggregate-open-check-5 : tie.Need-slice-aggregate-open-check-5
-slice-aggregate-open-check-5 c = search needs
-
-slice-aggregate-open-check-6 : tie.Need-slice-aggregate-open-check-6
-slice-aggregate-open-check-6 c = search needs
-
-slice-aggregate-open-check-7 : tie.Need-slice-aggregate-open-check-7
-slice-aggregate-open-check-7 c = search needs
-
-slice-aggregate-open-check-8 : tie.Need-slice-aggregate-open-check-8
-slice-aggregate-open-check-8 c = search needs
-
 open-check-requires : tie.Need-open-check-requires
 unfolding width
 open-check-requires c κs =
-    let p = c .before .before .before .before .before .before .before .before .before .before .before .before .before .before .before .before .before .before .before .before .before .before .before .before .pre in
-    lends _ _ _ _ _ _ 64 64 _ _ _ _ _ _ _ _ _ _ _ (p .0) (p .1 .0) (p .1 .1 .0) (p .1 .1 .1 .0) (p .1 .1 .1 .1 .0) (p .1 .1 .1 .1 .1) (c .before .before .before .before .before .before .before .before .before .before .before .before .before .before .before .before .before .before .words64-130 .ensures) (c .before .before .before .before .before .before .before .before .before .before .before .before .before .before .before .before .before .words64-1302 .ensures) (c .before .before .before .before .before .before .before .before .before .before .before .before .before .before .before .before .words16-66 .ensures) (c .before .before .before .before .before .before .before .before .before .before .before .before .before .before .before .words16-662 .ensures) (c .before .before .before .before .before .before .before .before .before .before .before .before .before .before .words64-1303 .ensures) (c .before .before .before .before .before .before .before .before .before .before .before .before .before .words64-1304 .ensures) (c .before .before .before .before .before .before .before .before .before .before .before .before .words32-66 .ensures) (omega arith) (omega arith) (omega arith) (omega arith)
-
-same-length : tie.Need-same-length
-same-length c = search needs
-
-same-length-2 : tie.Need-same-length-2
-same-length-2 c = search needs
-
-same-length-3 : tie.Need-same-length-3
-same-length-3 c = search needs
-
-returns : tie.Need-returns
-returns c = search needs
+    let p = c .before .before .before .before .before .before .before .before .before .before .before .before .before .before .before .before .before .before .before .before .before .before .pre in
+    lends _ _ _ _ _ _ 64 64 _ _ _ _ _ _ _ _ _ _ _ (p .1) (p .0 .0) (p .0 .1) (c .before .before .before .before .before .before .before .before .before .before .before .before .before .before .before .before .words64-130 .ensures) (c .before .before .before .before .before .before .before .before .before .before .before .before .before .before .before .words64-1302 .ensures) (c .before .before .before .before .before .before .before .before .before .before .before .before .before .before .words16-66 .ensures) (c .before .before .before .before .before .before .before .before .before .before .before .before .before .words16-662 .ensures) (c .before .before .before .before .before .before .before .before .before .before .before .before .words64-1303 .ensures) (c .before .before .before .before .before .before .before .before .before .before .before .words64-1304 .ensures) (c .before .before .before .before .before .before .before .before .before .before .words32-66 .ensures) (omega arith) (omega arith) (omega arith) (omega arith)
 
 pub small-open-spec : {M : Type 1} → statement M
 small-open-spec =
     tie.close
     (tie.spec
-    words64-130-requires
-    words64-130-requires-2
-    words16-66-requires
-    words16-66-requires-2
-    words64-130-requires-3
-    words64-130-requires-4
-    words32-66-requires
-    words16-66-requires-3
-    slice-aggregate-open-check
-    slice-aggregate-open-check-2
-    slice-aggregate-open-check-3
-    slice-aggregate-open-check-4
-    slice-aggregate-open-check-5
-    slice-aggregate-open-check-6
-    slice-aggregate-open-check-7
-    slice-aggregate-open-check-8
+    (λ c κs. search needs)
+    (λ c κs. search needs)
+    (λ c κs. search needs)
+    (λ c κs. search needs)
+    (λ c κs. search needs)
+    (λ c κs. search needs)
+    (λ c κs. search needs)
+    (λ c. search needs)
+    (λ c. search needs)
+    (λ c. search needs)
+    (λ c. search needs)
+    (λ c. search needs)
+    (λ c. search needs)
+    (λ c. search needs)
     open-check-requires
-    same-length
-    same-length-2
-    same-length-3
-    returns)
+    (λ c. search needs)
+    (λ c. search needs)
+    (λ c. search needs)
+    (λ c. search needs))

@@ -1,12 +1,12 @@
 use Prim.Native.Nat.{_-_}
-use mathlib.Core.Path.{_≡_}
-use lib.ListN.{length}
 use borrow.Author.Needs.{needs}
+use Rattle.onward.specs.Guesses.{Guessed}
+use Rattle.onward.proofs.Guesses.{guessed-none, guessed-then}
 use Rattle.onward.proofs.guess_class.Statement.{statement}
 use Rattle.onward.proofs.guess_class.Tie as tie
 
 abbrev Inv-loop : tie.InvT-loop
-Inv-loop ws s at₀ i c last₀ j₀ at last j = length at ≡ length at₀
+Inv-loop ws s at₀ i c last₀ j₀ at last j = Guessed (s .states) at₀ at
 
 abbrev μ-loop : tie.MeasureT-loop
 μ-loop ws s at₀ i c last₀ j₀ at last j = s .states - j
@@ -21,10 +21,10 @@ state-class-requires-2 : tie.Need-state-class-requires-2 Inv-loop μ-loop
 state-class-requires-2 c κs = search needs
 
 returns : tie.Need-returns Inv-loop μ-loop
-returns c = search needs
+returns c = guessed-none _ _
 
 loop-holds : tie.Need-loop-holds Inv-loop μ-loop
-loop-holds c = search needs
+loop-holds c = guessed-none _ _
 
 state-class-requires-3 : tie.Need-state-class-requires-3 Inv-loop μ-loop
 state-class-requires-3 c κs = search needs
@@ -33,7 +33,7 @@ same-length : tie.Need-same-length Inv-loop μ-loop
 same-length c = search needs
 
 returns-2 : tie.Need-returns-2 Inv-loop μ-loop
-returns-2 c = search needs
+returns-2 c = c .before .before .before .before .loop .inv
 
 state-location-requires : tie.Need-state-location-requires Inv-loop μ-loop
 state-location-requires c κs = search needs
@@ -48,13 +48,13 @@ loop-less : tie.Need-loop-less Inv-loop μ-loop
 loop-less c = search needs
 
 loop-again : tie.Need-loop-again Inv-loop μ-loop
-loop-again c = search needs
+loop-again c = guessed-then _ _ _ _ _ (c .before .before .before .before .before .before .before .before .before .loop .inv) (c .before .before .note .ensures) (search needs)
 
 same-length-2 : tie.Need-same-length-2 Inv-loop μ-loop
 same-length-2 c = search needs
 
 returns-3 : tie.Need-returns-3 Inv-loop μ-loop
-returns-3 c = search needs
+returns-3 c = c .before .before .loop .inv
 
 pub guess-class-spec : {M : Type 1} → statement M
 guess-class-spec =

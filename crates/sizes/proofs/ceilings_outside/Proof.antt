@@ -1,24 +1,17 @@
--- Each return is the first test that failed, behind those that passed.
+use mathlib.Core.List.{[]}
+use Rattle.sizes.proofs.Limits.{outside-none}
 use borrow.Author.Needs.{needs}
-use Rattle.sizes.proofs.Limits.{tests-of-sizes}
 use Rattle.sizes.proofs.ceilings_outside.Statement.{statement}
 use Rattle.sizes.proofs.ceilings_outside.Tie as tie
 
-within-requires : tie.Need-within-requires
-within-requires c κs = search needs
+outside-requires : tie.Need-outside-requires
+outside-requires c κs = search needs
+
+outside-requires-2 : tie.Need-outside-requires-2
+outside-requires-2 c κs = search needs
 
 returns : tie.Need-returns
-returns c = search tests-of-sizes
-
-within-requires-2 : tie.Need-within-requires-2
-within-requires-2 c κs = search needs
-
-returns-2 : tie.Need-returns-2
-returns-2 c = search tests-of-sizes
-
-returns-3 : tie.Need-returns-3
-returns-3 c = search tests-of-sizes
+returns c = c .outside2 .ensures .0 _ (c .before .outside .ensures .0 [] outside-none)
 
 pub ceilings-outside-spec : {M : Type 1} → statement M
-ceilings-outside-spec =
-    tie.close (tie.spec within-requires returns within-requires-2 returns-2 returns-3)
+ceilings-outside-spec = tie.close (tie.spec outside-requires outside-requires-2 returns)

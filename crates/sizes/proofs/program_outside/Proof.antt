@@ -1,46 +1,25 @@
--- Each return is the first test that failed, behind those that passed.
+use mathlib.Core.List.{[]}
+use Rattle.sizes.proofs.Limits.{outside-none}
 use borrow.Author.Needs.{needs}
-use Rattle.sizes.proofs.Limits.{tests-of-sizes}
 use Rattle.sizes.proofs.program_outside.Statement.{statement}
 use Rattle.sizes.proofs.program_outside.Tie as tie
 
-within-requires : tie.Need-within-requires
-within-requires c κs = search needs
+outside-requires : tie.Need-outside-requires
+outside-requires c κs = search needs
+
+outside-requires-2 : tie.Need-outside-requires-2
+outside-requires-2 c κs = search needs
+
+outside-requires-3 : tie.Need-outside-requires-3
+outside-requires-3 c κs = search needs
+
+outside-requires-4 : tie.Need-outside-requires-4
+outside-requires-4 c κs = search needs
 
 returns : tie.Need-returns
-returns c = search tests-of-sizes
-
-within-requires-2 : tie.Need-within-requires-2
-within-requires-2 c κs = search needs
-
-returns-2 : tie.Need-returns-2
-returns-2 c = search tests-of-sizes
-
-within-requires-3 : tie.Need-within-requires-3
-within-requires-3 c κs = search needs
-
-returns-3 : tie.Need-returns-3
-returns-3 c = search tests-of-sizes
-
-within-requires-4 : tie.Need-within-requires-4
-within-requires-4 c κs = search needs
-
-returns-4 : tie.Need-returns-4
-returns-4 c = search tests-of-sizes
-
-returns-5 : tie.Need-returns-5
-returns-5 c = search tests-of-sizes
+returns c = c .outside4 .ensures .0 _ (c .before .outside3 .ensures .0 _ (c .before .before .outside2 .ensures .0 _ (c .before .before .before .outside .ensures .0 [] outside-none)))
 
 pub program-outside-spec : {M : Type 1} → statement M
 program-outside-spec =
     tie.close
-    (tie.spec
-    within-requires
-    returns
-    within-requires-2
-    returns-2
-    within-requires-3
-    returns-3
-    within-requires-4
-    returns-4
-    returns-5)
+    (tie.spec outside-requires outside-requires-2 outside-requires-3 outside-requires-4 returns)

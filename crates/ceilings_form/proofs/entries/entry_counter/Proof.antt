@@ -7,12 +7,9 @@ use Rattle.ceilings_form.proofs.entries.entry_counter.Tie as tie
 column-requires : tie.Need-column-requires
 column-requires c κs = search needs
 
-cast-result : tie.Need-cast-result
-cast-result c = search needs
-
 returns : tie.Need-returns
 unfolding part-entries left columns
 returns c = search needs
 
 pub entry-counter-spec : {M : Type 1} → statement M
-entry-counter-spec = tie.close (tie.spec column-requires cast-result returns)
+entry-counter-spec = tie.close (tie.spec column-requires returns)

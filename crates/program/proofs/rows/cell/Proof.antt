@@ -1,7 +1,7 @@
 use borrow.Author.Needs.{needs}
 use Rattle.program.proofs.Columns.{part-at, part-past}
-use Rattle.ceilings_form.proofs.entries.column.Statement.{statement}
-use Rattle.ceilings_form.proofs.entries.column.Tie as tie
+use Rattle.program.proofs.rows.cell.Statement.{statement}
+use Rattle.program.proofs.rows.cell.Tie as tie
 
 add-result : tie.Need-add-result
 add-result c = search needs
@@ -18,5 +18,5 @@ returns c = let a = c .before .before .args in part-at (a .ws .now) (a .n) (a .a
 returns-2 : tie.Need-returns-2
 returns-2 c = let a = c .before .args in part-past (a .ws .now) (a .n) (a .at) (a .i) (search needs)
 
-pub column-spec : {M : Type 1} → statement M
-column-spec = tie.close (tie.spec add-result mul-result shared-slice-read-result returns returns-2)
+pub cell-spec : {M : Type 1} → statement M
+cell-spec = tie.close (tie.spec add-result mul-result shared-slice-read-result returns returns-2)
