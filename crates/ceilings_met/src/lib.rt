@@ -10,7 +10,6 @@ use ceilings_form::entries::ceilings_at;
 use model::Sizes;
 use model::TAG_CLASS;
 use model::Verdict;
-use program::rows::cell;
 ghost use mathlib.Core.Path.{_≡_};
 ghost use Prim.Native.Nat.{_+_, _*_, _≤_, _<_};
 ghost use lib.ListN.{length};

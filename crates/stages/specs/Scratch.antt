@@ -67,7 +67,7 @@ pub record Limited (ws : List ℕ) (s : Sizes) (n : ℕ) (limits ceiling-at : Li
   pub limits-table : Limits-table (ceilings-of ws s n) limits
   pub starts-table : Starts-table n (ceiling-entries ws s) (s .ceilings) ceiling-at
 
--- the bads of a message that passes 1 to 8, and the tables that refusal 8 leaves, with room for the letters behind them
+-- the bads of a message that passes 1 to 8, and the tables that refusal 8 leaves, with room for the letters behind
 pub record Closed-tables (ws : List ℕ) (s : Sizes) (narrow fitting : List ℕ) : Type 0 where
   pub ready : Ready ws s
   pub whole : ceilings.Whole ws s
