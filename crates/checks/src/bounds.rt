@@ -1,6 +1,6 @@
 // The bounds of a message, which are its ceilings, or lines of weights in their place: the checks that follow the form
 // of either.
-use ceilings_stage::ceilings_verdict;
+use ceilings_sized::ceilings_verdict;
 use model::Sizes;
 use model::Verdict;
 use weights_stage::weights_verdict;

@@ -1,37 +1,21 @@
--- Room for what the stage makes, and for the rules of a state behind those that are kept.
-use Prim.Native.Nat.{ℕ, _+_, _*_, _≤_, _<_}
+-- Room for what the stage of the ceilings asks for, in each size.
+use Prim.Native.Nat.{ℕ, _*_, _≤_, _<_}
 use native.Mathlib.Omega.{arith}
 use mathlib.Core.Path.{_≡_}
 use mathlib.Core.List.{List}
-use lib.ListN.{length, length-drop}
+use lib.ListN.{length}
 use Rattle.rooms.specs.Cleared.{Cleared}
 use Rattle.rooms.specs.Rooms.{limit-room}
 use Rattle.model.specs.declared.Sizes.{Sizes}
-use Rattle.model.specs.Words.{columns}
 use Rattle.model.specs.Rows.{program}
 use Rattle.model.specs.Limits.{present, maxRows, maxCounters, maxCeilings}
-use Rattle.model.specs.Tables.{tables, entries}
+use Rattle.model.specs.Tables.{tables}
 use Rattle.model.specs.Counters.{counter-count}
 use Rattle.model.specs.Demands.{Within-limits}
 use Rattle.closure_sized.proofs.Opening.{product-most}
 use Rattle.rules.specs.Derived.{Rule-room}
-use Rattle.kept_rules.specs.Kept.{Room-from}
-use Rattle.stages.specs.Scratch.{Bounds-room, Mask-room, Rules-fit}
+use Rattle.stages.specs.Scratch.{Bounds-room, Mask-room}
 use Rattle.stages.proofs.Laying.{rule-room, bounds-room}
-
--- room for the rules of a state, also behind the first `spare` words
-pub rules-fit : (ws : List ℕ) (s : Sizes) (tos others : List ℕ) (room : ℕ) → room ≡ length tos → Rule-room ws s tos others → Rules-fit ws s 0 room
-rules-fit ws s tos others room e r = let v = r .values in let l = r .letters in let k = r .counters in record { values = omega arith; letters = omega arith; counters = omega arith }
-
-pub spare-room : (ws : List ℕ) (s : Sizes) (spare : ℕ) (tos others : List ℕ) (room : ℕ) → room ≡ length tos → Rule-room ws s tos others → Rules-fit ws s spare room → Room-from ws s spare tos others
-spare-room ws s spare tos others room e r f =
-    let a = r .alike in
-    let x = length-drop spare tos in
-    let y = length-drop spare others in
-    let v = f .values in
-    let l = f .letters in
-    let k = f .counters in
-    record { room = record { values = omega arith; letters = omega arith; counters = omega arith; alike = omega arith } }
 
 -- no message has more limits
 pub all-cells : (s : Sizes) (n : ℕ) → n ≤ maxCounters → Within-limits present s → n * s .ceilings ≤ limit-room
@@ -47,11 +31,6 @@ mask-room j k l n holders unbounded group short more g h i a b c d e =
       one-less = let q = d .room in omega arith;
       one-more = let q = e .room in omega arith;
     }
-
--- each state is a counter
-pub states-few : (ws : List ℕ) (s : Sizes) (n : ℕ) → n ≡ counter-count (program ws s) (tables ws s) → s .states ≤ n
-unfolding counter-count tables entries columns
-states-few ws s n e = omega (arith, e)
 
 -- cleared tables of these sizes are all that the stage asks for where there are no more than m counters
 module _ (ws : List ℕ) (s : Sizes) (n m cells most held free states list : ℕ) (limits ceiling-at sums holders unbounded group short more tos others : List ℕ) where

@@ -1,18 +1,18 @@
 use Rattle.stages.proofs.Laying.{few-counters}
-use Rattle.ceilings_stage.proofs.Laying.{all-cells}
+use Rattle.ceilings_sized.proofs.Laying.{all-cells}
 use Prim.Native.Nat.{ℕ, _<_, _-_}
 use native.Mathlib.Omega.{arith}
 use borrow.Author.Needs.{needs}
 use borrow.Fn.Kinds.{In}
 use borrow.Fn.PlainCycle.{Measures, is, falls, and}
-use Rattle.ceilings_stage.proofs.ceilings_verdict.Reads as ceilings-verdict
-use Rattle.ceilings_stage.proofs.ceilings_verdict.Kinds as ceilings-verdict-kinds
-use Rattle.ceilings_stage.proofs.+ceilings_verdict.Lts-ceilings_verdict as ceilings-verdict-lts
-use Rattle.ceilings_stage.proofs.all_limits.Reads as all-limits-reads
-use Rattle.ceilings_stage.proofs.few_limits.Reads as few-limits-reads
-use Rattle.ceilings_stage.proofs.more_limits.Reads as more-limits-reads
-use Rattle.ceilings_stage.proofs.+ceilings_verdict.{statement}
-use Rattle.ceilings_stage.proofs.+ceilings_verdict.Tie.{close}
+use Rattle.ceilings_sized.proofs.ceilings_verdict.Reads as ceilings-verdict
+use Rattle.ceilings_sized.proofs.ceilings_verdict.Kinds as ceilings-verdict-kinds
+use Rattle.ceilings_sized.proofs.+ceilings_verdict.Lts-ceilings_verdict as ceilings-verdict-lts
+use Rattle.ceilings_sized.proofs.all_limits.Reads as all-limits-reads
+use Rattle.ceilings_sized.proofs.few_limits.Reads as few-limits-reads
+use Rattle.ceilings_sized.proofs.more_limits.Reads as more-limits-reads
+use Rattle.ceilings_sized.proofs.+ceilings_verdict.{statement}
+use Rattle.ceilings_sized.proofs.+ceilings_verdict.Tie.{close}
 
 abbrev μ-ceilings-verdict : Measures 6 ceilings-verdict-kinds.ps ℕ
 μ-ceilings-verdict κs a = 512 - a .0

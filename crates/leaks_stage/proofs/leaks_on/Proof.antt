@@ -3,10 +3,10 @@ use mathlib.Core.Path.{_∙_}
 use Rattle.model.specs.Ceilings.{ceilings-of}
 use Rattle.system_totals.proofs.Walk.{room-kept}
 use Rattle.rule_tables.proofs.Joining.{long, lent-letters}
-use Rattle.ceilings_stage.proofs.Laying.{rules-fit, spare-room, states-few}
+use Rattle.leaks_stage.proofs.Laying.{rules-fit, spare-room, states-few}
 use borrow.Author.Needs.{needs}
-use Rattle.ceilings_stage.proofs.leaks_on.Statement.{statement}
-use Rattle.ceilings_stage.proofs.leaks_on.Tie as tie
+use Rattle.leaks_stage.proofs.leaks_on.Statement.{statement}
+use Rattle.leaks_stage.proofs.leaks_on.Tie as tie
 
 fill-holders-requires : tie.Need-fill-holders-requires
 unfolding ceilings-of

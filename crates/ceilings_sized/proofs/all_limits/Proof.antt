@@ -2,9 +2,9 @@ use native.Mathlib.Omega.{arith}
 use borrow.Author.Needs.{needs}
 use Rattle.model.specs.Limits.{maxCounters}
 use Rattle.stages.proofs.Laying.{few-counters}
-use Rattle.ceilings_stage.proofs.Laying.{all-cells, limits-lent}
-use Rattle.ceilings_stage.proofs.all_limits.Statement.{statement}
-use Rattle.ceilings_stage.proofs.all_limits.Tie as tie
+use Rattle.ceilings_sized.proofs.Laying.{all-cells, limits-lent}
+use Rattle.ceilings_sized.proofs.all_limits.Statement.{statement}
+use Rattle.ceilings_sized.proofs.all_limits.Tie as tie
 
 ceilings-on-requires : tie.Need-ceilings-on-requires
 ceilings-on-requires c κs =

@@ -1,8 +1,8 @@
 use native.Mathlib.Omega.{arith}
 use borrow.Author.Needs.{needs}
-use Rattle.ceilings_stage.proofs.Laying.{limits-lent}
-use Rattle.ceilings_stage.proofs.few_limits.Statement.{statement}
-use Rattle.ceilings_stage.proofs.few_limits.Tie as tie
+use Rattle.ceilings_sized.proofs.Laying.{limits-lent}
+use Rattle.ceilings_sized.proofs.few_limits.Statement.{statement}
+use Rattle.ceilings_sized.proofs.few_limits.Tie as tie
 
 ceilings-on-requires : tie.Need-ceilings-on-requires
 ceilings-on-requires c κs =
