@@ -49,8 +49,8 @@ pub record Left (limits : List ℕ) (ceilings n k i : ℕ) (m : Mask) : Type 0 w
       (j : ℕ) → j < ceilings → ((y : ℕ) → y < n → (y ≡ i → ⊥) → exceeds limits ceilings k j y ≡ false) →
       allowed (held limits ceilings j i) (most limits ceilings k i - 1) ≡ true → has m j ≡ true
 
--- of the mask `left`, of counter i, the ceilings that hold one more than ceiling k at the state `to`; none where that is
--- i, or none of the states
+-- of the mask `left`, of counter i, the ceilings that hold one more than ceiling k at the state `to`; none where that
+-- is i, or none of the states
 unfoldable pub moved : List ℕ → ℕ → ℕ → ℕ → ℕ → ℕ → Mask → ℕ → Bool
 moved limits ceilings states k i to left j =
     (not (eqb to i) && ltb to states) && (has left j && takes-more limits ceilings k to j)

@@ -59,8 +59,8 @@ abbrev pub Open-set : List ℕ → ℕ → ℕ → ℕ → ℕ → ℕ → Mask 
 Open-set limits ceilings n k states words mask rest =
     (y : ℕ) → states + y < n → member rest words 0 y ≡ not (more-in limits ceilings states k mask (states + y))
 
--- Where it is wanted, the set has the letters that pass; and the rules of state i whose letter does not pass lead out of
--- nothing from the highest counts of ceiling k.
+-- Where it is wanted, the set has the letters that pass; and the rules of state i whose letter does not pass lead out
+-- of nothing from the highest counts of ceiling k.
 pub record Narrowed (p : Program) (t : Tables) (limits : List ℕ) (ceilings n k i : ℕ) (wanted : Bool)
     (asked : List ℕ) : Type 0 where
   pub passes : ℕ → Bool

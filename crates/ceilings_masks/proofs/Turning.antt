@@ -7,12 +7,12 @@ use mathlib.Core.Bool.{Bool, true, false, not, _&&_, _||_}
 use mathlib.Core.List.{List}
 use lib.Dec.{leb, ltb, eqb}
 use lib.ListN.{length, getD}
-use borrow.Author.Tests.{eq-eqb, ne-eqb, le-leb, lt-leb, lt-ltb}
+use borrow.Author.Tests.{eq-eqb, ne-eqb, le-leb, lt-leb, lt-ltb, le-ltb}
 use Rattle.model.specs.Limits.{omega-limit}
 use Rattle.model.specs.Index.{count}
 use Rattle.model.specs.Words.{Columns, left}
 use Rattle.model.specs.Ceilings.{allowed, highest}
-use Rattle.model.proofs.Logic.{test, not-fails}
+use Rattle.model.proofs.Logic.{test, not-fails, and-left, and-right}
 use Rattle.model.proofs.Index.{count-end, count-last, count-last-miss}
 use Rattle.bits.specs.Bits.{member, Set-is}
 use Rattle.masks.specs.declared.Mask.{Mask}
@@ -136,8 +136,8 @@ module _ (limits : List ℕ) (ceilings k : ℕ) where
     more-next : (x : ℕ) (m next r : Mask) → ((j : ℕ) → j < 256 → has next j ≡ takes-more limits ceilings k x j) → More-at low x m next r → More-from limits ceilings low x k m → More-from limits ceilings low (x + 1) k r
     unfolding More-from More-at
     more-next x m next r is at c y j from l one h t = elim (ℕ-discrete y x) [
-      | yes z ↦ rw z (sym (is j h) ∙ at j t .1 (omega arith))
-      | no z ↦ c y j from (omega arith) one h (at j t .0)
+      | yes z ↦ rw z (sym (is j h) ∙ (rw (le-ltb x low (omega arith)) at (and-right (has m j) (ltb x low || has next j) (sym (at j) ∙ t))))
+      | no z ↦ c y j from (omega arith) one h (and-left (has m j) (ltb x low || has next j) (sym (at j) ∙ t))
     ]
 
   module _ (states : ℕ) where

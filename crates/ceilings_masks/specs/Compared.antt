@@ -1,7 +1,7 @@
 -- Ceilings compared at a counter, and what the masks of a ceiling say of the others.
 use Prim.Native.Nat.{ℕ, _+_, _*_, _-_, _≤_, _<_}
 use mathlib.Core.Path.{_≡_}
-use mathlib.Core.Bool.{Bool, true, not, _&&_}
+use mathlib.Core.Bool.{Bool, true, not, _&&_, _||_}
 use mathlib.Core.List.{List}
 use lib.ListN.{length}
 use lib.Dec.{leb, ltb}
@@ -64,10 +64,9 @@ More-from limits ceilings low e k mask =
     (x k′ : ℕ) → low ≤ x → x < e → 1 ≤ held limits ceilings k x → k′ < 256 → has mask k′ ≡ true →
     takes-more limits ceilings k x k′ ≡ true
 
--- the ceilings after counter x are of those before it; and of those that hold one more at x, where that is one from
--- `low` on
+-- the ceilings after counter x are those before it that hold one more at x, where x is a counter from `low` on; else all
 unfoldable pub More-at : ℕ → ℕ → Mask → Mask → Mask → Type 0
-More-at low x above next r = (k′ : ℕ) → has r k′ ≡ true → (has above k′ ≡ true) × (low ≤ x → has next k′ ≡ true)
+More-at low x above next r = (k′ : ℕ) → has r k′ ≡ (has above k′ && (ltb x low || has next k′))
 
 -- none but ceilings that hold one more than ceiling k at each counter below e; and at each letter below e: the letters
 -- are the counters behind the states

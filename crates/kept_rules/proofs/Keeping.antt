@@ -17,21 +17,11 @@ use Rattle.model.specs.Tables.{Tables}
 use Rattle.rules.specs.Listed.{State-rules, listed-rule, listed-rules}
 use Rattle.rules.specs.Derived.{Rule-room}
 use Rattle.rules.proofs.Gather.{gather-same}
+use Rattle.rule_tables.specs.Joined.{Same-below}
+use Rattle.rule_tables.proofs.Joining.{put-rest}
 use Rattle.kept_rules.specs.declared.Kept.{Kept}
 use Rattle.state_rules.specs.Within.{Rules-within}
-use Rattle.kept_rules.specs.Kept.{Same-below, Room-from, Rules-from, Rules-at, Rules-asked, Kept-upto, Kept-rules}
-
--- a list whose rest behind a was lent and came back as ys
-pub put-rest : (a : ℕ) (xs ys : List ℕ) → a ≤ length xs → drop a (take a xs ++ (ys ++ drop (length xs - a) (drop a xs))) ≡ ys
-put-rest a xs ys h =
-    let all : length (drop a xs) ≤ length xs - a = (let z = length-drop a xs in omega arith) in
-    drop-at (take a xs) (ys ++ drop (length xs - a) (drop a xs)) a (length-take-le a xs h) ∙
-    (ap (λ zs. ys ++ zs) (drop-of-length-le (drop a xs) all) ∙ append-nil ys)
-
-pub put-below : (a : ℕ) (xs zs : List ℕ) → a ≤ length xs → Same-below a xs (take a xs ++ zs)
-put-below a xs zs h x l =
-    sym (getD-take a (take a xs ++ zs) x 0 l) ∙
-    (ap (λ ys. getD ys x 0) (take-at (take a xs) zs a (length-take-le a xs h)) ∙ getD-take a xs x 0 l)
+use Rattle.kept_rules.specs.Kept.{Room-from, Rules-from, Rules-at, Rules-asked, Kept-upto, Kept-rules}
 
 lent-rest : (a : ℕ) (xs : List ℕ) → take (length xs - a) (drop a xs) ≡ drop a xs
 lent-rest a xs = part-to-end xs a

@@ -16,10 +16,6 @@ use Rattle.rules.specs.Derived.{Rule-room}
 use Rattle.state_rules.specs.Within.{only-passing}
 use Rattle.kept_rules.specs.declared.Kept.{Kept}
 
--- the first n words are the same
-abbrev pub Same-below : ℕ → List ℕ → List ℕ → Type 0
-Same-below n xs ys = (x : ℕ) → x < n → getD ys x 0 ≡ getD xs x 0
-
 -- from word `first` on the two lists have room for the rules of any state
 pub record Room-from (ws : List ℕ) (s : Sizes) (first : ℕ) (tos others : List ℕ) : Type 0 where
   pub room : Rule-room ws s (drop first tos) (drop first others)

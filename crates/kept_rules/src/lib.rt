@@ -11,11 +11,11 @@ ghost use lib.ListN.{length, getD, set};
 ghost use Rattle.model.specs.Rows.{program};
 ghost use Rattle.model.specs.Tables.{tables};
 ghost use Rattle.rules.specs.Derived.{Rule-room};
-ghost use Rattle.rule_tables.specs.Joined.{Joined-tables};
+ghost use Rattle.rule_tables.specs.Joined.{Joined-tables, Same-below};
 ghost use Rattle.bits.specs.Bits.{Row};
 ghost use Rattle.system_letters.specs.Letters.{letter-width};
 ghost use Rattle.state_rules.specs.Within.{Asked-letters};
-ghost use Rattle.kept_rules.specs.Kept.{Same-below, Room-from, Rules-from, Rules-asked, Kept-rules};
+ghost use Rattle.kept_rules.specs.Kept.{Room-from, Rules-from, Rules-asked, Kept-rules};
 
 // Whether the rules of all states so far are kept, and up to where in the lists.
 pub struct Kept {

@@ -20,16 +20,16 @@ ghost use Rattle.rules.specs.Listed.{State-rules};
 ghost use Rattle.state_rules.specs.Within.{Asked-letters, Rules-within};
 ghost use Rattle.rule_tables.specs.Joined.{letter-from, Joined-tables, Joined};
 
-// A word for each row, and two behind them: as much room as each table has.
+// Each table has room for a word for each row, and for two behind them.
 const ROOM: usize = MAX_ROWS + 2;
 
-// Where expressions and patterns end stands at the front; behind it where the flow of each name begins,
+// At the front stands where expressions and patterns end; from here on where the flow of each name begins.
 pub const FLOW_AT: usize = ROOM;
 
-// the branches of each state that may match,
+// From here on stand the branches of each state that may match.
 pub const BRANCHES: usize = 2 * ROOM;
 
-// and where the letters of each class begin.
+// From here on stands where the letters of each class begin.
 pub const LETTER_AT: usize = 3 * ROOM;
 
 // The first n words of a, put from word p of t on.
@@ -97,8 +97,8 @@ pub fn rules_of(
     )
 }
 
-// The rules of state i, but of those of a receive only the ones that read a letter of the set `within`, as
-// `rules_within` gives them.
+// The rules of state i, but of those of a receive or a send only the ones that read or put a letter of the set
+// `within`, as `rules_within` gives them.
 pub fn rules_within_of(
     ws: &[u16],
     s: Sizes,

@@ -23,7 +23,8 @@ letter-passes f (starts x) = true
 -- the rules that have no letter, or one that passes
 unfoldable pub only-passing : (ℕ → Bool) → List Rule → List Rule
 only-passing f [] = []
-only-passing f (ρ ∷ ρs) = elim (letter-passes f (ρ .effect)) [ true ↦ ρ ∷ only-passing f ρs | false ↦ only-passing f ρs ]
+only-passing f (ρ ∷ ρs) =
+    elim (letter-passes f (ρ .effect)) [ true ↦ ρ ∷ only-passing f ρs | false ↦ only-passing f ρs ]
 
 -- the counters of the letters that pass are those that set 0 has; of all letters where not only these are asked for
 pub record Asked-letters (p : Program) (t : Tables) (narrow : Bool) (within : List ℕ) (f : ℕ → Bool) : Type 0 where

@@ -35,6 +35,7 @@ ghost use mathlib.Core.Bool.{Bool, true, not, _&&_, _||_};
 ghost use Prim.Native.Nat.{ℕ, _+_, _*_, _≤_, _<_};
 ghost use lib.ListN.{length, getD};
 ghost use Rattle.bits.specs.Bits.{member, Row};
+ghost use Rattle.model.specs.Index.{any};
 ghost use Rattle.model.specs.Words.{right};
 ghost use Rattle.model.specs.Rows.{program, tag, Kind, send, receive};
 ghost use Rattle.model.specs.Tables.{tables, state-at};
@@ -104,8 +105,29 @@ fn keep_within(narrow: bool, within: &[u64], words: usize, part: &mut [u64], fou
     take_from(found, part, words, 0, 0);
 }
 
+// Class d has a letter that is asked for: one of the set `within`, where only these are; else that is not looked at.
+fn asks_class(narrow: bool, letter_at: &[u16], within: &[u64], words: usize, d: usize) -> bool
+    requires { ⌜ d + 1 < length (now «letter_at») ⌝ }
+    requires { ⌜ getD (now «letter_at») (d + 1) 0 ≤ 64 * words ⌝ }
+    requires { ⌜ Row (now within) words 0 ⌝ }
+    ensures { λ r. ⌜ r ≡ (not narrow || any (getD (now («letter_at» .entry)) d 0)
+        (getD (now («letter_at» .entry)) (d + 1) 0) (member (now (within .entry)) words 0)) ⌝ }
+{
+    if !narrow {
+        return true;
+    }
+    let from = word(letter_at, d);
+    let to = word(letter_at, d + 1);
+    for y in from..to {
+        if holds(within, words, 0, y) {
+            return true;
+        }
+    }
+    false
+}
+
 // A send: each class that the target may be, by the letters of the message; where that is asked for, of the set
-// `within` only.
+// `within` only. Most classes have none of these, and the letters of a message are searched for in each class.
 fn send_rules(
     ws: &[u16],
     s: Sizes,
@@ -150,6 +172,9 @@ fn send_rules(
     for j in from..to {
         let d = flow_value(ws, s, j);
         if !is_class(ws, s, d) {
+            continue;
+        }
+        if !asks_class(narrow, letter_at, within, words, d) {
             continue;
         }
         sent_letters(ws, s, flow_at, letter_at, letters, message, d, &mut found);

@@ -1,24 +1,27 @@
 use native.Mathlib.Omega.{arith}
-use mathlib.Core.Path.{sym, _∙_}
-use Rattle.model.proofs.Logic.{and-left, and-right}
+use mathlib.Core.Path.{_≡_, refl, _∙_}
+use mathlib.Core.Bool.{Bool, true, false, _&&_}
+use borrow.Author.Tests.{lt-ltb, le-ltb}
 use Rattle.masks.specs.Masks.{has}
 use Rattle.ceilings_masks.specs.Compared.{More-at}
 use borrow.Author.Needs.{needs}
 use Rattle.ceilings_masks.proofs.more_from.Statement.{statement}
 use Rattle.ceilings_masks.proofs.more_from.Tie as tie
 
+all-kept : (b : Bool) → b ≡ (b && true)
+all-kept true = refl
+all-kept false = refl
+
 returns : tie.Need-returns
 unfolding More-at
-returns c = λ k t. (t, λ l. absurd (omega (arith, l, c .if1 .taken)))
+returns c = λ k. rw (lt-ltb _ _ (c .if1 .taken)) (all-kept (has (c .before .args .above) k))
 
 and-requires : tie.Need-and-requires
 and-requires c κs = search needs
 
 returns-2 : tie.Need-returns-2
 unfolding More-at
-returns-2 c =
-    let a = c .before .before .args in
-    λ k t. (and-left (has (a .above) k) (has (a .next) k) (sym (c .and .ensures k) ∙ t), λ l. and-right (has (a .above) k) (has (a .next) k) (sym (c .and .ensures k) ∙ t))
+returns-2 c = λ k. rw (le-ltb _ _ (c .before .if1 .left)) (c .and .ensures k)
 
 pub more-from-spec : {M : Type 1} → statement M
 more-from-spec = tie.close (tie.spec returns and-requires returns-2)

@@ -1,7 +1,8 @@
 use Prim.Native.Nat.{_≤_}
 use native.Mathlib.Omega.{arith}
 use lib.ListN.{length}
-use Rattle.kept_rules.proofs.Keeping.{starts-low, lent-room, put-rules, put-below}
+use Rattle.kept_rules.proofs.Keeping.{starts-low, lent-room, put-rules}
+use Rattle.rule_tables.proofs.Joining.{put-below}
 use borrow.Author.Needs.{needs}
 use Rattle.kept_rules.proofs.rules_from.Statement.{statement}
 use Rattle.kept_rules.proofs.rules_from.Tie as tie
