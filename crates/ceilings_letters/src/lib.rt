@@ -24,6 +24,7 @@ ghost use Prim.Native.Nat.{ℕ, _*_, _≤_, _<_};
 ghost use lib.ListN.{length};
 ghost use Rattle.bits.specs.Bits.{Row};
 ghost use Rattle.masks.specs.Masks.{has};
+ghost use Rattle.model.specs.Limits.{maxCounters};
 ghost use Rattle.model.specs.Rows.{program};
 ghost use Rattle.model.specs.Tables.{tables};
 ghost use Rattle.model.specs.Counters.{counter-count};
@@ -74,7 +75,7 @@ fn one_more_by(
     x: usize,
 ) -> Mask
     requires { ⌜ One-more (now limits) ceilings n k (now holders) (now more) ⌝ }
-    requires { ⌜ (x < n) × (n ≤ 1024) ⌝ }
+    requires { ⌜ (x < n) × (n ≤ maxCounters) ⌝ }
     requires { ⌜ «is_held» ≡ is-held (now limits) ceilings k x ⌝ }
     ensures { λ r. ⌜ ((j : ℕ) → j < 256 → has r j ≡ takes-more (now (limits .entry)) ceilings k x j) ⌝ }
 {

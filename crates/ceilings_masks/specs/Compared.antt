@@ -64,7 +64,8 @@ More-from limits ceilings low e k mask =
     (x k′ : ℕ) → low ≤ x → x < e → 1 ≤ held limits ceilings k x → k′ < 256 → has mask k′ ≡ true →
     takes-more limits ceilings k x k′ ≡ true
 
--- the ceilings after counter x are those before it that hold one more at x, where x is a counter from `low` on; else all
+-- the ceilings after counter x are those before it that hold one more at x, where x is a counter from `low` on; else
+-- all of them
 unfoldable pub More-at : ℕ → ℕ → Mask → Mask → Mask → Type 0
 More-at low x above next r = (k′ : ℕ) → has r k′ ≡ (has above k′ && (ltb x low || has next k′))
 

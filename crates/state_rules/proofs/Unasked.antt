@@ -67,8 +67,8 @@ module _ {ws : List ℕ} {s : Sizes} (h : Ready ws s) where
         let inside = class-there p t d y low whose in
         let range = class-range h starts g d class in
         let absent : member within w 0 y ≡ false = test (member within w 0 y)
-            (λ z. true-false (any-intro (getD starts d 0) (getD starts (d + 1) 0) y (member within w 0) (omega (arith, range .0, inside .0)) (omega (arith, range .1, inside .1)) z) none)
-            (λ z. z) in
+        (λ z. true-false (any-intro (getD starts d 0) (getD starts (d + 1) 0) y (member within w 0) (omega (arith, range .0, inside .0)) (omega (arith, range .1, inside .1)) z) none)
+        (λ z. z) in
         let same-x : t .states .size + y ≡ x = omega arith in
         ap f (sym same-x) ∙ (sym (o .has y low) ∙ rw (asked, ← wide) absent)
 
