@@ -19,8 +19,7 @@ use Rattle.bits.specs.Bits.{odd, bit}
 use Rattle.bits.proofs.Bits.{bit-suc}
 use Rattle.values.specs.Values.{width, Values}
 use Rattle.matching.specs.Patterns.{code, values-code}
-use Rattle.matching.proofs.Coding.{code-most}
-use Rattle.matching.proofs.Filling.{code-some}
+use Rattle.matching.proofs.Coding.{code-some, code-most}
 use Rattle.branches.specs.Taken.{branch-code, code-closed, codes-closed, lacking, code-bits, lacks, taken-bits, bodies-closed, Is-taken, Bits-told}
 use Rattle.branches.proofs.Codes.{codes-each}
 

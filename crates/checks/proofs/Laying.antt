@@ -36,7 +36,7 @@ use Rattle.lists.specs.Ready.{Ready}
 use Rattle.positions.specs.Positions.{Ends}
 use Rattle.positions.specs.Branches.{Branch-bits}
 use Rattle.values.specs.Values.{width, Empty}
-use Rattle.matching.specs.Patterns.{Fitting-sets}
+use Rattle.matching_names.specs.Names.{Fitting-sets}
 use Rattle.evidence.specs.Whole.{Parts-whole}
 use Rattle.ceilings_form.specs.Parts as ceilings
 use Rattle.bads_rows.specs.Items.{Bads-in-form}

@@ -16,7 +16,7 @@ use Rattle.rooms.specs.Cleared.{Cleared}
 use Rattle.values.specs.Values.{width, Empty, Room}
 use Rattle.closure.specs.Lent as lent
 use Rattle.closure.specs.Lent.{Indexed, Unsettled, Openable}
-use Rattle.matching.specs.Patterns.{Unfitted}
+use Rattle.matching_names.specs.Names.{Unfitted}
 
 -- a cleared table holds empty sets
 pub empty-sets : (n w : ℕ) (t : List ℕ) → Cleared n t → Empty w t

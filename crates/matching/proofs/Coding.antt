@@ -3,7 +3,7 @@ use Prim.Native.Nat.{ℕ, zero, suc, _+_, _≤_, _<_, max}
 use native.Mathlib.Decide.{decLt}
 use native.Mathlib.Omega.{arith}
 use mathlib.Core.Path.{_≡_, refl, sym, _∙_}
-use mathlib.Core.Bool.{Bool, true, false, _&&_}
+use mathlib.Core.Bool.{Bool, true, false, not, _&&_}
 use lib.Dec.{eqb}
 use borrow.Author.Tests.{ne-eqb}
 use Rattle.model.specs.Index.{implies, all}
@@ -31,6 +31,19 @@ unfolding code
 code-two true true e = absurd (omega arith)
 code-two true false e = (refl, refl)
 code-two false h e = absurd (omega arith)
+
+-- a code that is not 0, and one that is 1
+pub code-some : (m h : Bool) → not (eqb (code m h) 0) ≡ m
+unfolding code
+code-some true true = refl
+code-some true false = refl
+code-some false h = refl
+
+pub code-held : (m h : Bool) → eqb (code m h) 1 ≡ (m && h)
+unfolding code
+code-held true true = refl
+code-held true false = refl
+code-held false h = refl
 
 pub code-most : (m h : Bool) → code m h ≤ 2
 unfolding code

@@ -14,7 +14,7 @@ ghost use mathlib.Core.Path.{_≡_};
 ghost use mathlib.Core.Bool.{true};
 ghost use Prim.Native.Nat.{_+_, _*_, _<_, max};
 ghost use Rattle.model.specs.Index.{any};
-ghost use Rattle.model.specs.Rows.{program, size, tag};
+ghost use Rattle.model.specs.Rows.{program, tag};
 ghost use Rattle.model.specs.Tables.{tables};
 ghost use Rattle.model.specs.Closed.{same-constructor};
 ghost use Rattle.bits.specs.Bits.{Row, shared};
