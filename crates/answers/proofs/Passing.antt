@@ -2,35 +2,20 @@
 use mathlib.Core.Path.{_≡_, refl, sym, ap, _∙_}
 use mathlib.Core.Bool.{Bool, true, false}
 use mathlib.Core.Option.{some, none}
+use borrow.Author.Tests.{eqb-true}
 use Rattle.model.specs.declared.Verdict.{Verdict}
-use Rattle.model.specs.declared.Verdict.the-variants.{Safe, Length, Size, Row, Name, Scope, Bad, Entry, Open, Counters, Ceiling, Start, Met, Leak, Space, FunctionMailed, Weights, Rise, Light}
+use Rattle.model.specs.declared.Verdict.the-variants.{Safe}
 use Rattle.model.specs.Verdict.{Check, _>>_, number}
 use Rattle.model.specs.Verify.{answer, if-safe}
 use Rattle.model.proofs.Logic.{true-false}
 use Rattle.model.proofs.Exact.Answer.{Refuses, answer-safe}
+use Rattle.model.proofs.Demands.{safe-number}
 use Rattle.answers.specs.Safe.{is-safe}
 
+-- only safe has the number 0
 pub safe-only : (v : Verdict) → is-safe v ≡ true → v ≡ Safe
-unfolding is-safe number
-safe-only Safe h = refl
-safe-only (Length at) h = true-false h refl
-safe-only (Size at) h = true-false h refl
-safe-only (Row at) h = true-false h refl
-safe-only (Name at) h = true-false h refl
-safe-only (Scope at) h = true-false h refl
-safe-only (Bad at) h = true-false h refl
-safe-only (Entry at) h = true-false h refl
-safe-only (Open at) h = true-false h refl
-safe-only (Counters at) h = true-false h refl
-safe-only (Ceiling at) h = true-false h refl
-safe-only (Start at) h = true-false h refl
-safe-only (Met at) h = true-false h refl
-safe-only (Leak at) h = true-false h refl
-safe-only (Space at) h = true-false h refl
-safe-only (FunctionMailed at) h = true-false h refl
-safe-only (Weights at) h = true-false h refl
-safe-only (Rise at) h = true-false h refl
-safe-only (Light at) h = true-false h refl
+unfolding is-safe
+safe-only v h = safe-number v (eqb-true (number v) 0 h)
 
 -- what is so after a refusal
 pub else-is : {A : Type 0} (v : Verdict) (a b : A) → is-safe v ≡ false → if-safe v a b ≡ b

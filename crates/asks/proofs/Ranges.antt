@@ -13,9 +13,9 @@ use Rattle.model.specs.Index.{implies, all}
 use Rattle.model.specs.Words.{Columns, left, right, columns}
 use Rattle.model.specs.Rows.{program}
 use Rattle.model.specs.Tables.{tables, entries, each}
-use Rattle.model.proofs.Logic.{test, implies-elim, implies-intro}
+use Rattle.model.proofs.Logic.{test, implies-elim, implies-intro, both, and-joined, and-true, and-none, and-twice}
 use Rattle.model.proofs.Index.{all-elim, all-intro, all-hit, all-miss, all-end}
-use Rattle.bits.proofs.Loops.{both}
+use Rattle.matching.proofs.Coding.{by-code}
 use Rattle.lists.specs.Lists.{Ascending, place, range-from, range-to, Starts}
 use Rattle.lists.specs.Ready.{Ready}
 use Rattle.lists.proofs.Facts.{flow-rises}
@@ -49,31 +49,13 @@ starts-range {ws} {s} h {starts} st n from to l e g f =
     let z = place-upto (tables ws s .flow) [] ((n + 1) ∷ 0 ∷ 0 ∷ []) in
     (rw (a, b) (each-range (tables ws s .flow) n f (flow-rises h)), omega arith)
 
-by-code : {A : Type 0} (c : ℕ) → c ≤ 2 → (c ≡ 0 → A) → (c ≡ 1 → A) → (c ≡ 2 → A) → A
-by-code zero h f g k = f refl
-by-code (suc zero) h f g k = g refl
-by-code (suc (suc zero)) h f g k = k refl
-by-code (suc (suc (suc c))) h f g k = absurd (omega arith)
-
 -- the worse of two codes asks for what both do
 pub closed-worse : (a b : ℕ) (x : Bool) → a ≤ 2 → b ≤ 2 → code-closed (max a b) x ≡ (code-closed a x && code-closed b x)
 unfolding code-closed
 closed-worse a b x la lb = by-code a la
     (λ e. by-code b lb (λ g. rw (e, g)) (λ g. rw (e, g)) (λ g. rw (e, g)))
-    (λ e. by-code b lb (λ g. rw (e, g) (same x)) (λ g. rw (e, g) (twice x)) (λ g. rw (e, g) (no x)))
+    (λ e. by-code b lb (λ g. rw (e, g) (sym (and-true x))) (λ g. rw (e, g) (sym (and-twice x))) (λ g. rw (e, g) (sym (and-none x))))
     (λ e. by-code b lb (λ g. rw (e, g)) (λ g. rw (e, g)) (λ g. rw (e, g)))
-  where
-    same : (x : Bool) → x ≡ (x && true)
-    same true = refl
-    same false = refl
-
-    twice : (x : Bool) → x ≡ (x && x)
-    twice true = refl
-    twice false = refl
-
-    no : (x : Bool) → false ≡ (x && false)
-    no true = refl
-    no false = refl
 
 all-turn : (i e : ℕ) (f : ℕ → Bool) → i < e → all i e f ≡ (f i && all (i + 1) e f)
 all-turn i e f h = test (f i) (λ t. all-hit i e f h t ∙ ap (λ z. z && all (i + 1) e f) (sym t)) (λ t. all-miss i e f h t ∙ ap (λ z. z && all (i + 1) e f) (sym t))
@@ -94,17 +76,9 @@ module _ {whole : Bool → Bool} {f : ℕ → ℕ} where
     to-come = λ there. w .to-come there ∙
         (ap (λ z. code-closed worst there && z) (all-turn j to (λ i. code-closed (f i) there) l) ∙
         (ap (λ z. code-closed worst there && (code-closed z there && all (j + 1) to (λ i. code-closed (f i) there))) (sym e) ∙
-        (assoc (code-closed worst there) (code-closed k there) _ ∙
+        (and-joined (code-closed worst there) (code-closed k there) _ ∙
         ap (λ z. z && all (j + 1) to (λ i. code-closed (f i) there)) (sym (ap (λ z. code-closed z there) g ∙ closed-worse worst k there (w .most) m)))));
   }
-    where
-      assoc : (a b c : Bool) → (a && (b && c)) ≡ ((a && b) && c)
-      assoc true b c = refl
-      assoc false b c = refl
 
   pub worst-over : (to j worst : ℕ) → Worst whole f to j worst → to ≤ j → (there : Bool) → whole there ≡ code-closed worst there
-  worst-over to j worst w l there = w .to-come there ∙ (ap (λ z. code-closed worst there && z) (all-end j to (λ i. code-closed (f i) there) l) ∙ same (code-closed worst there))
-    where
-      same : (x : Bool) → (x && true) ≡ x
-      same true = refl
-      same false = refl
+  worst-over to j worst w l there = w .to-come there ∙ (ap (λ z. code-closed worst there && z) (all-end j to (λ i. code-closed (f i) there) l) ∙ and-true (code-closed worst there))

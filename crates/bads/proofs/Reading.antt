@@ -8,15 +8,12 @@ use borrow.Author.Tests.{eq-eqb, ne-eqb}
 use Rattle.model.specs.Words.{Columns, left, right}
 use Rattle.model.specs.Reader.{Grammar, complete, first-wrong}
 use Rattle.model.proofs.Reader.{by-option, read-none, read-end, read-stop, read-go}
+use Rattle.model.proofs.Index.{turn}
 use Rattle.bads.specs.Reading.{row-step, wrong-from}
 
 map-none : {A B : Type 0} (f : A → B) (x : Option A) → Option·map f x ≡ none → x ≡ none
 map-none f none h = refl
 map-none f (some a) h = absurd (Option·some-ne-none (f a) h)
-
--- n rows are left behind row r
-left-over : (r e : ℕ) → r < e → e - r ≡ suc (e - (r + 1))
-left-over r e h = omega arith
 
 module _ {Item : Type 0} (step : Grammar Item) (rows : Columns) where
   pub wrong-start : (items : List Item) → first-wrong step rows items ≡ wrong-from step rows items 0
@@ -28,7 +25,7 @@ module _ {Item : Type 0} (step : Grammar Item) (rows : Columns) where
   unfolding wrong-from row-step complete
   wrong-stop [] r h e = rw (read-none step rows (rows .size - r) r, ne-eqb r (rows .size) (λ z. omega arith), complete)
   wrong-stop (item ∷ items) r h e =
-      rw (left-over r (rows .size) h, read-stop step rows (rows .size - (r + 1)) r item items (map-none _ _ e))
+      rw (turn r (rows .size) h, read-stop step rows (rows .size - (r + 1)) r item items (map-none _ _ e))
 
   -- behind a row that is taken, reading goes on
   pub wrong-go : (items more : List Item) (r : ℕ) → r < rows .size → row-step step items (left rows r) (right rows r) ≡ some more → wrong-from step rows items r ≡ wrong-from step rows more (r + 1)
@@ -39,7 +36,7 @@ module _ {Item : Type 0} (step : Grammar Item) (rows : Columns) where
       (λ z. absurd (Option·none-ne-some more (rw z at e)))
       (λ i z.
       let q : i ++ items ≡ more = Option·some-injective (i ++ items) more (rw z at e) in
-      rw (left-over r (rows .size) h, read-go step rows (rows .size - (r + 1)) r item items i z, q))
+      rw (turn r (rows .size) h, read-go step rows (rows .size - (r + 1)) r item items i z, q))
 
   -- where the rows end, nothing is to come, or the row past them is missing
   pub wrong-none : (r : ℕ) → r ≡ rows .size → wrong-from step rows [] r ≡ none

@@ -19,6 +19,7 @@ use Rattle.model.specs.Letters.{head-count}
 use Rattle.model.specs.Tables.{Tables, tables, entries}
 use Rattle.model.specs.Counters.{letter-count}
 use Rattle.model.specs.Rules.{from-each, letters-read}
+use Rattle.bits.proofs.Rows.{filled-to}
 use Rattle.system_letters.specs.Letters.{digits, class-at, letter-at, letter-width, digit-set, allowed-set, Letter-sets, Found}
 use Rattle.rules.specs.Derived.{read-set, owner-at, Reads}
 use Rattle.branch_letters.specs.Kept.{Owners-room, Kept-for}
@@ -42,10 +43,6 @@ module _ (ws : List ℕ) (s : Sizes) where
   pub kept-for : (letters : List ℕ) (c q x k at w v : ℕ) → x < s .states → k ≡ left (tables ws s .states) x → k ≡ c → at ≡ owner-at (program ws s) (tables ws s) x → w ≡ getD letters at 0 → v ≡ q + 1 → eqb w v ≡ true → Kept-for (program ws s) (tables ws s) letters c q x
   unfolding tables entries columns
   kept-for letters c q x k at w v low e f g h i z = record { low = low; class = sym e ∙ f; owner = ap (λ j. getD letters j 0) (sym g) ∙ (sym h ∙ (eqb-true w v z ∙ i)) }
-
--- the words put, all of them
-pub filled-done : (u t : List ℕ) (p z w : ℕ) (f : ℕ → ℕ) → Filled u t p z f → z ≡ w → Filled u t p w f
-filled-done u t p z w f r e = rw e at r
 
 -- so much stands before the words of set b
 pub before : (a b w j : ℕ) → a < b → j < w → a * w + j < b * w

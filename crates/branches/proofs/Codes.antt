@@ -12,9 +12,8 @@ use Rattle.model.specs.Limits.{maxDepth}
 use Rattle.model.specs.Heads.{branch-body}
 use Rattle.model.specs.Tables.{Tables, each, some-of, State, onward, has-state}
 use Rattle.model.specs.Closed.{may-match, may-take, names-hold, branches-closed}
-use Rattle.model.proofs.Logic.{test, true-false, and-left, and-right, and-intro, implies-elim, implies-intro}
+use Rattle.model.proofs.Logic.{test, true-false, and-left, and-right, and-intro, implies-elim, implies-intro, both}
 use Rattle.model.proofs.Exact.Members.{some-of-iff}
-use Rattle.bits.proofs.Loops.{both}
 use Rattle.values.proofs.Members.{each-at, at-each, each-none}
 use Rattle.matching.specs.Patterns.{code, values-code}
 use Rattle.branches.specs.Taken.{branch-code, code-closed, codes-closed}

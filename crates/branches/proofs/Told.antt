@@ -14,22 +14,17 @@ use Rattle.model.specs.Limits.{maxDepth}
 use Rattle.model.specs.Heads.{branch-body, branch-rows}
 use Rattle.model.specs.Tables.{Tables, each, some-of, State, onward, has-state}
 use Rattle.model.specs.Closed.{may-match, may-take, names-hold, branches-closed}
-use Rattle.model.proofs.Logic.{true-false, test, or-false-left, or-false-right}
+use Rattle.model.proofs.Logic.{true-false, test, or-false-left, or-false-right, and-none}
 use Rattle.bits.specs.Bits.{odd, bit}
 use Rattle.bits.proofs.Bits.{bit-suc}
 use Rattle.values.specs.Values.{width, Values}
 use Rattle.matching.specs.Patterns.{code, values-code}
-use Rattle.matching.proofs.Coding.{code-most}
-use Rattle.matching.proofs.Filling.{code-some}
+use Rattle.matching.proofs.Coding.{code-some, code-most}
 use Rattle.branches.specs.Taken.{branch-code, code-closed, codes-closed, lacking, code-bits, lacks, taken-bits, bodies-closed, Is-taken, Bits-told}
 use Rattle.branches.proofs.Codes.{codes-each}
 
 double : (n : ℕ) → 2 ^ suc n ≡ 2 * 2 ^ n
 double n = omega arith
-
-and-no : (b : Bool) → (b && false) ≡ false
-and-no true = refl
-and-no false = refl
 
 -- the first of the bits, and the others
 even : (x : ℕ) → bit (0 + 2 * x) 0 ≡ false
@@ -100,7 +95,7 @@ module _ (f : ℕ → ℕ) (most : (q : ℕ) → f q ≤ 2) where
     lacking-open [] e = true-false e refl
     lacking-open (q ∷ qs) e = test (eqb (f q) 2)
         (λ z. let two = eqb-true (f q) 2 z in rw two)
-        (λ z. ap (λ x. code-closed (f q) (has-state t (onward s (branch-body p q))) && x) (lacking-open qs (rw z at e)) ∙ and-no (code-closed (f q) (has-state t (onward s (branch-body p q)))))
+        (λ z. ap (λ x. code-closed (f q) (has-state t (onward s (branch-body p q))) && x) (lacking-open qs (rw z at e)) ∙ and-none (code-closed (f q) (has-state t (onward s (branch-body p q)))))
 
     bodies-codes : (qs : List ℕ) → lacking f qs ≡ false → codes-closed p t s f qs ≡ bodies-closed p t s (code-bits f 1 qs) qs
     unfolding lacking codes-closed bodies-closed code-closed

@@ -16,7 +16,8 @@ use Rattle.model.specs.Heads.{branch-body, branch-rows}
 use Rattle.model.specs.Tables.{Tables, tables, entries, State, onward, state-index, has-state}
 use Rattle.model.proofs.Parse.Spans.{Spans, spans-past, spans-takes, spans-split}
 use Rattle.bits.specs.Bits.{odd}
-use Rattle.positions.specs.Positions.{Run, Ends}
+use Rattle.layout.specs.Tables.{Ends}
+use Rattle.positions.specs.Positions.{Run}
 use Rattle.values.specs.Values.{width, Values}
 use Rattle.matching.specs.Patterns.{values-code, Pattern, Standing, Is-values-code}
 use Rattle.matching.proofs.Coding.{code-most}

@@ -13,7 +13,7 @@ use Rattle.model.specs.Limits.{omega-limit}
 use Rattle.model.specs.Index.{all}
 use Rattle.model.specs.Markings.{Marking, readable, usable, fire}
 use Rattle.model.specs.Ceilings.{allowed, highest, under}
-use Rattle.model.proofs.Logic.{test, true-false, and-left, and-right, and-intro, or-cases, or-left, or-right, not-passes, not-fails}
+use Rattle.model.proofs.Logic.{test, true-false, and-left, and-right, and-intro, or-cases, or-left, or-right, not-passes, not-fails, not-not}
 use Rattle.model.proofs.Index.{all-intro, all-elim}
 use Rattle.bits.specs.Bits.{member}
 use Rattle.masks.specs.declared.Mask.{Mask}
@@ -404,10 +404,6 @@ module _ (limits : List ℕ) (ceilings n k : ℕ) (σ : Step) where
       (λ z. a .more j (omega arith) in-to z (u .leaves) (takes-none σ (σ .to) (u .quiet)))
       (λ two z. b two .more j (omega arith) h z (u .not-from two) (takes-none σ (σ .other) (u .quiet)))
       t y inside
-
-not-not : (b : Bool) → not (not b) ≡ b
-not-not true = refl
-not-not false = refl
 
 pub surely-some : (a b s some : Bool) → a ≡ s → a ≡ true → b ≡ not some → not b ≡ (s && some)
 surely-some a b s some e t n = rw (n, ← e, t) (not-not some)

@@ -5,15 +5,7 @@ use mathlib.Core.Bool.{Bool, true, false, _||_}
 use borrow.Author.Tests.{eq-eqb, ne-eqb}
 use Rattle.model.specs.Limits.{omega-limit}
 use Rattle.model.specs.Ceilings.{Ceiling-limits, highest}
-use Rattle.model.proofs.Logic.{true-false}
-
-pub or-first : (a b : Bool) → a ≡ true → a ≡ (a || b)
-or-first true b h = refl
-or-first false b h = true-false h refl
-
-pub or-second : (a b : Bool) → a ≡ false → b ≡ (a || b)
-or-second true b h = true-false refl h
-or-second false b h = refl
+use Rattle.model.proofs.Logic.{true-false, or-first, or-second}
 
 pub highest-omega : (b : Ceiling-limits) (x l : ℕ) → l ≡ b x → l ≡ omega-limit → omega-limit + 1 ≡ highest b x
 unfolding highest

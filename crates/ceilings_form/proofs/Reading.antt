@@ -16,7 +16,7 @@ use Rattle.model.specs.Reader.{Read, past, wrong, fits, read, complete, first-w
 use Rattle.model.specs.Ceilings.{Ahead, from-counter, ceiling-step, ceilings-ahead}
 use Rattle.model.specs.Demands.{Within-limits}
 use Rattle.model.proofs.Logic.{test, true-false, and-left, and-right}
-use Rattle.model.proofs.Reader.{read-none, read-end, read-stop, read-go}
+use Rattle.model.proofs.Reader.{read-none, read-end, read-stop, read-go, none-complete, some-complete}
 use Rattle.ceilings_form.specs.declared.entries.Form.the-variants.{Right, Wrong}
 use Rattle.ceilings_form.specs.Parts.{told}
 use Rattle.model.specs.Weights.{bound-step}
@@ -85,14 +85,6 @@ unfolding stack
 whole-stack zero = refl
 whole-stack (suc k) = refl
 
-behind-end : (n i : ℕ) → i < n → complete n (past i) ≡ some i
-unfolding complete
-behind-end n i h = rw (ne-eqb i n (λ z. omega arith), complete)
-
-at-end : (n : ℕ) → complete n (past n) ≡ none
-unfolding complete
-at-end n = rw (eq-eqb n n refl, complete)
-
 -- the part of ceilings stands low among the numbers
 pub begins-low : (s : Sizes) → Within-limits present s → ceilings-at s + 2 + s .entries < 2 ^ 32
 unfolding ceilings-at
@@ -127,11 +119,11 @@ module _ (n most : ℕ) (entries : Columns) where
   -- an entry after the last that closes
   wrong-behind : (e least count : ℕ) → e < size → count ≡ 0 → wrong-from e least count ≡ some e
   unfolding wrong-from reading stack
-  wrong-behind e least count h z = rw (z, stack) (ap (complete size) (read-none (bound-step n most) entries (size - e) e) ∙ behind-end size e h)
+  wrong-behind e least count h z = rw (z, stack) (ap (complete size) (read-none (bound-step n most) entries (size - e) e) ∙ some-complete size e h)
 
   wrong-none : (e least count : ℕ) → e ≡ size → count ≡ 0 → wrong-from e least count ≡ none
   unfolding wrong-from reading stack
-  wrong-none e least count z c = rw (c, stack) (ap (complete size) (read-none (bound-step n most) entries (size - e) e) ∙ rw z (at-end size))
+  wrong-none e least count z c = rw (c, stack) (ap (complete size) (read-none (bound-step n most) entries (size - e) e) ∙ rw z (none-complete size))
 
   module _ (e least count : ℕ) where
     -- what is open says to entry e

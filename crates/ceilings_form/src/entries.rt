@@ -3,13 +3,13 @@
 use model::OMEGA;
 use model::Sizes;
 use model::Verdict;
+use parts::ceilings_at;
 use program::rows::cell;
 use program::rows::column;
 ghost use mathlib.Core.Path.{_≡_};
 ghost use Prim.Native.Nat.{_≤_};
 ghost use Rattle.model.specs.Limits.{present, maxCounters};
 ghost use Rattle.model.specs.Words.{left, right};
-ghost use Rattle.model.specs.Message.{ceilings-at};
 ghost use Rattle.model.specs.Reader.{first-wrong};
 ghost use Rattle.model.specs.Ceilings.{ceiling-entries, ceilings-ahead, ceiling-check};
 ghost use Rattle.model.specs.Verify.{answer};
@@ -86,14 +86,6 @@ pub fn first_wrong(ws: &[u16], part: Part, count: usize, most: usize, n: usize) 
         return Form::Wrong(part.size);
     }
     Form::Right
-}
-
-// The word at which the ceilings part begins.
-pub fn ceilings_at(s: Sizes) -> usize
-    requires { ⌜ Within-limits present s ⌝ }
-    ensures { λ r. ⌜ r ≡ ceilings-at s ⌝ }
-{
-    9 + 2 * (s.rows + s.badrows + s.flows + s.mails + s.states) + s.states
 }
 
 // Where the entries of the ceilings stand.

@@ -13,10 +13,10 @@ use Rattle.model.specs.Tables.{Tables, state-at}
 use Rattle.model.specs.Rules.{Effect, quiet, reads, puts, starts, Rule, rule, state-rules, rules}
 use Rattle.model.specs.Markings.{Marking, readable, usable, fire}
 use Rattle.model.specs.Ceilings.{Ceilings, ceilings-of, allowed, highest, under, under-some, leads-out}
-use Rattle.model.proofs.Logic.{test, or-false}
+use Rattle.model.proofs.Logic.{test, or-false, or-none, both, or-joined}
 use Rattle.model.proofs.Index.{any-end, any-hit, any-miss, any-elim, any-intro, none-any, all-intro, all-elim, gather-end, gather-turn, gather-intro}
 use Rattle.model.proofs.Bounded.Fire.{Shaped}
-use Rattle.bits.proofs.Loops.{both, any-split}
+use Rattle.bits.proofs.Loops.{any-split}
 use Rattle.steps.specs.declared.Step.{Step}
 use Rattle.steps.specs.Steps.{effect-of, rule-of-step, effect-kind}
 use Rattle.steps.proofs.Stepping.{fire-alone}
@@ -43,25 +43,16 @@ any-same a e f g h =
 pub any-skip : (a b e : ℕ) (f : ℕ → Bool) → a ≤ b → b ≤ e → ((y : ℕ) → a ≤ y → y < b → f y ≡ false) → any a e f ≡ any b e f
 any-skip a b e f l h none = any-split a b e f l h ∙ rw (none-any a b f none)
 
--- rules one after the other: one of them leads out
-or-assoc : (a b c : Bool) → (a || b) || c ≡ a || (b || c)
-or-assoc true b c = refl
-or-assoc false b c = refl
-
-or-nothing : (a : Bool) → (a || false) ≡ a
-or-nothing true = refl
-or-nothing false = refl
-
 module _ (bs : Ceilings) (m : Marking) where
   leads-one : (ρ : Rule) → leads-out bs (ρ ∷ []) m ≡ escapes bs ρ m
   unfolding leads-out escapes
-  leads-one ρ = or-nothing _
+  leads-one ρ = or-none _
 
   leads-append : (xs ys : List Rule) → leads-out bs (xs ++ ys) m ≡ leads-out bs xs m || leads-out bs ys m
   unfolding leads-out escapes
   leads-append [] ys = refl
   leads-append (x ∷ xs) ys =
-      ap (λ b. escapes bs x m || b) (leads-append xs ys) ∙ sym (or-assoc (escapes bs x m) (leads-out bs xs m) (leads-out bs ys m))
+      ap (λ b. escapes bs x m || b) (leads-append xs ys) ∙ or-joined (escapes bs x m) (leads-out bs xs m) (leads-out bs ys m)
 
   -- none of them does
   pub leads-none : (ρs : List Rule) → ((ρ : Rule) → List·Memᴰ ρ ρs → escapes bs ρ m ≡ false) → leads-out bs ρs m ≡ false

@@ -16,10 +16,9 @@ use Rattle.model.specs.Tables.{Tables, state-at}
 use Rattle.model.specs.Rules.{Rule, state-rules}
 use Rattle.model.specs.Markings.{Marking, usable, fire}
 use Rattle.model.specs.Ceilings.{allowed, highest, under, under-some, leads-out}
-use Rattle.model.proofs.Logic.{test, and-left, and-right, and-intro, or-left, or-right, or-cases}
+use Rattle.model.proofs.Logic.{test, and-left, and-right, and-intro, or-left, or-right, or-cases, and-none, not-not, both}
 use Rattle.model.proofs.Index.{any-elim, any-intro, all-intro, all-elim}
 use Rattle.bits.specs.Bits.{member, Set-is}
-use Rattle.bits.proofs.Loops.{both, not-not}
 use Rattle.masks.specs.declared.Mask.{Mask}
 use Rattle.masks.specs.Masks.{has}
 use Rattle.steps.specs.declared.Step.{Step}
@@ -60,10 +59,6 @@ unfolding allowed
 unbounded-allows l c small h =
     or-left (eqb l omega-limit) _
     (⊎-elim (λ e. e) (λ e. eq-eqb l omega-limit (let z = leb-true omega-limit l e in omega arith)) (or-cases (eqb l omega-limit) _ h))
-
-and-none : (b : Bool) → (b && false) ≡ false
-and-none true = refl
-and-none false = refl
 
 module _ (limits : List ℕ) (ceilings n k i : ℕ) (left : Mask) (l : Left limits ceilings n k i left) (words : (z : ℕ) → getD limits z 0 < 65536) where
   -- where a ceiling is open it allows one more than the highest: below `low` it has no bound; behind it ceiling k has no

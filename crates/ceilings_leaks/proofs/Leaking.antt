@@ -8,8 +8,10 @@ use mathlib.Core.Bool.{Bool, true, false, not, _&&_, _||_}
 use mathlib.Core.List.{List, [], _∷_, List·Memᴰ, List·Memᴰ·eq-of-singleton}
 use lib.ListN.{length, getD}
 use borrow.Author.Tests.{eq-eqb, ne-eqb}
-use Rattle.model.specs.Limits.{omega-limit}
+use Rattle.model.specs.Limits.{omega-limit, present}
 use Rattle.model.specs.declared.Sizes.{Sizes}
+use Rattle.model.specs.Demands.{Within-limits}
+use Rattle.parts.specs.Parts.{Low-sizes}
 use Rattle.model.specs.declared.Verdict.the-variants.{Safe, Leak}
 use Rattle.model.specs.Index.{any, first}
 use Rattle.model.specs.Words.{left, right, columns}
@@ -22,12 +24,11 @@ use Rattle.model.specs.Markings.{Marking, usable}
 use Rattle.model.specs.Verdict.{unless}
 use Rattle.model.specs.Ceilings.{Ceilings, ceilings-of, ceiling-entries, highest, under-some, leads-out, leak-check}
 use Rattle.model.specs.Verify.{answer}
-use Rattle.model.proofs.Logic.{test, and-left, and-right, and-intro}
+use Rattle.model.proofs.Logic.{test, and-left, and-right, and-intro, and-none, both}
 use Rattle.model.proofs.Index.{any-end, any-hit, any-miss, any-elim, any-intro, none-any, first-is, first-hit, first-miss, first-end, first-unique, gather-intro, gather-elim}
 use Rattle.model.proofs.Bounded.Fire.{Shaped, Apart}
 use Rattle.model.proofs.Bounded.Shaped.{rules-shaped}
 use Rattle.lists.specs.Ready.{Ready}
-use Rattle.bits.proofs.Loops.{both}
 use Rattle.masks.specs.declared.Mask.{Mask}
 use Rattle.masks.specs.Masks.{has}
 use Rattle.steps.specs.declared.Step.{Step}
@@ -50,9 +51,9 @@ use Rattle.ceilings_letters.proofs.Holding.{leads-asked, asked-member}
 use Rattle.ceilings_leaks.specs.Leaks.{Rules-seen}
 use Rattle.ceilings_groups.proofs.Leading.{any-skip, leads-none, leads-states, leads-listed, leads-same, listed-member}
 
-and-none : (b : Bool) → (b && false) ≡ false
-and-none true = refl
-and-none false = refl
+-- sizes within their limits are low enough to place the parts
+pub low-sizes : (s : Sizes) → Within-limits present s → Low-sizes s
+low-sizes s h = omega arith
 
 shaped-step : (n : ℕ) (σ : Step) → σ .kind ≤ 3 → Shaped n (rule-of-step σ) → Step-apart n σ
 unfolding rule-of-step effect-of

@@ -7,7 +7,7 @@ use mathlib.Core.Bool.{Bool, true, false, not, _&&_, _||_}
 use mathlib.Core.List.{List, [], _∷_, List·Memᴰ, List·Memᴰ·head, List·Memᴰ·tail}
 use lib.Dec.{ltb}
 use borrow.Author.Tests.{lt-ltb, le-ltb, eq-eqb, ne-eqb, ltb-true, ltb-false}
-use Rattle.model.proofs.Logic.{test}
+use Rattle.model.proofs.Logic.{test, or-none}
 use Rattle.bits.specs.Bits.{member, Put, Set-is}
 use Rattle.model.specs.declared.Sizes.{Sizes}
 use Rattle.model.specs.Words.{columns}
@@ -65,16 +65,12 @@ module _ (states words : ℕ) (f : ℕ → Bool) where
             rw (e, some, eq-eqb y (x - states) z, lt-ltb x (x + 1) (omega arith)) (or-true (member u words 0 y))
         | no n ↦
             let z : y ≡ x - states → ⊥ = λ w. n (omega arith) in
-            rw (ne-eqb y (x - states) z) (or-false (member u words 0 y) ∙ (h y l ∙ ap (λ b. b && f (states + y)) (same-below (states + y) x n)))
+            rw (ne-eqb y (x - states) z) (or-none (member u words 0 y) ∙ (h y l ∙ ap (λ b. b && f (states + y)) (same-below (states + y) x n)))
       ]
     where
       or-true : (a : Bool) → (a || true) ≡ true
       or-true true = refl
       or-true false = refl
-
-      or-false : (a : Bool) → (a || false) ≡ a
-      or-false true = refl
-      or-false false = refl
 
   pub held-all : (n x : ℕ) (within : List ℕ) → n ≤ x → n ≤ states + 64 * words → Held-below states words f x within → (y : ℕ) → states + y < n → member within words 0 y ≡ f (states + y)
   held-all n x within upto room h y l = h y (omega arith) ∙ rw (lt-ltb (states + y) x (omega arith))

@@ -29,7 +29,7 @@ ghost use Rattle.model.specs.Rows.{program};
 ghost use Rattle.model.specs.Tables.{tables};
 ghost use Rattle.model.specs.Counters.{counter-count};
 ghost use Rattle.lists.specs.Ready.{Ready};
-ghost use Rattle.positions.specs.Positions.{Ends};
+ghost use Rattle.layout.specs.Tables.{Ends};
 ghost use Rattle.system_letters.specs.Letters.{letter-width};
 ghost use Rattle.ceilings_masks.specs.Compared.{takes-more};
 ghost use Rattle.ceilings_covers.specs.Covers.{Beside, Left};

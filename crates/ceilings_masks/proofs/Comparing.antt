@@ -11,7 +11,7 @@ use lib.ListN.{getD, length}
 use borrow.Author.Tests.{eq-eqb, ne-eqb, le-leb, lt-leb, lt-ltb, le-ltb, leb-true, leb-false}
 use Rattle.model.specs.Limits.{omega-limit}
 use Rattle.model.specs.Ceilings.{allowed}
-use Rattle.model.proofs.Logic.{test}
+use Rattle.model.proofs.Logic.{test, and-none, or-none}
 use Rattle.bits.specs.Bits.{bit, member, Set-is}
 use Rattle.bits.proofs.Bits.{bit-or, bit-one, bit-zero}
 use Rattle.masks.specs.declared.Mask.{Mask}
@@ -26,14 +26,6 @@ pub record Word-upto (w e : ℕ) (f : ℕ → Bool) : Type 0 where
 
 pub word-start : (f : ℕ → Bool) → Word-upto 0 0 f
 word-start f = record { set = λ j h. absurd (omega arith); unset = λ j h. bit-zero j }
-
-or-none : (b : Bool) → (b || false) ≡ b
-or-none true = refl
-or-none false = refl
-
-and-none : (b : Bool) → (b && false) ≡ false
-and-none true = refl
-and-none false = refl
 
 and-always : (a b : Bool) → b ≡ true → a ≡ (a && b)
 and-always true b h = sym h

@@ -29,14 +29,12 @@ use Rattle.model.proofs.Exact.Checks.{unless-none}
 use Rattle.model.proofs.Logic.{chosen-true, chosen-false}
 use Rattle.model.proofs.Exact.Entries.{ceiling-none, weight-none}
 use Rattle.model.proofs.Numbering.Within.{within-exactly}
-use Rattle.program.specs.Rows.{from}
-use Rattle.layout.specs.Tables.{After-table}
 use Rattle.lists.specs.Lists.{Starts}
 use Rattle.lists.specs.Ready.{Ready}
-use Rattle.positions.specs.Positions.{Ends}
+use Rattle.layout.specs.Tables.{Ends}
 use Rattle.positions.specs.Branches.{Branch-bits}
 use Rattle.values.specs.Values.{width, Empty}
-use Rattle.matching.specs.Patterns.{Fitting-sets}
+use Rattle.matching_names.specs.Names.{Fitting-sets}
 use Rattle.evidence.specs.Whole.{Parts-whole}
 use Rattle.ceilings_form.specs.Parts as ceilings
 use Rattle.bads_rows.specs.Items.{Bads-in-form}
@@ -64,17 +62,6 @@ ready ws s w p e =
 
 pub ceilings-whole : (ws : List ℕ) (s : Sizes) → Parts-whole ws s → ceilings.Whole ws s
 ceilings-whole ws s w = record { limits = w .limits; held = w .held }
-
--- the table of the layout
-module _ (ws : List ℕ) (s : Sizes) (table : List ℕ) (room : s .rows ≤ length table) where
-  pub ends : After-table (program ws s) table → Ends (program ws s) table
-  unfolding from program columns
-  ends after =
-      record {
-        room = room;
-        after-expression = λ r e h. after .expressions r e (omega arith) h;
-        after-pattern = λ q d e h. after .patterns d q e (omega arith) h;
-      }
 
 -- the bounds in form are those that the message has
 pub numbered : (ws : List ℕ) (s : Sizes) (n : ℕ) → Formed ws s n → s .lines ≡ 0 → Numbered ws s n

@@ -21,7 +21,7 @@ ghost use Rattle.model.specs.Limits.{present};
 ghost use Rattle.model.specs.Verify.{message-check, answer};
 ghost use Rattle.evidence.specs.Whole.{Parts-whole};
 ghost use Rattle.system_space.specs.Space.{words-after};
-ghost use Rattle.matching.specs.Patterns.{Unfitted};
+ghost use Rattle.matching_names.specs.Names.{Unfitted};
 ghost use Rattle.stages.specs.Order.{taken};
 
 // Refusals 3 to 8, 22, 9 and all behind, one after the other; after none the listing is written.

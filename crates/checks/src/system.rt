@@ -6,7 +6,7 @@ use kept_letters::fill_reads;
 use letter_codes::fill_codes;
 use letter_sets::fill_letters;
 use mailed::counters_verdict;
-use matching::names::name_width;
+use matching_names::name_width;
 use model::MAX_ARITY;
 use model::MAX_COUNTERS;
 use model::OTHER_HEADS;

@@ -12,10 +12,10 @@ use Rattle.model.specs.Closed.{open-check}
 use Rattle.model.specs.Verify.{answer}
 use Rattle.lists.specs.Lists.{Starts}
 use Rattle.lists.specs.Ready.{Ready}
-use Rattle.positions.specs.Positions.{Ends}
+use Rattle.layout.specs.Tables.{Ends}
 use Rattle.positions.specs.Branches.{Branch-bits}
 use Rattle.values.specs.Values.{width, Empty, Room}
-use Rattle.matching.specs.Patterns.{Unfitted, Fitting-sets}
+use Rattle.matching_names.specs.Names.{Unfitted, Fitting-sets}
 
 -- a word for each name and one behind, for each constructor, and for each row
 pub record Indexed (s : Sizes) (starts firsts nexts : List ℕ) : Type 0 where

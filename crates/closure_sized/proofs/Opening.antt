@@ -9,14 +9,14 @@ use Rattle.model.specs.declared.Sizes.{Sizes}
 use Rattle.model.specs.Limits.{maxConstructors}
 use Rattle.model.specs.Rows.{program}
 use Rattle.lists.specs.Ready.{Ready}
-use Rattle.positions.specs.Positions.{Ends}
+use Rattle.layout.specs.Tables.{Ends}
 use Rattle.bits.specs.Bits.{bit, member}
 use Rattle.bits.proofs.Bits.{bit-zero}
 use Rattle.rooms.specs.Cleared.{Cleared}
 use Rattle.values.specs.Values.{width, Empty, Room}
 use Rattle.closure.specs.Lent as lent
 use Rattle.closure.specs.Lent.{Indexed, Unsettled, Openable}
-use Rattle.matching.specs.Patterns.{Unfitted}
+use Rattle.matching_names.specs.Names.{Unfitted}
 
 -- a cleared table holds empty sets
 pub empty-sets : (n w : ℕ) (t : List ℕ) → Cleared n t → Empty w t

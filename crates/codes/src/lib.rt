@@ -7,7 +7,7 @@ ghost use Rattle.model.specs.Rows.{program};
 ghost use Rattle.model.specs.Tables.{tables};
 ghost use Rattle.lists.specs.Lists.{Starts};
 ghost use Rattle.lists.specs.Ready.{Ready};
-ghost use Rattle.positions.specs.Positions.{Ends};
+ghost use Rattle.layout.specs.Tables.{Ends};
 ghost use Rattle.values.specs.Values.{Flow-sets, Mail-sets};
 ghost use Rattle.matching.specs.Patterns.{Matches};
 ghost use Rattle.settled.specs.Settled.{Settled};

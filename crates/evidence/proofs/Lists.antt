@@ -8,12 +8,11 @@ use borrow.Author.Tests.{ne-eqb}
 use Rattle.model.specs.Keys.{below}
 use Rattle.model.specs.Words.{Columns, left, right}
 use Rattle.model.specs.Rows.{Program}
-use Rattle.model.proofs.Logic.{not-passes, not-fails}
+use Rattle.model.proofs.Logic.{not-passes, not-fails, and-first, and-second}
 use Rattle.model.proofs.Index.{first-hit, first-miss, first-end}
 use Rattle.lists.specs.Lists.{key-at}
 use Rattle.evidence.specs.declared.entries.Table.{Table}
 use Rattle.evidence.specs.Ranges.{legal-left, legal-rest, legal, ascends, in-place, misplaced}
-use Rattle.evidence.proofs.Tags.{and-first, and-second}
 
 -- t is the list that the match has told; x is what the code gives
 module _ (p : Program) (t u : Table) (told : t ≡ u) (a b d : ℕ) (x : Bool) where

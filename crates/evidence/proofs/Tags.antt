@@ -10,28 +10,9 @@ use borrow.Author.Tests.{eq-eqb, ne-eqb, le-leb, lt-leb}
 use Rattle.model.specs.Rows.{Program, size, tag, is-head}
 use Rattle.model.specs.Heads.{is-class, is-function}
 use Rattle.model.specs.Tables.{is-value}
-
--- `a || b` and `a && b` as code computes them: the second part only where the first leaves it open
-pub or-first : (a b : Bool) → a ≡ true → a ≡ (a || b)
-or-first a b h = rw h
-
-pub or-second : (a b : Bool) → a ≡ false → b ≡ (a || b)
-or-second a b h = rw h
-
-pub and-first : (a b : Bool) → a ≡ false → a ≡ (a && b)
-and-first a b h = rw h
-
-pub and-second : (a b : Bool) → a ≡ true → b ≡ (a && b)
-and-second a b h = rw h
+use Rattle.model.proofs.Logic.{and-first, and-second}
 
 module _ (p : Program) (r t : ℕ) (tag-is : t ≡ tag p r) where
-  -- a row with tag k, or the end of the rows: a class is such, and a return
-  pub with-tag : (k : ℕ) → t ≡ k → eqb t k ≡ (eqb (tag p r) k || eqb r (size p))
-  with-tag k h = rw (← tag-is) (or-first (eqb t k) (eqb r (size p)) (eq-eqb t k h))
-
-  pub without-tag : (k : ℕ) → (t ≡ k → ⊥) → eqb r (size p) ≡ (eqb (tag p r) k || eqb r (size p))
-  without-tag k h = rw (← tag-is) (or-second (eqb t k) (eqb r (size p)) (ne-eqb t k h))
-
   -- the arms of the match: 2 and 3, then 6 and 11, then any other
   pub value-low : 2 ≤ t → t < 4 → true ≡ is-value p r
   unfolding is-value is-function is-class

@@ -8,17 +8,8 @@ use model::TAG_SPAWN;
 use program::rows::tag;
 ghost use mathlib.Core.Path.{_≡_};
 ghost use Rattle.model.specs.Rows.{program, tag, is-head};
-ghost use Rattle.model.specs.Heads.{is-class};
 ghost use Rattle.model.specs.Tables.{is-value, is-return};
 ghost use Rattle.program.specs.Rows.{Whole};
-
-// A spawn row, or R for the starting process.
-pub fn is_class(ws: &[u16], s: Sizes, c: usize) -> bool
-    requires { ⌜ Whole (now ws) s ⌝ }
-    ensures { λ b. ⌜ b ≡ is-class (program (now (ws .entry)) s) c ⌝ }
-{
-    tag(ws, s, c) == TAG_SPAWN || c == s.rows
-}
 
 // A row with tag 2, a function, or a class.
 pub fn is_value(ws: &[u16], s: Sizes, v: usize) -> bool

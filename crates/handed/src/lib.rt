@@ -1,7 +1,7 @@
 // The part of a message that is handed on.
 use answers::is_safe;
 use model::Verdict;
-use sizes::bads_at;
+use parts::bads_at;
 use sizes::sizes_of;
 ghost use mathlib.Core.Path.{_≡_};
 ghost use Rattle.model.specs.Verify.{verdict, part-handed};

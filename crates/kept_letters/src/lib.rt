@@ -21,7 +21,7 @@ ghost use Rattle.model.specs.Limits.{maxCounters, maxDepth};
 ghost use Rattle.model.specs.Rows.{program, tag};
 ghost use Rattle.model.specs.Tables.{tables};
 ghost use Rattle.model.specs.Counters.{counter-count};
-ghost use Rattle.positions.specs.Positions.{Ends};
+ghost use Rattle.layout.specs.Tables.{Ends};
 ghost use Rattle.matching.specs.Patterns.{Pattern};
 ghost use Rattle.system_letters.specs.Letters.{Class-letters, Letter-sets};
 ghost use Rattle.rules.specs.Derived.{Reads};

@@ -20,7 +20,7 @@ use Rattle.program.specs.Rows.{from}
 use Rattle.program.proofs.Columns.{part-at, part-past}
 use Rattle.program.proofs.Reading.{from-none, from-stop, from-go, from-range, from-takes}
 use Rattle.program.proofs.Items.{give-says, bound-says, case-says, receive-says, no-head-says, branches-25, branches-other, pattern-named, pattern-31, pattern-32, pattern-other, pattern-none, lead-of, lead-none}
-use Rattle.layout.specs.Tables.{After-from, Ends-at, Rest-at, hop}
+use Rattle.layout.specs.Tables.{After-from, Ends-at, Rest-at, hop, Ends}
 use Rattle.layout.proofs.Visits.{parted}
 
 some-fits : (b : Bool) (xs ys : List Item) → fits b xs ≡ some ys → ys ≡ xs
@@ -325,3 +325,17 @@ pub hop-end : (table : List ℕ) (n q : ℕ) → n ≤ 0 → hop table n q ≡ q
 unfolding hop
 hop-end table zero q a = refl
 hop-end table (suc n) q a = absurd (omega arith)
+
+-- filled for all rows, and taken so
+pub ends-of : (p : Program) (table : List ℕ) → size p ≤ length table → After-from p 0 table → Ends p table
+unfolding from
+ends-of p table room a =
+    record {
+      room = room;
+      after-expression = λ r e h. a .expressions r e (omega arith) h;
+      after-pattern = λ q d e h. a .patterns d q e (omega arith) h;
+    }
+
+pub after-all : (p : Program) (table : List ℕ) → Ends p table → After-from p 0 table
+unfolding from
+after-all p table e = record { expressions = λ r q l h. e .after-expression r q h; patterns = λ d r q l h. e .after-pattern r d q h }

@@ -21,7 +21,7 @@ use Rattle.model.specs.Counters.{name-heads, heads-each, any-argument, letters-
 use Rattle.model.specs.Demands.{Below}
 use Rattle.model.proofs.Logic.{test, true-false}
 use Rattle.model.proofs.Numbering.Choices.{Chosen, gather-chosen, head-of-name, built-head, letter-from}
-use Rattle.model.proofs.Numbering.Counters.{tag-inside}
+use Rattle.model.proofs.Numbering.Counters.{tag-inside, plain-head}
 use Rattle.model.proofs.Parse.Lengths.{built-below}
 use Rattle.lists.specs.Ready.{Ready}
 use Rattle.lists.proofs.Facts.{rows-fit}
@@ -68,12 +68,6 @@ module _ {ws : List ℕ} {s : Sizes} (h : Ready ws s) where
   small-head : (x : ℕ) → x < head-count p → x < 128
   unfolding head-count program
   small-head x l = omega (arith, h .limits .constructors)
-
-  -- the head of a value that is not built is C or C + 1
-  plain-head : (v : ℕ) → eqb (tag p v) 2 ≡ false → p .constructors ≤ row-head p v
-  unfolding row-head row-shape head
-  plain-head v e =
-      test (is-function p v) (λ f. rw (e, f, row-shape) (omega arith)) (λ f. rw (e, f, row-shape) (omega arith))
 
   built-low : (v : ℕ) → tag p v ≡ 2 → row-head p v < p .constructors
   built-low v e = let z = built-head p t v e in omega (arith, built-below p (rows-fit h) v (tag-inside ws s v (omega arith)) e)
@@ -130,9 +124,9 @@ module _ {ws : List ℕ} {s : Sizes} (h : Ready ws s) where
       test (eqb (tag p v) 2)
       (λ x. test (eqb (tag p w) 2)
       (λ y. a .many x ∙ (ap (arity p) e ∙ sym (b .many y)))
-      (λ y. absurd (omega (arith, built-low v (eqb-true (tag p v) 2 x), plain-head w y))))
+      (λ y. absurd (omega (arith, built-low v (eqb-true (tag p v) 2 x), plain-head p w y))))
       (λ x. test (eqb (tag p w) 2)
-      (λ y. absurd (omega (arith, built-low w (eqb-true (tag p w) 2 y), plain-head v x)))
+      (λ y. absurd (omega (arith, built-low w (eqb-true (tag p w) 2 y), plain-head p v x)))
       (λ y. a .none x ∙ sym (b .none y)))
 
   pub code-order : (v w : ℕ) (k l : Letter) → List·Memᴰ k (letters-allowed p t v) → List·Memᴰ l (letters-allowed p t w) → Below k l → letter-code k < letter-code l

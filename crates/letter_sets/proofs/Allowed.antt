@@ -24,12 +24,12 @@ use Rattle.model.proofs.Index.{all-elim, all-intro}
 use Rattle.model.proofs.Keys.{getD-there}
 use Rattle.model.proofs.Numbering.Choices.{chosen-in, chosen-gather, gather-chosen, head-of-name, built-head, letters-built, letters-plain, Letter-of, letter-from}
 use Rattle.model.proofs.Numbering.Letters.{key-from}
-use Rattle.model.proofs.Numbering.Counters.{tag-inside}
+use Rattle.model.proofs.Numbering.Counters.{tag-inside, plain-head}
 use Rattle.model.proofs.Parse.Lengths.{built-below}
 use Rattle.lists.specs.Ready.{Ready}
 use Rattle.lists.proofs.Facts.{rows-fit}
 use Rattle.system_letters.specs.Letters.{Name-heads, letter-at}
-use Rattle.system_letters.proofs.Tables.{head-low}
+use Rattle.system_letters.proofs.Tables.{head-low, built-low}
 use Rattle.letter_codes.specs.Codes.{Coded}
 use Rattle.value_letters.specs.Letters.{value-arity}
 use Rattle.value_letters.proofs.Values.{arity-built, arity-plain, value-arguments, member-head}
@@ -44,11 +44,6 @@ count-built p v e = sym (arity-built p v (tag p v) (num p (v + 1)) (num p (num p
 count-plain : (p : Program) (v : ℕ) → eqb (tag p v) 2 ≡ false → value-arity p v ≡ 0
 count-plain p v e = sym (arity-plain p v (tag p v) refl (eqb-false (tag p v) 2 e))
 
--- a value that is not built has no constructor's head
-plain-head : (p : Program) (v : ℕ) → eqb (tag p v) 2 ≡ false → p .constructors ≤ row-head p v
-unfolding row-head row-shape head
-plain-head p v e = test (is-function p v) (λ f. rw (e, f, row-shape) (omega arith)) (λ f. rw (e, f, row-shape) (omega arith))
-
 no-heads : (xs : List ℕ) → length xs ≡ 0 → xs ≡ []
 no-heads [] e = refl
 no-heads (x ∷ xs) e = absurd (omega arith)
@@ -59,9 +54,6 @@ module _ {ws : List ℕ} {s : Sizes} (h : Ready ws s) where
 
   abbrev t : Tables
   t = tables ws s
-
-  built-low : (v : ℕ) → tag p v ≡ 2 → num p (v + 1) < p .constructors
-  built-low v e = built-below p (rows-fit h) v (tag-inside ws s v (omega arith)) e
 
   -- what letter y is: the head of some value of mail, and a head of each of that value's arguments
   pub record Known (y : ℕ) : Type 0 where
@@ -112,9 +104,9 @@ module _ {ws : List ℕ} {s : Sizes} (h : Ready ws s) where
       test (eqb (tag p u) 2)
       (λ y. let b = eqb-true (tag p u) 2 y in
       count-built p v a ∙ (ap (arity p) (sym (built-head p t v a) ∙ (e ∙ built-head p t u b)) ∙ sym (count-built p u b)))
-      (λ y. absurd (omega (arith, plain-head p u y, built-head p t v a, built-low v a))))
+      (λ y. absurd (omega (arith, plain-head p u y, built-head p t v a, built-low h v a))))
       (λ x. test (eqb (tag p u) 2)
-      (λ y. let b = eqb-true (tag p u) 2 y in absurd (omega (arith, plain-head p v x, built-head p t u b, built-low u b)))
+      (λ y. let b = eqb-true (tag p u) 2 y in absurd (omega (arith, plain-head p v x, built-head p t u b, built-low h u b)))
       (λ y. count-plain p v x ∙ sym (count-plain p u y)))
 
   -- each number of a letter is a head

@@ -9,7 +9,6 @@ use lib.ListN.{getD}
 use lib.Dec.{eqb}
 use borrow.Author.Tests.{eqb-true, eq-eqb}
 use Rattle.bits.specs.Bits.{member}
-use Rattle.bits.proofs.Loops.{both}
 use Rattle.bits.proofs.Rows.{place}
 use Rattle.values.specs.Values.{Empty}
 use Rattle.model.specs.declared.Sizes.{Sizes}
@@ -18,7 +17,7 @@ use Rattle.model.specs.Rows.{Program, program}
 use Rattle.model.specs.Letters.{head-count}
 use Rattle.model.specs.Tables.{Tables, tables}
 use Rattle.model.specs.Counters.{letters-allowed, letter-count}
-use Rattle.model.proofs.Logic.{true-false, and-left, and-right, and-intro, or-cases, or-left, or-right}
+use Rattle.model.proofs.Logic.{true-false, and-left, and-right, and-intro, or-cases, or-left, or-right, both}
 use Rattle.model.proofs.Index.{any-elim, any-intro}
 use Rattle.lists.specs.Ready.{Ready}
 use Rattle.system_letters.specs.Letters.{Name-heads, Letter-sets, class-at, letter-at, letters-before, letter-width, digit-set, allowed-set}

@@ -6,16 +6,16 @@ use mathlib.Core.Bool.{Bool, true, false, _&&_, _||_}
 use mathlib.Core.List.{List}
 use lib.Dec.{eqb}
 use Rattle.bits.specs.Bits.{member, Put}
-use Rattle.bits.proofs.Loops.{or-false-r, any-split}
+use Rattle.bits.proofs.Loops.{any-split}
 use Rattle.model.specs.Index.{any}
-use Rattle.model.proofs.Logic.{test}
+use Rattle.model.proofs.Logic.{test, or-none, or-joined}
 use Rattle.model.proofs.Index.{any-end, any-hit, any-miss}
 use Rattle.letter_sets.specs.Sets.{Put-all}
 
 module _ (w : ℕ) where
   -- nothing is put
   pub put-none : (f : ℕ → ℕ → Bool) (u : List ℕ) → ((n v : ℕ) → f n v ≡ false) → Put-all w f u u
-  put-none f u h = record { long = refl; members = λ n v b. sym (ap (λ x. member u w n v || x) (h n v) ∙ or-false-r (member u w n v)) }
+  put-none f u h = record { long = refl; members = λ n v b. sym (ap (λ x. member u w n v || x) (h n v) ∙ or-none (member u w n v)) }
 
   -- one value is put
   pub put-one : (n v : ℕ) (f : ℕ → ℕ → Bool) (u t : List ℕ) → ((m x : ℕ) → f m x ≡ (eqb m n && eqb x v)) → Put w n v u t → Put-all w f u t
@@ -26,10 +26,6 @@ module _ (w : ℕ) where
       any-split a i (i + 1) f h (omega arith) ∙
       ap (λ x. any a i f || x)
       (test (f i) (λ e. any-hit i (i + 1) f (omega arith) e ∙ sym e) (λ e. any-miss i (i + 1) f (omega arith) e ∙ (any-end (i + 1) (i + 1) f (omega arith) ∙ sym e)))
-
-  or-assoc : (a b c : Bool) → ((a || b) || c) ≡ (a || (b || c))
-  or-assoc true b c = refl
-  or-assoc false b c = refl
 
   -- what a loop from a on has put before turn i
   module _ (g : ℕ → ℕ → ℕ → Bool) (a : ℕ) where
@@ -44,5 +40,5 @@ module _ (w : ℕ) where
       long = y .long ∙ x .long;
       members = λ n v b.
           y .members n v b ∙ (ap (λ z. z || g i n v) (x .members n v b) ∙
-          (or-assoc (member u w n v) (any a i (λ k. g k n v)) (g i n v) ∙ ap (λ z. member u w n v || z) (sym (any-last a i (λ k. g k n v) l))));
+          (sym (or-joined (member u w n v) (any a i (λ k. g k n v)) (g i n v)) ∙ ap (λ z. member u w n v || z) (sym (any-last a i (λ k. g k n v) l))));
     }

@@ -17,7 +17,7 @@ use Rattle.model.specs.Heads.{is-class}
 use Rattle.model.specs.Tables.{Tables, tables, entries, third-column, is-value, has, state, state-at, same-state, state-index}
 use Rattle.model.specs.Verify.{program-check}
 use Rattle.model.specs.Demands.{Below, two-columns, Pairs-listed, States-listed}
-use Rattle.model.proofs.Logic.{test}
+use Rattle.model.proofs.Logic.{test, and-true}
 use Rattle.model.proofs.Index.{any-intro, any-elim, any-none, none-any, first-below, first-unique}
 use Rattle.model.proofs.Exact.Checks.{then-none}
 use Rattle.model.proofs.Exact.Parts.{end-past}
@@ -25,6 +25,7 @@ use Rattle.model.proofs.Exact.Rows.{row-none}
 use Rattle.model.proofs.Exact.Entries.{entry-none}
 use Rattle.model.proofs.Parse.Reached.{Rows-fit}
 use Rattle.model.proofs.Parse.Lengths.{Columns-whole}
+use Rattle.program.specs.Rows.{Fitted}
 use Rattle.lists.specs.declared.Span.{Span}
 use Rattle.lists.specs.Lists.{key-at, Ascending, span-at, flow-span, mail-span, state-span, listed, thirds, Held, is-entry, entry-index}
 use Rattle.lists.specs.Ready.{Ready}
@@ -48,10 +49,6 @@ any-first n f =
           before = λ j x y. any-none 0 n j f t x y;
         }) in
         omega arith
-
-and-true : (x : Bool) → (x && true) ≡ x
-and-true true = refl
-and-true false = refl
 
 any-same : (n : ℕ) (f g : ℕ → Bool) → ((i : ℕ) → f i ≡ g i) → any 0 n f ≡ any 0 n g
 any-same n f g e =
@@ -130,6 +127,11 @@ module _ {ws : List ℕ} {s : Sizes} (h : Ready ws s) where
   pub rows-fit : Rows-fit (program ws s)
   unfolding program-check
   rows-fit = row-none (program ws s) .0 (then-none _ _ .0 (h .well-formed) .0)
+
+  -- refusal 3 has found nothing
+  pub fitted : Fitted ws s
+  unfolding program-check
+  fitted = record { whole = h .whole; fits = then-none _ _ .0 (h .well-formed) .0 }
 
   pub columns-whole : Columns-whole (program ws s)
   unfolding program columns

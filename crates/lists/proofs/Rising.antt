@@ -12,19 +12,11 @@ use borrow.Author.Tests.{eqb-true, eq-eqb, ne-eqb, le-ltb, not-false, not-true}
 use Rattle.model.specs.Keys.{Key, below}
 use Rattle.model.specs.Words.{Columns, left, right}
 use Rattle.model.specs.Demands.{Below}
-use Rattle.model.proofs.Logic.{true-false, test, and-left, and-right}
+use Rattle.model.proofs.Logic.{true-false, test, and-left, and-right, and-none, or-none}
 use Rattle.model.proofs.Index.{First, first-is, first-unique}
 use Rattle.model.proofs.Keys.{below-iff, below-trans, below-irrefl}
 use Rattle.lists.proofs.Halving.{Between, Falling, between-first}
 use Rattle.lists.specs.Lists.{key-at, Ascending, place, is-entry, entry-index}
-
-or-false : (x : Bool) → (x || false) ≡ x
-or-false true = refl
-or-false false = refl
-
-and-false : (x : Bool) → (x && false) ≡ false
-and-false true = refl
-and-false false = refl
 
 module _ (c : Columns) (ts : List ℕ) (k : Key) where
   -- what stands before an entry below the key is below it too
@@ -195,15 +187,15 @@ module _ (c : Columns) (ts : List ℕ) (a b : ℕ) where
 module _ (c : Columns) (ts : List ℕ) (a b d i x y z : ℕ) where
   pub first-told : x ≡ left c i → (x ≡ a → ⊥) → ltb x a ≡ below (key-at c ts i) (a ∷ b ∷ d ∷ [])
   unfolding key-at below
-  first-told e f = rw (sym e, ne-eqb x a f) (sym (or-false (ltb x a)))
+  first-told e f = rw (sym e, ne-eqb x a f) (sym (or-none (ltb x a)))
 
   pub second-told : x ≡ left c i → x ≡ a → y ≡ right c i → (y ≡ b → ⊥) → ltb y b ≡ below (key-at c ts i) (a ∷ b ∷ d ∷ [])
   unfolding key-at below
-  second-told e f g h = rw (sym e, sym g, f, le-ltb a a (omega arith), eq-eqb a a refl, ne-eqb y b h) (sym (or-false (ltb y b)))
+  second-told e f g h = rw (sym e, sym g, f, le-ltb a a (omega arith), eq-eqb a a refl, ne-eqb y b h) (sym (or-none (ltb y b)))
 
   pub third-told : x ≡ left c i → x ≡ a → y ≡ right c i → y ≡ b → z ≡ getD ts i 0 → ltb z d ≡ below (key-at c ts i) (a ∷ b ∷ d ∷ [])
   unfolding key-at below
-  third-told e f g h u = rw (sym e, sym g, sym u, f, h, le-ltb a a (omega arith), eq-eqb a a refl, le-ltb b b (omega arith), eq-eqb b b refl, and-false (eqb z d)) (sym (or-false (ltb z d)))
+  third-told e f g h u = rw (sym e, sym g, sym u, f, h, le-ltb a a (omega arith), eq-eqb a a refl, le-ltb b b (omega arith), eq-eqb b b refl, and-none (eqb z d)) (sym (or-none (ltb z d)))
 
   pub first-unlike : x ≡ left c i → (x ≡ a → ⊥) → false ≡ is-entry c ts a b d i
   unfolding is-entry

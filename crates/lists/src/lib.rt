@@ -1,5 +1,6 @@
 // The flow, mail and state lists, as the words of the message have them.
 use model::Sizes;
+use parts::tables_at;
 use program::rows::column;
 ghost use mathlib.Core.Path.{_≡_};
 ghost use mathlib.Core.Bool.{Bool};
@@ -9,7 +10,6 @@ ghost use lib.ListN.{length, getD};
 ghost use Rattle.model.specs.Limits.{present};
 ghost use Rattle.model.specs.Words.{left, right};
 ghost use Rattle.model.specs.Keys.{below};
-ghost use Rattle.model.specs.Message.{tables-at};
 ghost use Rattle.model.specs.Rows.{program};
 ghost use Rattle.model.specs.Tables.{tables, has, state, state-index};
 ghost use Rattle.model.specs.Demands.{Within-limits};
@@ -32,14 +32,6 @@ pub fn word(table: &[u16], k: usize) -> usize
     ensures { λ n. ⌜ (n ≡ getD (now (table .entry)) k 0) × (n < 65536) ⌝ }
 {
     table[k] as usize
-}
-
-// The word at which the tables begin.
-pub fn tables_at(s: Sizes) -> usize
-    requires { ⌜ Within-limits present s ⌝ }
-    ensures { λ r. ⌜ r ≡ tables-at s ⌝ }
-{
-    4 + 2 * s.rows + 2 + 2 * s.badrows
 }
 
 // The list of n entries behind k others, with its third column from the word given on.

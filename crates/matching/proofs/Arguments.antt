@@ -2,10 +2,10 @@
 use Prim.Native.Nat.{ℕ, zero, suc, _+_, _≤_, _<_, max}
 use native.Mathlib.Omega.{arith}
 use mathlib.Core.Path.{_≡_, refl, sym, _∙_, ap}
-use mathlib.Core.Bool.{Bool, true, _&&_}
+use mathlib.Core.Bool.{true, _&&_}
 use mathlib.Core.List.{List}
 use lib.ListN.{length, getD}
-use lib.Dec.{eqb, leb}
+use lib.Dec.{eqb}
 use borrow.Author.Tests.{eqb-true, eq-eqb}
 use Rattle.model.specs.Limits.{maxRows}
 use Rattle.model.specs.declared.Sizes.{Sizes}
@@ -16,10 +16,9 @@ use Rattle.model.specs.Tables.{Tables, tables}
 use Rattle.model.specs.Closed.{subpattern, argument, same-constructor}
 use Rattle.model.proofs.Logic.{and-left, and-right}
 use Rattle.model.proofs.Parse.Lengths.{row-within, row-location}
-use Rattle.bits.specs.Bits.{Row}
 use Rattle.lists.specs.Ready.{Ready}
 use Rattle.lists.proofs.Facts.{rows-fit, columns-whole}
-use Rattle.positions.specs.Positions.{Ends}
+use Rattle.layout.specs.Tables.{Ends}
 use Rattle.positions.proofs.Placed.{rows-most}
 use Rattle.positions.proofs.Standing.{rest-build}
 use Rattle.values.specs.Values.{width, Values, Flow-sets}

@@ -3,7 +3,7 @@ use Prim.Native.Nat.{ℕ, zero, suc, _+_, _≤_, _<_, max}
 use native.Mathlib.Decide.{decLt}
 use native.Mathlib.Omega.{arith}
 use mathlib.Core.Path.{_≡_, refl, sym, _∙_}
-use mathlib.Core.Bool.{Bool, true, false, _&&_}
+use mathlib.Core.Bool.{Bool, true, false, not, _&&_}
 use lib.Dec.{eqb}
 use borrow.Author.Tests.{ne-eqb}
 use Rattle.model.specs.Index.{implies, all}
@@ -32,6 +32,19 @@ code-two true true e = absurd (omega arith)
 code-two true false e = (refl, refl)
 code-two false h e = absurd (omega arith)
 
+-- a code that is not 0, and one that is 1
+pub code-some : (m h : Bool) → not (eqb (code m h) 0) ≡ m
+unfolding code
+code-some true true = refl
+code-some true false = refl
+code-some false h = refl
+
+pub code-held : (m h : Bool) → eqb (code m h) 1 ≡ (m && h)
+unfolding code
+code-held true true = refl
+code-held true false = refl
+code-held false h = refl
+
 pub code-most : (m h : Bool) → code m h ≤ 2
 unfolding code
 code-most true true = omega arith
@@ -39,7 +52,7 @@ code-most true false = omega arith
 code-most false h = omega arith
 
 -- a code 0, 1 or 2
-by-code : {A : Type 0} (c : ℕ) → c ≤ 2 → (c ≡ 0 → A) → (c ≡ 1 → A) → (c ≡ 2 → A) → A
+pub by-code : {A : Type 0} (c : ℕ) → c ≤ 2 → (c ≡ 0 → A) → (c ≡ 1 → A) → (c ≡ 2 → A) → A
 by-code zero h f g k = f refl
 by-code (suc zero) h f g k = g refl
 by-code (suc (suc zero)) h f g k = k refl

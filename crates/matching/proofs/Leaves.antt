@@ -9,13 +9,13 @@ use lib.Dec.{eqb}
 use borrow.Author.Tests.{ne-eqb}
 use Rattle.model.specs.declared.Sizes.{Sizes}
 use Rattle.model.specs.Index.{implies, any, all}
-use Rattle.model.specs.Words.{Columns, columns}
-use Rattle.model.specs.Rows.{Program, program, size, tag, num}
-use Rattle.model.specs.Tables.{Tables, tables}
+use Rattle.model.specs.Words.{columns}
+use Rattle.model.specs.Rows.{program, tag, num}
+use Rattle.model.specs.Tables.{tables}
 use Rattle.bits.specs.Bits.{member, Row, shared, common-code}
 use Rattle.lists.specs.Ready.{Ready}
 use Rattle.values.specs.Values.{width, Values, Flow-sets}
-use Rattle.matching.specs.Patterns.{code, Pattern, Standing, Is-values-code, Matched}
+use Rattle.matching.specs.Patterns.{code, Standing, Is-values-code, Matched}
 use Rattle.matching.proofs.Subpatterns.{pattern-name}
 use Rattle.matching.proofs.Valued.{common-values, equal-values, no-values, any-values, named-values}
 

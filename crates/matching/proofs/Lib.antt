@@ -1,9 +1,6 @@
 pub mod Arguments
 pub mod Chains
 pub mod Coding
-pub mod Joining
-pub mod Filling
-pub mod Naming
 pub mod Leaves
 pub mod Subpatterns
 pub mod Valued

@@ -15,7 +15,7 @@ use Rattle.model.proofs.Logic.{test, and-left, and-right, or-cases}
 use Rattle.model.proofs.Parse.Spans.{Spans, First-row, spans-past, spans-none, spans-range, spans-split, spans-join, spans-first}
 use Rattle.model.proofs.Parse.Reached.{Rows-fit, row-taken, stands-only}
 use Rattle.model.proofs.Parse.Grammar.{fits-tag, fits-some, expression-tag, pattern-made, pattern-leaf}
-use Rattle.positions.specs.Positions.{Ends}
+use Rattle.layout.specs.Tables.{Ends}
 use Rattle.matching.specs.Patterns.{Pattern, Standing}
 
 -- of items of one sort that stand from row r, the one with number i stands at row `at`

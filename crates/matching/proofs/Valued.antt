@@ -6,19 +6,18 @@ use mathlib.Core.Bool.{Bool, true, false, not, _&&_}
 use mathlib.Core.List.{List}
 use mathlib.Core.Logic.{inl, inr}
 use lib.Dec.{eqb}
-use borrow.Author.Tests.{eq-eqb, ne-eqb, not-true, not-false}
-use Rattle.model.specs.declared.Sizes.{Sizes}
+use borrow.Author.Tests.{ne-eqb, not-true, not-false}
 use Rattle.model.specs.Index.{implies, any, all}
-use Rattle.model.specs.Words.{Columns, columns}
-use Rattle.model.specs.Rows.{Program, program, size, tag, num}
-use Rattle.model.specs.Tables.{Tables, tables, has, each, some-of}
+use Rattle.model.specs.Words.{Columns}
+use Rattle.model.specs.Rows.{Program, size, tag, num}
+use Rattle.model.specs.Tables.{Tables, has, each, some-of}
 use Rattle.model.specs.Closed.{may-match, names-hold}
-use Rattle.model.proofs.Logic.{true-false, implies-intro}
+use Rattle.model.proofs.Logic.{true-false, implies-intro, and-true, and-twice}
 use Rattle.bits.specs.Bits.{member, shared, shared-held, common-code}
-use Rattle.values.specs.Values.{width, Values, Flow-sets}
-use Rattle.values.proofs.Members.{each-at, at-each, some-set, each-set, some-meets}
-use Rattle.matching.specs.Patterns.{code, values-code, Pattern, Standing, Is-values-code, Matched}
-use Rattle.matching.proofs.Subpatterns.{pattern-deep, pattern-name}
+use Rattle.values.specs.Values.{width, Values}
+use Rattle.values.proofs.Members.{at-each, some-set, each-set}
+use Rattle.matching.specs.Patterns.{code, values-code, Pattern, Matched}
+use Rattle.matching.proofs.Subpatterns.{pattern-deep}
 
 held-there : (a may held : Bool) → implies (a && may) (may && held) ≡ implies a (implies may held)
 unfolding implies
@@ -69,11 +68,7 @@ module _ {p : Program} (t : Tables) {q : ℕ} (other : eqb (tag p q) 31 ≡ fals
       may-all (suc e) v g = rw (other, may-match, unheld)
 
       some-leaf : (b : Bool) → b ≡ any 0 (64 * width (size p)) (λ v. member sets (width (size p)) k v && member sets (width (size p)) k v) → b ≡ some-of l a (may-match p t d q)
-      some-leaf b e = e ∙ sym (some-set of (may-match p t d q) _ (λ v y. twice (member sets (width (size p)) k v) ∙ ap (λ z. member sets (width (size p)) k v && z) (sym (may-all d v h))))
-        where
-          twice : (b : Bool) → (b && b) ≡ (b && true)
-          twice true = refl
-          twice false = refl
+      some-leaf b e = e ∙ sym (some-set of (may-match p t d q) _ (λ v y. and-twice (member sets (width (size p)) k v) ∙ (sym (and-true (member sets (width (size p)) k v)) ∙ ap (λ z. member sets (width (size p)) k v && z) (sym (may-all d v h)))))
 
       pub no-values : (b : Bool) → b ≡ any 0 (64 * width (size p)) (λ v. member sets (width (size p)) k v && member sets (width (size p)) k v) → not b ≡ true → 0 ≡ values-code p t l a d q
       unfolding code

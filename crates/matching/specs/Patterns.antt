@@ -1,22 +1,20 @@
 -- The codes of patterns of any depth; for each constructor pattern the set of values that it may match, and of those
--- that find its names' values there; for each held name the set of values that it may match; for a constructor pattern
--- the names with such a value, for a held name those with such a class.
+-- that find its names' values there; for each held name the set of values that it may match.
 use Prim.Native.Nat.{ℕ, _+_, _*_, _-_, _≤_, _<_}
 use mathlib.Core.Path.{_≡_}
 use mathlib.Core.Bool.{Bool, true, false, _&&_, _||_}
 use mathlib.Core.List.{List, [], _∷_}
 use mathlib.Core.Logic.{_⊎_}
-use lib.Dec.{eqb, ltb}
+use lib.Dec.{eqb}
 use lib.ListN.{length, getD}
 use Rattle.model.specs.Index.{implies, first}
 use Rattle.model.specs.Words.{Columns}
 use Rattle.model.specs.Reader.{past, read}
-use Rattle.model.specs.Rows.{Program, size, tag, num, arity, pattern, step}
+use Rattle.model.specs.Rows.{Program, size, tag, num, pattern, step}
 use Rattle.model.specs.Tables.{Tables, each, some-of}
-use Rattle.model.specs.Heads.{is-class}
 use Rattle.model.specs.Closed.{may-equal, may-match, names-hold}
 use Rattle.bits.specs.Bits.{member, Row}
-use Rattle.values.specs.Values.{width, Empty, Room, Values}
+use Rattle.values.specs.Values.{width, Values}
 
 -- 0: may not match; 1: may match, and the names hold what they are to; 2: may match, and some name does not
 unfoldable pub code : Bool → Bool → ℕ
@@ -78,53 +76,6 @@ pub record Matched (p : Program) (t : Tables) (may held : List ℕ) (q : ℕ) : 
 -- ... of each row from x on
 pub record Matches (p : Program) (t : Tables) (may held : List ℕ) (x : ℕ) : Type 0 where
   pub at : (q : ℕ) → x ≤ q → q < size p → Matched p t may held q
-
--- row q is a constructor pattern with arguments, or a held name: not every value of its head may match it
-unfoldable pub asks-names : Program → ℕ → Bool
-asks-names p q = elim (eqb (tag p q) 31) [ true ↦ ltb 0 (arity p (num p q)) | false ↦ eqb (tag p q) 33 ]
-
--- by set q of `may`, the pattern at row q may match v, which is a class where a held name stands there
-unfoldable pub value-fits : Program → List ℕ → ℕ → ℕ → Bool
-value-fits p may q v = member may (width (size p)) q v && implies (eqb (tag p q) 33) (is-class p v)
-
--- an empty set of so many names for each of so many rows
-pub record Unfitted (names rows : ℕ) (fitting : List ℕ) : Type 0 where
-  pub empty : Empty (width names) fitting
-  pub room : Room (width names) rows fitting
-
--- before row x, set q has the names of which a value fits; from it on nothing is in the sets
-pub record Fitting-before (p : Program) (t : Tables) (may fitting : List ℕ) (x : ℕ) : Type 0 where
-  pub told : (q n : ℕ) → q < x → asks-names p q ≡ true → n < 64 * width (p .names) →
-      member fitting (width (p .names)) q n ≡ some-of (t .flow) n (value-fits p may q)
-  pub to-come : (q n : ℕ) → x ≤ q → n < 64 * width (p .names) → member fitting (width (p .names)) q n ≡ false
-
--- Set q has the names with a value that the constructor pattern at row q may match, where it has arguments; where a
--- held name stands there, those with a class that it may match.
-pub record Fitting-sets (p : Program) (t : Tables) (fitting : List ℕ) : Type 0 where
-  pub row : (q : ℕ) → q < size p → Row fitting (width (p .names)) q
-  pub made : (d q n : ℕ) → q < size p → tag p q ≡ 31 → 0 < arity p (num p q) → Pattern p d q → n < p .names →
-      member fitting (width (p .names)) q n ≡ some-of (t .flow) n (may-match p t d q)
-  pub held : (d q n : ℕ) → q < size p → tag p q ≡ 33 → Pattern p d q → n < p .names →
-      member fitting (width (p .names)) q n ≡ some-of (t .flow) n (λ v. may-match p t d q v && is-class p v)
-
--- nothing is in the sets before x
-pub record Clear (w x : ℕ) (sets : List ℕ) : Type 0 where
-  pub none : (n v : ℕ) → n < x → v < 64 * w → member sets w n v ≡ false
-
--- t is u, and value v is in set n where b says so
-pub record Put-if (w n v : ℕ) (b : Bool) (u t : List ℕ) : Type 0 where
-  pub long : length t ≡ length u
-  pub members : (n2 v2 : ℕ) → v2 < 64 * w → member t w n2 v2 ≡ (member u w n2 v2 || (b && (eqb n2 n && eqb v2 v)))
-
--- t is u, and the values that pass are in set n besides
-pub record Joined (w n : ℕ) (f : ℕ → Bool) (u t : List ℕ) : Type 0 where
-  pub long : length t ≡ length u
-  pub members : (n2 v : ℕ) → v < 64 * w → member t w n2 v ≡ (member u w n2 v || (eqb n2 n && f v))
-
--- set n has with a build row all those of its constructor
-pub record Alike (p : Program) (w n : ℕ) (sets : List ℕ) : Type 0 where
-  pub alike : (a b : ℕ) → a < 64 * w → b < 64 * w → is-class p a ≡ false → tag p a ≡ 2 → member sets w n a ≡ true →
-      is-build p (num p (a + 1)) b ≡ true → member sets w n b ≡ true
 
 -- Document 02, (iii): the value v may match the held name n
 unfoldable pub equals-some : Program → Tables → ℕ → ℕ → Bool

@@ -14,12 +14,12 @@ ghost use mathlib.Core.Path.{_≡_};
 ghost use mathlib.Core.Bool.{true};
 ghost use Prim.Native.Nat.{_+_, _*_, _<_, max};
 ghost use Rattle.model.specs.Index.{any};
-ghost use Rattle.model.specs.Rows.{program, size, tag};
+ghost use Rattle.model.specs.Rows.{program, tag};
 ghost use Rattle.model.specs.Tables.{tables};
 ghost use Rattle.model.specs.Closed.{same-constructor};
 ghost use Rattle.bits.specs.Bits.{Row, shared};
 ghost use Rattle.lists.specs.Ready.{Ready};
-ghost use Rattle.positions.specs.Positions.{Ends};
+ghost use Rattle.layout.specs.Tables.{Ends};
 ghost use Rattle.values.specs.Values.{width, Flow-sets};
 ghost use Rattle.matching.specs.Patterns.{code, Standing, Is-code, Is-values-code, Matched, Matches};
 

@@ -21,7 +21,8 @@ use Rattle.message.specs.declared.Parts.{Parts}
 use Rattle.message.specs.declared.Parts.the-variants.{Whole, Refused}
 use Rattle.message.specs.declared.Checked.{Checked}
 use Rattle.message.specs.declared.Checked.the-variants.{Pass, Fail}
-use Rattle.sizes.specs.Sizes.{Placed, inside, first-outside}
+use Rattle.parts.specs.Parts.{Low-sizes}
+use Rattle.sizes.specs.Sizes.{inside, first-outside}
 use Rattle.sizes.proofs.Limits.{first-outside-hit, first-outside-miss}
 use Rattle.message.specs.Parts.{checked, answered, parts-of}
 
@@ -95,7 +96,7 @@ unfolding weights-part
 with-weights bytes ws s r h e p = rw e at p ∙ sym (ap checked (chosen-true _ _ _ h))
 
 -- sizes that place the parts place the end
-pub end-small : (s : Sizes) (n : ℕ) → n ≡ end-at s → Placed s → n < 2 ^ 21
+pub end-small : (s : Sizes) (n : ℕ) → n ≡ end-at s → Low-sizes s → n < 2 ^ 21
 unfolding weights-at ceilings-at
 end-small s n e h = elim (decLt 0 (s .lines)) [
   | yes w ↦ omega (arith, end-some s w)

@@ -9,7 +9,7 @@ use Rattle.model.specs.declared.Sizes.{Sizes}
 use Rattle.model.specs.Words.{words}
 use Rattle.model.specs.Message.{maxWords, end-at, sizes, parts-check}
 use Rattle.model.specs.Demands.{Within-limits}
-use Rattle.sizes.specs.Sizes.{Placed}
+use Rattle.parts.specs.Parts.{Low-sizes}
 
 pub record Whole-message (bytes : List ℕ) (s : Sizes) : Type 0 where
   pub passes : parts-check present bytes ≡ none
@@ -18,4 +18,4 @@ pub record Whole-message (bytes : List ℕ) (s : Sizes) : Type 0 where
   pub words-end : length (words bytes) ≡ end-at s
   pub bytes-end : length bytes ≡ 2 * end-at s
   pub longest : end-at s ≤ maxWords
-  pub placed : Placed s
+  pub placed : Low-sizes s

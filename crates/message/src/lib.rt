@@ -7,21 +7,22 @@ ghost use Rattle.model.specs.Limits.{present};
 ghost use Rattle.model.specs.Words.{words};
 ghost use Rattle.model.specs.Message.{Limited, part-check, program-part, bads-part, tables-part, ceilings-part};
 ghost use Rattle.model.specs.Message.{goes-on, weights-part};
-ghost use Rattle.sizes.specs.Sizes.{Placed, first-outside};
+ghost use Rattle.parts.specs.Parts.{Low-sizes};
+ghost use Rattle.sizes.specs.Sizes.{first-outside};
 ghost use Rattle.message.specs.Parts.{checked, parts-of};
 use model::Sizes;
 use model::Verdict;
-use sizes::bads_at;
+use parts::bads_at;
+use parts::ceilings_at;
+use parts::end_at;
+use parts::table_cells;
+use parts::tables_at;
+use parts::weights_at;
 use sizes::bads_outside;
-use sizes::ceilings_at;
 use sizes::ceilings_outside;
-use sizes::end_at;
 use sizes::program_outside;
 use sizes::sizes_of;
-use sizes::table_cells;
-use sizes::tables_at;
 use sizes::tables_outside;
-use sizes::weights_at;
 use sizes::weights_outside;
 
 // The parts: whole, with their sizes, or the refusal.
@@ -59,7 +60,7 @@ fn part(bytes: &[u8], at: usize, count: usize, wrong: usize, cells: usize) -> Ch
 
 // The program part: rows, names, constructors, functions; tags and numbers of the rows.
 fn program_part(bytes: &[u8], s: Sizes) -> Checked
-    requires { ⌜ Placed s ⌝ }
+    requires { ⌜ Low-sizes s ⌝ }
     ensures { λ r. ⌜ r ≡ checked (program-part present (words (now (bytes .entry))) s) ⌝ }
 {
     part(bytes, 0, 4, program_outside(s), 2 * s.rows)
@@ -67,7 +68,7 @@ fn program_part(bytes: &[u8], s: Sizes) -> Checked
 
 // The bads part: bads and their rows; tags and numbers of the rows.
 fn bads_part(bytes: &[u8], s: Sizes) -> Checked
-    requires { ⌜ Placed s ⌝ }
+    requires { ⌜ Low-sizes s ⌝ }
     ensures { λ r. ⌜ r ≡ checked (bads-part (words (now (bytes .entry))) s) ⌝ }
 {
     part(bytes, bads_at(s), 2, bads_outside(s), 2 * s.badrows)
@@ -75,7 +76,7 @@ fn bads_part(bytes: &[u8], s: Sizes) -> Checked
 
 // The tables part: flow, mail and state entries; first and second columns, and the states' third.
 fn tables_part(bytes: &[u8], s: Sizes) -> Checked
-    requires { ⌜ Placed s ⌝ }
+    requires { ⌜ Low-sizes s ⌝ }
     ensures { λ r. ⌜ r ≡ checked (tables-part present (words (now (bytes .entry))) s) ⌝ }
 {
     let cells = table_cells(s.flows, s.mails, s.states);
@@ -84,7 +85,7 @@ fn tables_part(bytes: &[u8], s: Sizes) -> Checked
 
 // The ceilings part: ceilings and their entries; counter numbers and limits.
 fn ceilings_part(bytes: &[u8], s: Sizes) -> Checked
-    requires { ⌜ Placed s ⌝ }
+    requires { ⌜ Low-sizes s ⌝ }
     ensures { λ r. ⌜ r ≡ checked (ceilings-part (words (now (bytes .entry))) s) ⌝ }
 {
     part(bytes, ceilings_at(s), 2, ceilings_outside(s), 2 * s.entries)
@@ -92,7 +93,7 @@ fn ceilings_part(bytes: &[u8], s: Sizes) -> Checked
 
 // A message goes on with weights: it has no ceilings, and bytes behind their two sizes.
 fn goes_on(bytes: &[u8], s: Sizes) -> bool
-    requires { ⌜ Placed s ⌝ }
+    requires { ⌜ Low-sizes s ⌝ }
     ensures { λ r. ⌜ r ≡ goes-on (now (bytes .entry)) s ⌝ }
 {
     s.ceilings + s.entries == 0 && 2 * weights_at(s) < bytes.len()
@@ -100,7 +101,7 @@ fn goes_on(bytes: &[u8], s: Sizes) -> bool
 
 // The weights part, where there is one: lines and their entries; counter numbers and weights.
 fn weights_part(bytes: &[u8], s: Sizes) -> Checked
-    requires { ⌜ Placed s ⌝ }
+    requires { ⌜ Low-sizes s ⌝ }
     ensures { λ r. ⌜ r ≡ checked (weights-part (now (bytes .entry)) (words (now (bytes .entry))) s) ⌝ }
 {
     if !goes_on(bytes, s) {

@@ -27,7 +27,7 @@ use Rattle.model.proofs.Bounded.Exact.{message-built, tests-exact}
 use Rattle.model.proofs.Weighed.Exact as Weighed
 
 -- number 0 is safe's alone
-safe-number : (v : Verdict) → number v ≡ 0 → v ≡ Safe
+pub safe-number : (v : Verdict) → number v ≡ 0 → v ≡ Safe
 unfolding number
 safe-number Safe h = refl
 safe-number (Length at) h = absurd (omega (arith, h))

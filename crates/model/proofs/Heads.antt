@@ -8,9 +8,9 @@ use mathlib.Core.Logic.{_⊎_, inl, inr, ⊎-elim}
 use mathlib.Core.List.{[], _∷_}
 use lib.ListN.{List·getD-eq-default}
 use lib.Dec.{eqb}
-use borrow.Author.Tests.{eqb-true}
+use borrow.Author.Tests.{eqb-true, le-leb}
 use Rattle.model.specs.Index.{all, allIn}
-use Rattle.model.specs.Rows.{Program, size, tag, num, arity, kind}
+use Rattle.model.specs.Rows.{Program, size, tag, num, arity, kind, is-head}
 use Rattle.model.specs.Rows.{Kind, give, build, function, call, send, spawn, self, case, receive, other}
 use Rattle.model.specs.Scopes.{rest}
 use Rattle.model.specs.Heads.{nums, call-at, branch-rows, head-at, gives, builds, makes, calls, sends, spawns, selfs, cases, receives, no-head, is-function, is-class}
@@ -140,3 +140,8 @@ module _ (p : Program) (r : ℕ) where
   pub head-other : kind (tag p r) ≡ other → head-at p r ≡ no-head
   unfolding head-at
   head-other e = rw (e, head-at)
+
+-- the tags of heads
+pub head-between : (t : ℕ) → 1 ≤ t → t ≤ 9 → is-head t ≡ true
+unfolding is-head
+head-between t a b = rw (le-leb 1 t a, le-leb t 9 b)

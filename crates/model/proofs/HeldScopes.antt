@@ -16,7 +16,7 @@ use Rattle.model.specs.Rows.{Program, size, tag, num, arity, kind, Kind,
 use Rattle.model.specs.Scopes.{binds, rest, next-head, holds-in, in-scope}
 use Rattle.model.specs.Heads.{head-at, cases, receives, branch-rows, branch-body}
 use Rattle.model.specs.Equality.{Held-scopes}
-use Rattle.model.proofs.Logic.{test, true-false, and-left, and-right, and-intro, or-cases, or-right}
+use Rattle.model.proofs.Logic.{test, true-false, and-left, and-right, and-intro, or-cases, or-right, both}
 use Rattle.model.proofs.Index.{first-is}
 use Rattle.model.proofs.Heads.{by-kind, tag-is}
 use Rattle.model.proofs.Parse.Spans.{spans-past, spans-range, spans-unique, spans-none}
@@ -84,11 +84,6 @@ module _ {p : Program} where
       ])
       (List·Memᴰ·cases-cons m)
 
-same-truth : (a b : Bool) → (a ≡ true → b ≡ true) → (b ≡ true → a ≡ true) → a ≡ b
-same-truth true b f g = sym (f refl)
-same-truth false true f g = g refl
-same-truth false false f g = refl
-
 -- the rows of an expression
 unfoldable has-row : Program → ℕ → ℕ → Bool
 has-row p f k = leb f k && ltb k (past-items p (expression ∷ []) f)
@@ -109,7 +104,7 @@ module _ {p : Program} {r : ℕ} (loc : Location p r) {qs : List ℕ} (at : Bran
         (let y = ltb-true x (past-items p (expression ∷ []) f) (and-right (leb f x) _ h) in omega arith),
       ) in
       let shut : (x : ℕ) → f ≤ x → x < lf .end → has-row p f x ≡ true = λ x y z. and-intro (leb f x) _ (le-leb f x y) (lt-ltb x (past-items p (expression ∷ []) f) (omega arith)) in
-      same-truth _ _
+      both _ _
       (λ h. let (y, z) = told k h in
       elim (decLt r f) [
         | no l ↦ shut r (omega arith) (omega arith)

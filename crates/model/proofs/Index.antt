@@ -20,8 +20,12 @@ at-or-behind : {A : Type 0} (i k : ℕ) → i ≤ k → (k ≡ i → A) → (i +
 at-or-behind i k h here behind = elim (ℕ-discrete k i) [ yes e ↦ here e | no ne ↦ behind (omega arith) ]
 
 -- e - i is one more than what is left after a turn
-turn : (i e : ℕ) → i < e → e - i ≡ suc (e - (i + 1))
+-- one turn of a loop is less left
+pub turn : (i e : ℕ) → i < e → e - i ≡ suc (e - (i + 1))
 turn i e h = omega arith
+
+pub turned : (i j : ℕ) → i + suc j ≡ i + 1 + j
+turned i j = omega arith
 
 over : (i e : ℕ) → e ≤ i → e - i ≡ zero
 over i e h = omega arith

@@ -31,7 +31,7 @@ use Rattle.model.proofs.Steps.Letters.{Classes, head-kept}
 use Rattle.model.proofs.Parse.Reached.{Rows-fit}
 use Rattle.model.proofs.Parse.Lengths.{Columns-whole, row-location, build-length}
 use Rattle.model.proofs.Numbering.Letters.{key-at, key-there, key-from, key-has, index-key, index-at, letter-index-behind, letter-index-below}
-use Rattle.model.proofs.Numbering.Counters.{letter-counter, letter-numbered}
+use Rattle.model.proofs.Numbering.Counters.{letter-counter, letter-numbered, plain-head}
 use Rattle.model.proofs.Numbering.Choices.{gather-chosen, head-of-name, built-head, letter-from}
 use Rattle.model.proofs.Invariant.{All-good}
 
@@ -195,10 +195,6 @@ module _ (p : Program) (t : Tables) where
 
   -- the letters that have counters are proper, where builds are of a constructor
   module _ (made : (v : ℕ) → tag p v ≡ 2 → num p (v + 1) < p .constructors) where
-    plain-head : (v : ℕ) → eqb (tag p v) 2 ≡ false → p .constructors ≤ row-head p v
-    unfolding row-head row-shape head
-    plain-head v e = test (is-function p v) (λ f. rw (e, f, row-shape) (omega arith)) (λ f. rw (e, f, row-shape) (omega arith))
-
     letter-proper : (v : ℕ) (l : Letter) → List·Memᴰ l (letters-allowed p t v) → Proper p l
     unfolding letters-allowed heads-each letter-arity gather
     letter-proper v l m =
@@ -219,7 +215,7 @@ module _ (p : Program) (t : Tables) where
         })
         (λ e.
         let none-left = f .plain e in
-        let high = plain-head v e in
+        let high = plain-head p v e in
         record {
           number = row-head p v;
           heads = f .heads;

@@ -32,6 +32,7 @@ use Rattle.model.proofs.Parse.Reached.{Rows-fit}
 use Rattle.model.proofs.Parse.Grammar.{pattern-made, pattern-leaf}
 use Rattle.model.proofs.Parse.Lengths.{Columns-whole, row-location, nums-at, build-length}
 use Rattle.model.proofs.Parse.Spans.{Spans, spans-takes, spans-past, spans-unique, spans-none, spans-split, spans-join, spans-first}
+use Rattle.model.proofs.Index.{turned}
 
 -- Patterns that may be so many levels deep stand from row q up to row e, one for each value; R holds of each depth, pattern row and value.
 data Each (p : Program) (R : ℕ → ℕ → Value → Type 0) : List ℕ → ℕ → Bindings → ℕ → Type 0 where
@@ -131,11 +132,8 @@ module _ (p : Program) (t : Tables) (classes : List ℕ) where
   each-fits passes (suc a) d i {q} (more {v = v} s r k) f =
       let z : i + 0 ≡ i = omega arith in (
         subst (λ j. passes j (row-for classes v) ≡ true) z (f zero (omega arith) q v (spans-none q) r),
-        each-fits passes a d (i + 1) k (λ j l x u b y. subst (λ n. passes n (row-for classes u) ≡ true) (shift j) (f (suc j) (omega arith) x u (spans-join s b) y)),
+        each-fits passes a d (i + 1) k (λ j l x u b y. subst (λ n. passes n (row-for classes u) ≡ true) (turned i j) (f (suc j) (omega arith) x u (spans-join s b) y)),
       )
-    where
-      shift : (j : ℕ) → i + suc j ≡ i + 1 + j
-      shift j = omega arith
 
   -- what a pattern that is no constructor's may match, and what a constructor's may
   may-leaf : (d q v : ℕ) → eqb (tag p q) 31 ≡ false → (tag p q ≡ 33 → (w : ℕ) × Member (t .flow) (num p q) w × MayEqual p v w) → MayMatch p t d q v

@@ -6,7 +6,7 @@ use mathlib.Core.Bool.{Bool, true, false}
 use mathlib.Core.List.{List, [], _∷_, _++_, append-assoc}
 use mathlib.Core.Option.{Option, some, none, Option·some-injective, Option·none-ne-some, Option·some-ne-none}
 use lib.Dec.{eqb}
-use borrow.Author.Tests.{eqb-true, eq-eqb}
+use borrow.Author.Tests.{eqb-true, eq-eqb, ne-eqb}
 use Rattle.model.specs.Words.{Columns, left, right}
 use Rattle.model.proofs.Logic.{test}
 use Rattle.model.specs.Reader.{Read, past, wrong, row-of, fits, Grammar, read, after, complete, first-wrong}
@@ -44,9 +44,13 @@ complete-none size (past r) h =
     (λ e. absurd (Option·some-ne-none r (rw (e, complete) at h)))
 complete-none size (wrong r) h = absurd (Option·some-ne-none r h)
 
-none-complete : (size : ℕ) → complete size (past size) ≡ none
+pub none-complete : (size : ℕ) → complete size (past size) ≡ none
 unfolding complete
 none-complete size = rw (eq-eqb size size refl, complete)
+
+pub some-complete : (size r : ℕ) → r < size → complete size (past r) ≡ some r
+unfolding complete
+some-complete size r b = let e : eqb r size ≡ false = ne-eqb r size (λ z. omega arith) in rw (e, complete)
 
 module _ {Item : Type 0} (step : Grammar Item) (rows : Columns) where
   -- what the item says to row r

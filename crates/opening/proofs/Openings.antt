@@ -23,7 +23,7 @@ use Rattle.model.proofs.Parse.Functions.{row-form, form-body}
 use Rattle.model.proofs.Parse.Lengths.{function-within}
 use Rattle.lists.specs.Ready.{Ready}
 use Rattle.lists.proofs.Facts.{rows-fit, columns-whole}
-use Rattle.positions.specs.Positions.{Ends}
+use Rattle.layout.specs.Tables.{Ends}
 use Rattle.positions.proofs.Standing.{single, body-row}
 use Rattle.opening.specs.Opening.{opening-row}
 

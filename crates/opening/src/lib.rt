@@ -14,7 +14,7 @@ ghost use Rattle.model.specs.Heads.{start};
 ghost use Rattle.model.specs.Tables.{tables};
 ghost use Rattle.model.specs.Closed.{opening-closed};
 ghost use Rattle.lists.specs.Ready.{Ready};
-ghost use Rattle.positions.specs.Positions.{Ends};
+ghost use Rattle.layout.specs.Tables.{Ends};
 ghost use Rattle.opening.specs.Opening.{opening-row};
 
 // The row of the start expression: behind the constructors and the functions.

@@ -8,7 +8,6 @@ use mathlib.Core.Logic.{_↔_, _⊎_, inl, inr, ⊎-elim}
 use lib.Dec.{eqb}
 use borrow.Author.Tests.{eqb-true, eq-eqb, ne-eqb}
 use Rattle.bits.specs.Bits.{member, Row}
-use Rattle.bits.proofs.Loops.{both}
 use Rattle.model.specs.declared.Sizes.{Sizes}
 use Rattle.model.specs.Limits.{maxDepth}
 use Rattle.model.specs.Index.{implies, first}
@@ -19,7 +18,7 @@ use Rattle.model.specs.Letters.{head, head-count, row-shape, row-head}
 use Rattle.model.specs.Tables.{Tables, tables, has}
 use Rattle.model.specs.Wanted.{Member}
 use Rattle.model.specs.Closed.{same-constructor, may-equal, may-match, may-take}
-use Rattle.model.proofs.Logic.{test, true-false, and-left, and-right, and-intro, or-cases, or-left, or-right}
+use Rattle.model.proofs.Logic.{test, true-false, and-left, and-right, and-intro, or-cases, or-left, or-right, both}
 use Rattle.model.proofs.Rows.{program-end}
 use Rattle.model.proofs.Index.{all-end}
 use Rattle.model.proofs.Exact.Members.{has-iff, some-of-iff}

@@ -12,7 +12,7 @@ use Rattle.model.specs.Tables.{Tables, tables, some-of}
 use Rattle.model.specs.Closed.{same-constructor, may-match, may-take}
 use Rattle.lists.specs.Ready.{Ready}
 use Rattle.values.specs.Values.{width}
-use Rattle.matching.specs.Patterns.{Fitting-sets}
+use Rattle.matching_names.specs.Names.{Fitting-sets}
 use Rattle.system_letters.specs.Letters.{Name-heads}
 
 -- may the pattern at row q match v? Of a constructor's only the constructor is asked.

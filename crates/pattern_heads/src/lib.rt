@@ -4,7 +4,7 @@ use model::Sizes;
 use model::TAG_BUILD;
 use model::TAG_PATTERN_CONSTRUCTOR;
 use model::TAG_PATTERN_HELD;
-use positions::is_class;
+use program::rows::is_class;
 use program::rows::num;
 use program::rows::tag;
 use sets::holds;

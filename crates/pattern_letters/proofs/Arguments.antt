@@ -25,7 +25,7 @@ use Rattle.lists.proofs.Facts.{rows-fit, columns-whole}
 use Rattle.matching.specs.Patterns.{Pattern}
 use Rattle.matching.proofs.Subpatterns.{pattern-within, pattern-constructor, subpattern-first, subpattern-stands, subpattern-next}
 use Rattle.matching.proofs.Arguments.{built-row}
-use Rattle.positions.specs.Positions.{Ends}
+use Rattle.layout.specs.Tables.{Ends}
 use Rattle.values.proofs.Operands.{few-arguments, build-names}
 use Rattle.pattern_heads.specs.Fitting.{begins, head-fits, has-head, Match-tables}
 use Rattle.pattern_letters.specs.Picked.{leaves-head}

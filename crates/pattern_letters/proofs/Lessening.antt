@@ -11,7 +11,6 @@ use lib.Dec.{eqb, ltb}
 use lib.ListN.{getD}
 use borrow.Author.Tests.{eqb-true, eq-eqb, ne-eqb, lt-ltb, le-ltb, not-true, not-false}
 use Rattle.bits.specs.Bits.{member, Row, Set-is}
-use Rattle.bits.proofs.Loops.{both}
 use Rattle.model.specs.declared.Sizes.{Sizes}
 use Rattle.model.specs.Limits.{maxArity, maxDepth}
 use Rattle.model.specs.Index.{gather, any, all, implies}
@@ -24,7 +23,7 @@ use Rattle.model.specs.Counters.{letters-where, letters-allowed, any-argument}
 use Rattle.model.specs.Rules.{argument-fits, letters-read}
 use Rattle.model.specs.Wanted.{Member}
 use Rattle.model.specs.TwoDeep.{Letter-of, with-heads, alone}
-use Rattle.model.proofs.Logic.{test, true-false, and-left, and-right, and-intro, implies-elim, implies-intro}
+use Rattle.model.proofs.Logic.{test, true-false, and-left, and-right, and-intro, implies-elim, implies-intro, and-true, both, and-joined}
 use Rattle.model.proofs.Index.{any-intro, all-intro, all-elim, all-end}
 use Rattle.model.proofs.Exact.Members.{some-of-iff}
 use Rattle.model.proofs.Numbering.Choices.{where-allowed}
@@ -39,18 +38,9 @@ use Rattle.pattern_letters.specs.Picked.{leaves-head, head-of, leaves-ar
 pub set-small : (i k h : ℕ) → i ≤ 8 → k ≤ 66 → h < k → i * k + h < 4096
 set-small i k h a b c = omega (arith, mul-le-mul-right k a)
 
--- tests
-and-true : (b : Bool) → (b && true) ≡ b
-and-true true = refl
-and-true false = refl
-
 and-no : (a b : Bool) → a ≡ false → (a && b) ≡ false
 and-no true b e = true-false refl e
 and-no false b e = refl
-
-and-and : (a b c : Bool) → ((a && b) && c) ≡ (a && (b && c))
-and-and true b c = refl
-and-and false b c = refl
 
 all-last : (k : ℕ) (f : ℕ → Bool) → all 0 (k + 1) f ≡ (all 0 k f && f k)
 all-last k f = both _ _
@@ -285,7 +275,7 @@ module _ (p : Program) (t : Tables) where
       row = b .row;
       has = λ y l.
           b .has y l ∙ (ap (λ x. x && leaves-argument p t k n r y) (a .has y l) ∙
-          (and-and (member u (letter-width p t) 0 y) (leaves-first p t q v k y) (leaves-argument p t k n r y) ∙
+          (sym (and-joined (member u (letter-width p t) 0 y) (leaves-first p t q v k y) (leaves-argument p t k n r y)) ∙
           ap (λ x. member u (letter-width p t) 0 y && x) (rw (e, f) (sym (all-last k (λ i. leaves-argument p t i (argument p v i) (subpattern p maxDepth q i) y))))));
     }
 
@@ -337,7 +327,7 @@ module _ (p : Program) (t : Tables) where
       has = λ y l.
           let here : member u₂ (letter-width p t) 0 y ≡ (member u₁ (letter-width p t) 0 y && not (member letters (letter-width p t) (digit-set p (i + 1) h) y)) = rw (e, at) at (is .here y (rw e (letter-inside p t y l))) in
           here ∙ (rw (f .has y l, sets .digit (i + 1) h y (omega arith) low l)
-          (and-and (member u (letter-width p t) 0 y) (leaves-below p t i n q h y) (not (eqb (head-of p t i y) h)) ∙
+          (sym (and-joined (member u (letter-width p t) 0 y) (leaves-below p t i n q h y) (not (eqb (head-of p t i y) h))) ∙
           ap (λ x. member u (letter-width p t) 0 y && x) (below-lost (leaves-head p t n q) h (head-of p t i y) lost)));
     }
 

@@ -30,7 +30,7 @@ ghost use Rattle.model.specs.Rows.{program, tag};
 ghost use Rattle.model.specs.Tables.{tables};
 ghost use Rattle.model.specs.Rules.{from-each, letters-read};
 ghost use Rattle.lists.specs.Ready.{Ready};
-ghost use Rattle.positions.specs.Positions.{Ends};
+ghost use Rattle.layout.specs.Tables.{Ends};
 ghost use Rattle.matching.specs.Patterns.{Pattern};
 ghost use Rattle.system_letters.specs.Letters.{Class-letters, letter-width, Letter-sets, Found};
 ghost use Rattle.pattern_heads.specs.Fitting.{begins, Match-tables};

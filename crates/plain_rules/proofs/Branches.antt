@@ -24,18 +24,13 @@ use Rattle.model.proofs.Parse.Grammar.{fits-some}
 use Rattle.model.proofs.Parse.Reached.{stands-only}
 use Rattle.model.proofs.Parse.Locations.{Location, location-follows}
 use Rattle.lists.specs.Ready.{Ready}
-use Rattle.positions.specs.Positions.{branch-row, Run, Ends}
+use Rattle.layout.specs.Tables.{Ends}
+use Rattle.positions.specs.Positions.{branch-row, Run}
 use Rattle.positions.specs.Branches.{Branch-bits}
-use Rattle.positions.proofs.Standing.{run-first, run-prefix, run-body, case-run}
+use Rattle.positions.proofs.Standing.{run-first, run-prefix, run-body, case-run, rows-length}
 use Rattle.rules.proofs.Gather.{gather-same, rows-range}
 use Rattle.plain_rules.specs.Heads.{case-turn}
 use Rattle.plain_rules.proofs.Heads.{only-both, kept, tag-head, here}
-
--- the rows of branches
-pub rows-length : (p : Program) (m q : ℕ) → length (branch-rows p m q) ≡ m
-unfolding branch-rows
-rows-length p zero q = refl
-rows-length p (suc m) q = ap suc (rows-length p m (past-items p branch q))
 
 pub rows-at : (p : Program) (m q b : ℕ) → b < m → getD (branch-rows p m q) b 0 ≡ branch-row p q b
 unfolding branch-rows branch-row

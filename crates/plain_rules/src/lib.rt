@@ -30,7 +30,7 @@ ghost use Rattle.model.specs.Rules.{state-rules};
 ghost use Rattle.lists.specs.Lists.{Starts};
 ghost use Rattle.lists.specs.Ready.{Ready};
 ghost use Rattle.positions.specs.Branches.{Branch-bits};
-ghost use Rattle.positions.specs.Positions.{Ends};
+ghost use Rattle.layout.specs.Tables.{Ends};
 ghost use Rattle.rules.specs.Added.{Added};
 ghost use Rattle.rules.specs.Derived.{Rule-room};
 ghost use Rattle.plain_rules.specs.Heads.{Plain};

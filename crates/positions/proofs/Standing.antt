@@ -5,7 +5,7 @@ use mathlib.Core.Path.{_≡_, refl, sym, _∙_, ap}
 use mathlib.Core.Bool.{true}
 use mathlib.Core.List.{List, [], _∷_, _++_, append-nil, List·Memᴰ, List·Memᴰ·head, List·Memᴰ·tail}
 use mathlib.Core.Option.{some}
-use lib.ListN.{getD, replicate}
+use lib.ListN.{length, getD, replicate}
 use lib.Dec.{eqb}
 use borrow.Author.Tests.{ltb-true}
 use Rattle.model.specs.Rows.{Program, size, tag, num, kind, Kind, build, function, call, send, spawn, case, receive, Item, header, parameter, expression, operand, pattern, branch, branch-items, lead, arity, is-name, step, past-items}
@@ -19,7 +19,8 @@ use Rattle.model.proofs.Parse.Grammar.{fits-some, follows}
 use Rattle.model.proofs.Parse.Locations.{Location, location-follows}
 use Rattle.model.proofs.Parse.Functions.{row-form, form-body}
 use Rattle.model.proofs.Parse.Lengths.{Columns-whole, function-within}
-use Rattle.positions.specs.Positions.{branch-row, Run, Ends}
+use Rattle.layout.specs.Tables.{Ends}
+use Rattle.positions.specs.Positions.{branch-row, Run}
 
 -- an operand and a parameter take a row each
 operand-one : (p : Program) (t n : ℕ) (more : List Item) → step p operand t n ≡ some more → [] ≡ more
@@ -73,14 +74,6 @@ module _ {p : Program} where
       let z = ends-at operand (operand-one p) (num p (r + 1)) (r + 1 + 1) (rw (← fits-some _ _ more says .1) at (others .spans)) in
       omega arith
 
-  send-end : {r e : ℕ} {below : List Item} → Stands p (lead send) below r e → e ≡ r + 2
-  unfolding lead
-  send-end {r} s = ends-at operand (operand-one p) 2 r (s .spans)
-
-  spawn-end : {r e : ℕ} {below : List Item} → Stands p (lead spawn) below r e → e ≡ r + 1
-  unfolding lead
-  spawn-end {r} s = ends-at operand (operand-one p) 1 r (s .spans)
-
   -- the lead of a head, and its rest
   pub lead-stands : {r : ℕ} (k : Kind) (l : Location p r) → kind (tag p r) ≡ k → follows k (num p r) ≡ lead k ++ expression ∷ [] → Stands p (lead k) (expression ∷ l .below) (r + 1) (rest p r) × (rest p r < size p)
   unfolding rest
@@ -102,12 +95,6 @@ module _ {p : Program} where
         let two : r + 1 + 1 ≡ r + 2 = omega arith in
         let y = ap (num p) two in
         (omega arith, w)
-
-    pub rest-send : kind (tag p r) ≡ send → (rest p r ≡ r + 3) × (rest p r < size p)
-    rest-send e = let (s, w) = lead-stands send l e refl in let z = send-end s in (omega arith, w)
-
-    pub rest-spawn : kind (tag p r) ≡ spawn → (rest p r ≡ r + 2) × (rest p r < size p)
-    rest-spawn e = let (s, w) = lead-stands spawn l e refl in let z = spawn-end s in (omega arith, w)
 
     -- the names read by a call, a send and a spawn are names
     pub call-name : kind (tag p r) ≡ call → num p (r + 1) < p .names
@@ -141,11 +128,6 @@ module _ {p : Program} where
         let s : Stands p (branch-items (num p r)) (l .below) (r + 1) (l .end) = rw e at (location-follows l) in
         record { end = l .end; reads = s .spans .reads }
 
--- without a lead the rest is the next row
-pub rest-next : (p : Program) (r : ℕ) → lead (kind (tag p r)) ≡ [] → rest p r ≡ r + 1
-unfolding rest
-rest-next p r e = rw e (spans-past (spans-none (r + 1)))
-
 module _ {p : Program} (fit : Rows-fit p) (w : Columns-whole p) where
   -- the body of a function
   pub body-row : (f : ℕ) → is-function p f ≡ true → (body p f ≡ f + 2 + num p (f + 1)) × (body p f < size p)
@@ -155,15 +137,6 @@ module _ {p : Program} (fit : Rows-fit p) (w : Columns-whole p) where
       let z = header-end front in
       let v = spans-takes (others .spans) in
       (omega arith, omega arith)
-
-  -- the rest of a function made
-  pub rest-function : (afters : List ℕ) → Ends p afters → {r : ℕ} (l : Location p r) → kind (tag p r) ≡ function → (rest p r ≡ getD afters (body p r) 0) × (rest p r < size p)
-  unfolding lead body
-  rest-function afters ends {r} l e =
-      let (s, v) = lead-stands function l e refl in
-      let (m, front, others) = stands-split (header ∷ []) s in
-      let z : m ≡ past-items p (header ∷ []) (r + 1) = sym (spans-past (front .spans)) in
-      (sym (ends .after-expression (body p r) (rest p r) (rw z at (others .spans .reads))), v)
 
 -- The branches that stand from a row
 module _ {p : Program} where
@@ -239,3 +212,9 @@ unfolding branch-row branch-rows
 row-listed p j zero q h = absurd (omega arith)
 row-listed p zero (suc n) q h = List·Memᴰ·head refl
 row-listed p (suc j) (suc n) q h = List·Memᴰ·tail (row-listed p j n (past-items p branch q) (omega arith))
+
+-- there are as many branches as are asked for
+pub rows-length : (p : Program) (m q : ℕ) → length (branch-rows p m q) ≡ m
+unfolding branch-rows
+rows-length p zero q = refl
+rows-length p (suc m) q = ap suc (rows-length p m (past-items p branch q))

@@ -1,12 +1,9 @@
 // Where the parts of a head stand.
+use layout::ends::rest_of;
 use lists::word;
 use model::Sizes;
-use model::TAG_BUILD;
-use model::TAG_CALL;
 use model::TAG_FUNCTION;
 use model::TAG_GLOBAL;
-use model::TAG_SEND;
-use model::TAG_SPAWN;
 use program::rows::num;
 use program::rows::tag;
 ghost use mathlib.Core.Path.{_≡_};
@@ -15,11 +12,12 @@ ghost use Prim.Native.Nat.{_+_, _<_};
 ghost use Rattle.model.specs.Words.{left, right};
 ghost use Rattle.model.specs.Rows.{program, tag, is-head};
 ghost use Rattle.model.specs.Scopes.{rest};
-ghost use Rattle.model.specs.Heads.{is-function, is-class, body, takes, branch-body};
+ghost use Rattle.model.specs.Heads.{is-function, body, takes, branch-body};
 ghost use Rattle.model.specs.Tables.{tables};
 ghost use Rattle.program.specs.Rows.{Whole};
 ghost use Rattle.lists.specs.Ready.{Ready};
-ghost use Rattle.positions.specs.Positions.{branch-row, Run, Ends};
+ghost use Rattle.layout.specs.Tables.{Ends};
+ghost use Rattle.positions.specs.Positions.{branch-row, Run};
 
 // Is row f a function that takes n arguments?
 pub fn takes(ws: &[u16], s: Sizes, f: usize, n: usize) -> bool
@@ -29,18 +27,6 @@ pub fn takes(ws: &[u16], s: Sizes, f: usize, n: usize) -> bool
     match tag(ws, s, f) {
         TAG_FUNCTION | TAG_GLOBAL => num(ws, s, f + 1) == n,
         _ => false,
-    }
-}
-
-// Is it a class: a spawn row, or R for the starting process?
-pub fn is_class(ws: &[u16], s: Sizes, c: usize) -> bool
-    requires { ⌜ Whole (now ws) s ⌝ }
-    ensures { λ b. ⌜ b ≡ is-class (program (now (ws .entry)) s) c ⌝ }
-{
-    if tag(ws, s, c) == TAG_SPAWN {
-        true
-    } else {
-        c == s.rows
     }
 }
 
@@ -60,14 +46,7 @@ pub fn rest(ws: &[u16], s: Sizes, afters: &[u16], r: usize) -> usize
     requires { ⌜ is-head (tag (program (now ws) s) r) ≡ true ⌝ }
     ensures { λ e. ⌜ e ≡ rest (program (now (ws .entry)) s) r ⌝ }
 {
-    match tag(ws, s, r) {
-        TAG_BUILD => r + 2 + num(ws, s, num(ws, s, r + 1)),
-        TAG_FUNCTION => word(afters, body(ws, s, r)),
-        TAG_CALL => r + 3 + num(ws, s, r + 2),
-        TAG_SEND => r + 3,
-        TAG_SPAWN => r + 2,
-        _ => r + 1,
-    }
+    rest_of(ws, s, afters, r)
 }
 
 // The expression of the branch whose pattern stands at row q.

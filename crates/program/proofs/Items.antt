@@ -12,13 +12,9 @@ use borrow.Author.Tests.{eqb-true, eq-eqb, ne-eqb, le-leb}
 use Rattle.model.specs.declared.Sizes.{Sizes}
 use Rattle.model.specs.Limits.{maxArity}
 use Rattle.model.specs.Reader.{fits}
-use Rattle.model.specs.Rows.{program, kind, constructor, global, expression, made, operand, branches, pattern, body-form, branch-items, lead, arity, is-name, is-branch-count, step, expression-step, pattern-step}
-use Rattle.model.proofs.Logic.{or-cases, test}
+use Rattle.model.specs.Rows.{Program, program, size, tag, kind, constructor, global, expression, made, operand, branches, pattern, body-form, branch-items, lead, arity, is-name, is-branch-count, step, expression-step, pattern-step}
+use Rattle.model.proofs.Logic.{or-cases, test, or-none, or-first, or-second}
 use Rattle.program.specs.Rows.{listed, listed-item, counted-items}
-
-or-none : (b : Bool) → (b || false) ≡ b
-or-none true = refl
-or-none false = refl
 
 -- a row's test in the code: its tag v, then a second test
 pub both : (t u v : ℕ) (b c : Bool) → t ≡ v → t ≡ u → b ≡ c → b ≡ (eqb v u && c)
@@ -136,3 +132,11 @@ lead-none (suc (suc (suc (suc (suc (suc (suc zero))))))) a b c d e = refl
 lead-none (suc (suc (suc (suc (suc (suc (suc (suc zero)))))))) a b c d e = refl
 lead-none (suc (suc (suc (suc (suc (suc (suc (suc (suc zero))))))))) a b c d e = refl
 lead-none (suc (suc (suc (suc (suc (suc (suc (suc (suc (suc t)))))))))) a b c d e = refl
+
+-- a row with tag k, or the end of the rows: a class is such, and a return; t is the row's tag, as the code has read it
+module _ (p : Program) (r t : ℕ) (tag-is : t ≡ tag p r) where
+  pub with-tag : (k : ℕ) → t ≡ k → eqb t k ≡ (eqb (tag p r) k || eqb r (size p))
+  with-tag k h = rw (← tag-is) (or-first (eqb t k) (eqb r (size p)) (eq-eqb t k h))
+
+  pub without-tag : (k : ℕ) → (t ≡ k → ⊥) → eqb r (size p) ≡ (eqb (tag p r) k || eqb r (size p))
+  without-tag k h = rw (← tag-is) (or-second (eqb t k) (eqb r (size p)) (ne-eqb t k h))

@@ -3,6 +3,7 @@ use model::MAX_ARITY;
 use model::Sizes;
 use model::TAG_FUNCTION;
 use model::TAG_GLOBAL;
+use model::TAG_SPAWN;
 ghost use mathlib.Core.Path.{_≡_};
 ghost use mathlib.Core.Bool.{_&&_, _||_};
 ghost use Prim.Native.Nat.{_+_, _≤_};
@@ -10,6 +11,7 @@ ghost use lib.ListN.{length, getD, take, drop};
 ghost use lib.Dec.{eqb, ltb, leb};
 ghost use Rattle.model.specs.Rows.{program, tag, num};
 ghost use Rattle.model.specs.Limits.{maxArity};
+ghost use Rattle.model.specs.Heads.{is-class};
 ghost use Rattle.program.specs.Rows.{Whole};
 
 // Word i of the n words that stand from `at`, and 0 past them.
@@ -49,6 +51,14 @@ pub fn is_function(t: usize) -> bool
     ensures { λ b. ⌜ b ≡ (eqb t 3 || eqb t 11) ⌝ }
 {
     t == TAG_FUNCTION || t == TAG_GLOBAL
+}
+
+// A class is a spawn row, or R for the starting process.
+pub fn is_class(ws: &[u16], s: Sizes, c: usize) -> bool
+    requires { ⌜ Whole (now ws) s ⌝ }
+    ensures { λ b. ⌜ b ≡ is-class (program (now (ws .entry)) s) c ⌝ }
+{
+    tag(ws, s, c) == TAG_SPAWN || c == s.rows
 }
 
 // Row r has the tag t, and a number below the limit.

@@ -16,8 +16,9 @@ use Rattle.model.specs.Words.{Columns}
 use Rattle.model.specs.Rows.{Program, program, size, step}
 use Rattle.model.specs.Tables.{Tables, tables}
 use Rattle.model.proofs.Reader.{past-wrong, read-end}
+use Rattle.bits.proofs.Rows.{filled-to}
 use Rattle.lists.specs.Lists.{Starts}
-use Rattle.positions.specs.Positions.{Ends}
+use Rattle.layout.specs.Tables.{Ends}
 use Rattle.positions.specs.Branches.{Branch-bits}
 use Rattle.values.specs.Values.{width}
 use Rattle.system_letters.specs.Letters.{Class-letters}
@@ -31,10 +32,6 @@ row-below step rows item r e n h =
       | yes l ↦ l
       | no l ↦ let z : n - r ≡ 0 = omega arith in past-wrong e r (sym (rw z at h) ∙ read-end step rows item [] r)
     ]
-
--- all n words are put
-pub filled-all : (u t : List ℕ) (p z n : ℕ) (f : ℕ → ℕ) → Filled u t p z f → z ≡ n → Filled u t p n f
-filled-all u t p z n f r e = rw e at r
 
 -- a table of which no word that it asks for has changed
 pub ends-kept : (p : Program) (n : ℕ) (before after : List ℕ) → size p ≤ n → length after ≡ length before → Same-below n before after → Ends p before → Ends p after

@@ -1,6 +1,6 @@
 // The tables that the rules of a state are read from: four of words stand one behind the other in one lent slice, each
 // with room for any message, so that whoever needs rules hands on one slice and not four.
-use matching::names::name_width;
+use matching_names::name_width;
 use model::MAX_ROWS;
 use model::Sizes;
 use state_rules::rules_within;

@@ -17,10 +17,10 @@ use Rattle.model.specs.Counters.{letter-count, counter-count}
 use Rattle.model.specs.Rules.{from-each, letters-read}
 use Rattle.lists.specs.Lists.{Starts}
 use Rattle.lists.specs.Ready.{Ready}
-use Rattle.positions.specs.Positions.{Ends}
+use Rattle.layout.specs.Tables.{Ends}
 use Rattle.positions.specs.Branches.{Branch-bits}
 use Rattle.values.specs.Values.{width}
-use Rattle.matching.specs.Patterns.{Fitting-sets}
+use Rattle.matching_names.specs.Names.{Fitting-sets}
 use Rattle.system_letters.specs.Letters.{Name-heads, Class-letters, Letter-sets, letter-width, allowed-set}
 use Rattle.system_letters.specs.Letters.{class-at, letter-at}
 

@@ -17,12 +17,8 @@ use Rattle.model.specs.Rows.{Program, size, tag, num}
 use Rattle.model.specs.Scopes.{binds, binds-name, binder, bound-again, name-check}
 use Rattle.model.specs.Verify.{answer}
 use Rattle.scopes.specs.Tables.{is-bound}
-use Rattle.model.proofs.Logic.{test, true-false, and-intro}
+use Rattle.model.proofs.Logic.{test, true-false, and-intro, and-none}
 use Rattle.model.proofs.Index.{any-intro, none-any, first-hit, first-miss, First, first-is}
-
-and-none : (b : Bool) → (b && false) ≡ false
-and-none true = refl
-and-none false = refl
 
 -- the tags that bind
 pub binds-head : (t : ℕ) → 2 ≤ t → t ≤ 7 → true ≡ binds t

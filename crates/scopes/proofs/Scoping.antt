@@ -23,11 +23,12 @@ use Rattle.model.proofs.Index.{first-end, first-hit, first-miss, First, first-i
 use Rattle.program.specs.Rows.{from}
 use Rattle.model.specs.declared.Sizes.{Sizes}
 use Rattle.model.specs.Words.{columns}
+use Rattle.model.proofs.Heads.{head-between}
 use Rattle.program.proofs.Reading.{from-none, past-tag}
 use Rattle.program.proofs.Items.{bound-says, lead-none}
-use Rattle.layout.specs.Tables.{After-from, Rest-at}
-use Rattle.layout.proofs.Visits.{past-is, parted, head-between, head-read}
-use Rattle.layout.proofs.Ending.{opened-by}
+use Rattle.layout.specs.Tables.{Ends}
+use Rattle.layout.proofs.Visits.{past-is, parted, head-read}
+use Rattle.layout.proofs.Resting.{rested}
 
 -- the tags of uses
 pub uses-these : (t : ℕ) → (t ≡ 1) ⊎ ((t ≡ 8) ⊎ ((t ≡ 21) ⊎ (t ≡ 33))) → true ≡ uses t
@@ -129,49 +130,16 @@ binds-range t h b =
     ]
 
 module _ (ws : List ℕ) (s : Sizes) where
-  -- what stands between a head that binds and its rest is read, and so is the rest
-  record Rested (r : ℕ) : Type 0 where
-    at : ℕ
-    end : ℕ
-    leads : from (program ws s) (lead (kind (tag (program ws s) r))) (r + 1) ≡ past at
-    rests : from (program ws s) (expression ∷ []) at ≡ past end
-
-  rested : (r : ℕ) → row-check (program ws s) ≡ none → r < size (program ws s) → 2 ≤ tag (program ws s) r → tag (program ws s) r ≤ 7 → Rested r
-  rested r h a lo hi =
-      let p = program ws s in
-      let (q, k) = head-read p r h a (head-between (tag p r) (omega arith) (omega arith)) in
-      let o = opened-by p expression _ _ r q (bound-says ws s (tag p r) (num p r) lo hi) k in
-      let w = parted p (lead (kind (tag p r))) (expression ∷ []) (r + 1) q (o .1) in
-      record { at = w .at; end = q; leads = w .first; rests = w .second }
-
-  -- the code's rest is the model's
-  pub rest-is : (r x : ℕ) → row-check (program ws s) ≡ none → r < size (program ws s) → Rest-at (program ws s) r x → x ≡ rest (program ws s) r
-  unfolding rest
-  rest-is r x h a m =
-      let p = program ws s in
-      let by : (q : ℕ) → from p (lead (kind (tag p r))) (r + 1) ≡ past q → x ≡ past-items p (lead (kind (tag p r))) (r + 1)
-      = λ q k. m .rests q k ∙ sym (past-is p (lead (kind (tag p r))) (r + 1) q k) in
-      elim (decLt 1 (tag p r)) [
-        | yes lo ↦ elim (decLt (tag p r) 8) [
-          | yes hi ↦ let w = rested r h a lo (omega arith) in by (w .at) (w .leads)
-          | no hi ↦ by (r + 1) (none-leads r (omega arith) (omega arith) (omega arith) (omega arith) (omega arith))
-        ]
-        | no lo ↦ by (r + 1) (none-leads r (omega arith) (omega arith) (omega arith) (omega arith) (omega arith))
-      ]
-    where
-      none-leads : (r : ℕ) → (tag (program ws s) r ≡ 2 → ⊥) → (tag (program ws s) r ≡ 3 → ⊥) → (tag (program ws s) r ≡ 4 → ⊥) → (tag (program ws s) r ≡ 5 → ⊥) → (tag (program ws s) r ≡ 6 → ⊥) → from (program ws s) (lead (kind (tag (program ws s) r))) (r + 1) ≡ past (r + 1)
-      none-leads r a b c d e = ap (λ l. from (program ws s) l (r + 1)) (lead-none (tag (program ws s) r) a b c d e) ∙ from-none (program ws s) (r + 1)
-
   -- an expression is read where a name holds
-  pub holds-end : (b h v : ℕ) (table : List ℕ) → row-check (program ws s) ≡ none → b < size (program ws s) → binds (tag (program ws s) b) ≡ true → h ≡ holds-in (program ws s) b → h < size (program ws s) → After-from (program ws s) 0 table → v ≡ getD table h 0 → v ≡ past-items (program ws s) (expression ∷ []) h
-  unfolding holds-in rest next-head
+  pub holds-end : (b h v : ℕ) (table : List ℕ) → row-check (program ws s) ≡ none → b < size (program ws s) → binds (tag (program ws s) b) ≡ true → h ≡ holds-in (program ws s) b → h < size (program ws s) → Ends (program ws s) table → v ≡ getD table h 0 → v ≡ past-items (program ws s) (expression ∷ []) h
+  unfolding holds-in rest next-head from
   holds-end b h v table k a t e c after f =
       let p = program ws s in
       let by : (q : ℕ) → from p (expression ∷ []) h ≡ past q → v ≡ past-items p (expression ∷ []) h
-      = λ q m. f ∙ (after .expressions h q (omega arith) m ∙ sym (past-is p (expression ∷ []) h q m)) in
+      = λ q m. f ∙ (after .after-expression h q m ∙ sym (past-is p (expression ∷ []) h q m)) in
       test (is-head (tag p b))
       (λ y. let (lo, hi) = binds-range (tag p b) y t in
-      let w = rested b k a lo hi in
+      let w = rested ws s b k a lo hi in
       let z : h ≡ w .at = e ∙ (rw (y, holds-in) (past-is p (lead (kind (tag p b))) (b + 1) (w .at) (w .leads))) in
       by (w .end) (ap (from p (expression ∷ [])) z ∙ w .rests))
       (λ y. let z : h ≡ first b (size p) (λ q. is-head (tag p q)) = e ∙ rw (y, holds-in) in

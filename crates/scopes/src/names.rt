@@ -10,14 +10,13 @@ use model::Verdict;
 use program::rows::num;
 use program::rows::tag;
 ghost use mathlib.Core.Path.{_≡_};
-ghost use mathlib.Core.Option.{none};
 ghost use Prim.Native.Nat.{_≤_, _<_};
 ghost use lib.ListN.{length};
 ghost use Rattle.model.specs.Index.{first, all};
-ghost use Rattle.model.specs.Rows.{program, row-check};
+ghost use Rattle.model.specs.Rows.{program};
 ghost use Rattle.model.specs.Scopes.{binds, bound-again, name-check};
 ghost use Rattle.model.specs.Verify.{answer};
-ghost use Rattle.program.specs.Rows.{Whole};
+ghost use Rattle.program.specs.Rows.{Whole, Fitted};
 ghost use Rattle.scopes.specs.Tables.{Binder-table, Unbound, is-bound};
 
 // The tags of the rows that bind a name.
@@ -63,10 +62,8 @@ fn fill_binders(ws: &[u16], s: Sizes, table: &mut [u16])
 
 // Row r binds a name that an earlier row binds.
 fn is_again(ws: &[u16], s: Sizes, table: &[u16], r: usize) -> bool
-    requires { ⌜ Whole (now ws) s ⌝ }
-    requires { ⌜ row-check (program (now ws) s) ≡ none ⌝ }
-    requires { ⌜ Binder-table (program (now ws) s) (now table) ⌝ }
-    requires { ⌜ r < s .rows ⌝ }
+    requires { ⌜ Fitted (now ws) s ⌝ }
+    requires { ⌜ Binder-table (program (now ws) s) (now table) × (r < s .rows) ⌝ }
     ensures { λ b. ⌜ b ≡ bound-again (program (now (ws .entry)) s) r ⌝ }
 {
     if binds(tag(ws, s, r)) {
@@ -79,8 +76,7 @@ fn is_again(ws: &[u16], s: Sizes, table: &[u16], r: usize) -> bool
 
 // The first row that binds a name again; the number of rows where none does.
 fn first_again(ws: &[u16], s: Sizes, table: &[u16]) -> usize
-    requires { ⌜ Whole (now ws) s ⌝ }
-    requires { ⌜ row-check (program (now ws) s) ≡ none ⌝ }
+    requires { ⌜ Fitted (now ws) s ⌝ }
     requires { ⌜ Binder-table (program (now ws) s) (now table) ⌝ }
     ensures { λ r. ⌜ r ≡ first 0 (s .rows) (bound-again (program (now (ws .entry)) s)) ⌝ }
 {
@@ -112,8 +108,7 @@ fn all_bound(ws: &[u16], s: Sizes, table: &[u16]) -> bool
 
 // Refusal 4: the first row that binds a name again, or a name that no row binds. The binders are left in the table.
 pub fn name_check(ws: &[u16], s: Sizes, table: &mut [u16]) -> Verdict
-    requires { ⌜ Whole (now ws) s ⌝ }
-    requires { ⌜ row-check (program (now ws) s) ≡ none ⌝ }
+    requires { ⌜ Fitted (now ws) s ⌝ }
     requires { ⌜ s .names ≤ length (now table) ⌝ }
     ensures { λ v. ⌜ v ≡ answer (name-check (program (now (ws .entry)) s)) ⌝ }
     ensures { λ _. ⌜ Binder-table (program (now (ws .entry)) s) (now (table .exit)) ⌝ }

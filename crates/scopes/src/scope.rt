@@ -1,5 +1,5 @@
 // Where names hold; refusal 5. The tables are lent: binders by name, ends and next heads by row.
-use layout::ends::rest_row;
+use layout::ends::rest_of;
 use layout::tables::entry;
 use model::Sizes;
 use model::TAG_CASE;
@@ -13,16 +13,15 @@ use program::rows::tag;
 use rooms::row_words16;
 ghost use mathlib.Core.Path.{_≡_};
 ghost use mathlib.Core.Bool.{true};
-ghost use mathlib.Core.Option.{none};
 ghost use Prim.Native.Nat.{_≤_, _<_};
 ghost use lib.ListN.{length};
 ghost use Rattle.model.specs.Index.{first};
-ghost use Rattle.model.specs.Rows.{program, tag, is-head, row-check};
-ghost use Rattle.model.specs.Scopes.{binds, uses, rest, holds-in, in-scope, out-of-scope, scope-check};
+ghost use Rattle.model.specs.Rows.{program, tag, is-head};
+ghost use Rattle.model.specs.Scopes.{binds, uses, holds-in, in-scope, out-of-scope, scope-check};
 ghost use Rattle.model.specs.Verify.{answer};
-ghost use Rattle.program.specs.Rows.{Whole};
-ghost use Rattle.layout.specs.Tables.{After-table};
-ghost use Rattle.scopes.specs.Tables.{Binder-table, Head-table};
+ghost use Rattle.program.specs.Rows.{Whole, Fitted};
+ghost use Rattle.layout.specs.Tables.{Ends};
+ghost use Rattle.scopes.specs.Tables.{Binder-table, Head-table, Laid};
 
 // A head is a row with a tag from 1 to 9.
 fn is_head(t: usize) -> bool
@@ -58,59 +57,39 @@ fn fill_next_heads(ws: &[u16], s: Sizes, table: &mut [u16])
     }
 }
 
-// The rest of the expression at row r.
-pub fn rest(ws: &[u16], s: Sizes, ends: &[u16], r: usize) -> usize
-    requires { ⌜ Whole (now ws) s ⌝ }
-    requires { ⌜ row-check (program (now ws) s) ≡ none ⌝ }
-    requires { ⌜ After-table (program (now ws) s) (now ends) ⌝ }
-    requires { ⌜ r < s .rows ⌝ }
-    ensures { λ x. ⌜ x ≡ rest (program (now (ws .entry)) s) r ⌝ }
-{
-    rest_row(ws, s, ends, r)
-}
-
 // The head of the expression in which the name that row b binds holds.
-fn holds_in(ws: &[u16], s: Sizes, ends: &[u16], heads: &[u16], b: usize) -> usize
-    requires { ⌜ Whole (now ws) s ⌝ }
-    requires { ⌜ row-check (program (now ws) s) ≡ none ⌝ }
-    requires { ⌜ After-table (program (now ws) s) (now ends) ⌝ }
-    requires { ⌜ Head-table (program (now ws) s) (now heads) ⌝ }
+fn holds_in(ws: &[u16], s: Sizes, afters: &[u16], heads: &[u16], b: usize) -> usize
+    requires { ⌜ Laid (now ws) s (now afters) (now heads) ⌝ }
     requires { ⌜ b < s .rows ⌝ }
     ensures { λ x. ⌜ x ≡ holds-in (program (now (ws .entry)) s) b ⌝ }
 {
     if is_head(tag(ws, s, b)) {
-        rest(ws, s, ends, b)
+        rest_of(ws, s, afters, b)
     } else {
         entry(heads, b)
     }
 }
 
 // A name that row b binds holds at row r.
-fn is_in_scope(ws: &[u16], s: Sizes, ends: &[u16], heads: &[u16], b: usize, r: usize) -> bool
-    requires { ⌜ Whole (now ws) s ⌝ }
-    requires { ⌜ row-check (program (now ws) s) ≡ none ⌝ }
-    requires { ⌜ After-table (program (now ws) s) (now ends) ⌝ }
-    requires { ⌜ Head-table (program (now ws) s) (now heads) ⌝ }
+fn is_in_scope(ws: &[u16], s: Sizes, afters: &[u16], heads: &[u16], b: usize, r: usize) -> bool
+    requires { ⌜ Laid (now ws) s (now afters) (now heads) ⌝ }
     requires { ⌜ (r < s .rows) × (b < s .rows) × (binds (tag (program (now ws) s) b) ≡ true) ⌝ }
     ensures { λ x. ⌜ x ≡ in-scope (program (now (ws .entry)) s) b r ⌝ }
 {
     if tag(ws, s, b) == TAG_GLOBAL {
         return true;
     }
-    let from = holds_in(ws, s, ends, heads, b);
+    let from = holds_in(ws, s, afters, heads, b);
     if from > r {
         return false;
     }
-    let end = entry(ends, from);
+    let end = entry(afters, from);
     r < end
 }
 
 // Row r reads a name outside its scope.
-fn is_out(ws: &[u16], s: Sizes, ends: &[u16], heads: &[u16], names: &[u16], r: usize) -> bool
-    requires { ⌜ Whole (now ws) s ⌝ }
-    requires { ⌜ row-check (program (now ws) s) ≡ none ⌝ }
-    requires { ⌜ After-table (program (now ws) s) (now ends) ⌝ }
-    requires { ⌜ Head-table (program (now ws) s) (now heads) ⌝ }
+fn is_out(ws: &[u16], s: Sizes, afters: &[u16], heads: &[u16], names: &[u16], r: usize) -> bool
+    requires { ⌜ Laid (now ws) s (now afters) (now heads) ⌝ }
     requires { ⌜ Binder-table (program (now ws) s) (now names) × (r < s .rows) ⌝ }
     ensures { λ x. ⌜ x ≡ out-of-scope (program (now (ws .entry)) s) r ⌝ }
 {
@@ -121,21 +100,18 @@ fn is_out(ws: &[u16], s: Sizes, ends: &[u16], heads: &[u16], names: &[u16], r: u
     if b >= s.rows {
         return true;
     }
-    !is_in_scope(ws, s, ends, heads, b, r)
+    !is_in_scope(ws, s, afters, heads, b, r)
 }
 
 // The first row that reads a name outside its scope; the number of rows where none does.
-fn first_out(ws: &[u16], s: Sizes, ends: &[u16], heads: &[u16], names: &[u16]) -> usize
-    requires { ⌜ Whole (now ws) s ⌝ }
-    requires { ⌜ row-check (program (now ws) s) ≡ none ⌝ }
-    requires { ⌜ After-table (program (now ws) s) (now ends) ⌝ }
-    requires { ⌜ Head-table (program (now ws) s) (now heads) ⌝ }
+fn first_out(ws: &[u16], s: Sizes, afters: &[u16], heads: &[u16], names: &[u16]) -> usize
+    requires { ⌜ Laid (now ws) s (now afters) (now heads) ⌝ }
     requires { ⌜ Binder-table (program (now ws) s) (now names) ⌝ }
     ensures { λ x. ⌜ x ≡ first 0 (s .rows) (out-of-scope (program (now (ws .entry)) s)) ⌝ }
 {
     let mut r = 0;
     while r < s.rows {
-        if is_out(ws, s, ends, heads, names, r) {
+        if is_out(ws, s, afters, heads, names, r) {
             return r;
         }
         r += 1;
@@ -144,16 +120,14 @@ fn first_out(ws: &[u16], s: Sizes, ends: &[u16], heads: &[u16], names: &[u16]) -
 }
 
 // Refusal 5: the first row that reads a name outside its scope.
-pub fn scope_check(ws: &[u16], s: Sizes, ends: &[u16], names: &[u16]) -> Verdict
-    requires { ⌜ Whole (now ws) s ⌝ }
-    requires { ⌜ row-check (program (now ws) s) ≡ none ⌝ }
-    requires { ⌜ After-table (program (now ws) s) (now ends) ⌝ }
-    requires { ⌜ Binder-table (program (now ws) s) (now names) ⌝ }
+pub fn scope_check(ws: &[u16], s: Sizes, afters: &[u16], names: &[u16]) -> Verdict
+    requires { ⌜ Fitted (now ws) s ⌝ }
+    requires { ⌜ Ends (program (now ws) s) (now afters) × Binder-table (program (now ws) s) (now names) ⌝ }
     ensures { λ v. ⌜ v ≡ answer (scope-check (program (now (ws .entry)) s)) ⌝ }
 {
     let mut heads = row_words16();
     fill_next_heads(ws, s, &mut heads);
-    let r = first_out(ws, s, ends, &heads, names);
+    let r = first_out(ws, s, afters, &heads, names);
     if r < s.rows {
         let place = 4 + r;
         return Verdict::Scope(place);

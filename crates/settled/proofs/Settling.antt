@@ -21,7 +21,7 @@ use Rattle.model.proofs.Parse.Grammar.{fits-some}
 use Rattle.model.proofs.Parse.Locations.{Location, location-follows}
 use Rattle.lists.specs.Ready.{Ready}
 use Rattle.positions.specs.Positions.{Run}
-use Rattle.positions.proofs.Standing.{case-run, receive-run}
+use Rattle.positions.proofs.Standing.{case-run, receive-run, rows-length}
 use Rattle.values.specs.Values.{width, Values, Flow-sets}
 use Rattle.values.proofs.Names.{head-name}
 use Rattle.branches.specs.Taken.{lacks, branch-code, taken-bits, Is-taken, Bits-told}
@@ -45,11 +45,6 @@ unfolding kind step expression-step is-branch-count
 receive-few {p} {r} l t =
     let f = stands-row (l .stands) in
     leb-true _ _ (and-right (leb 1 (num p r)) _ (fits-some _ _ (f .more) (rw (t, expression-step) at (f .says)) .0))
-
-rows-length : (p : Program) (n q : ℕ) → length (branch-rows p n q) ≡ n
-unfolding branch-rows
-rows-length p zero q = refl
-rows-length p (suc n) q = ap suc (rows-length p n (past-items p branch q))
 
 -- the bits of at most 16 branches, told
 pub taken-told : {p : Program} {t : Tables} {sets : List ℕ} {n q count k : ℕ} (l : Columns) (a : ℕ) → Is-taken p t sets n q count k → Values l a (width (size p)) n sets → count ≤ 16 → Bits-told p t l a (branch-rows p count q) k

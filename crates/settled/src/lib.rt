@@ -18,7 +18,7 @@ ghost use Rattle.model.specs.Rows.{program, tag, num};
 ghost use Rattle.model.specs.Tables.{tables, has};
 ghost use Rattle.lists.specs.Lists.{Starts};
 ghost use Rattle.lists.specs.Ready.{Ready};
-ghost use Rattle.positions.specs.Positions.{Ends};
+ghost use Rattle.layout.specs.Tables.{Ends};
 ghost use Rattle.values.specs.Values.{Flow-sets, Mail-sets};
 ghost use Rattle.matching.specs.Patterns.{Matches};
 ghost use Rattle.asks.specs.Asks.{there-code};

@@ -7,11 +7,8 @@ use mathlib.Core.List.{List, [], _∷_}
 use lib.Dec.{leb}
 use borrow.Author.Tests.{le-leb, lt-leb}
 use Rattle.model.specs.Message.{Limited, limited}
+use Rattle.model.proofs.Logic.{and-none}
 use Rattle.sizes.specs.Sizes.{inside, first-outside}
-
-and-none : (b : Bool) → (b && false) ≡ false
-and-none true = refl
-and-none false = refl
 
 pub first-outside-hit : (l : Limited) (ls : List Limited) → inside l ≡ false → first-outside (l ∷ ls) ≡ 0
 unfolding first-outside

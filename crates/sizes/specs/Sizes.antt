@@ -1,14 +1,9 @@
--- What the code of this crate says of sizes: that they place the parts, and which is the first outside its limits.
-use Prim.Native.Nat.{ℕ, suc, _+_, _^_, _<_}
+-- What the code of this crate says of sizes: which is the first outside its limits.
+use Prim.Native.Nat.{ℕ, suc}
 use mathlib.Core.Bool.{Bool, true, false, _&&_}
 use mathlib.Core.List.{List, [], _∷_}
 use lib.Dec.{leb}
-use Rattle.model.specs.declared.Sizes.{Sizes}
 use Rattle.model.specs.Message.{Limited}
-
--- sizes so small that no position reaches the end of the numbers, as those that are words
-abbrev pub Placed : Sizes → Type 0
-Placed s = s .rows + s .badrows + s .flows + s .mails + s .states + s .ceilings + s .entries + s .weights < 2 ^ 19
 
 -- a size is within its limits
 unfoldable pub inside : Limited → Bool

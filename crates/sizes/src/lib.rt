@@ -1,5 +1,4 @@
-// The sizes of the parts of a message: as they are read, where they say that the parts begin, and the first one
-// outside its limits.
+// The sizes of the parts of a message: as they are read, and the first one outside its limits.
 ghost use mathlib.Core.Path.{_≡_};
 ghost use mathlib.Core.List.{List, _∷_};
 ghost use Prim.Native.Nat.{_+_, _^_, _≤_, _<_};
@@ -8,9 +7,9 @@ ghost use Rattle.model.specs.Limits.{present};
 ghost use Rattle.model.specs.Words.{words};
 ghost use Rattle.model.specs.Message.{Limited, limited};
 ghost use Rattle.model.specs.Message.{program-sizes, bads-sizes, tables-sizes, ceilings-sizes, weights-sizes};
-ghost use Rattle.model.specs.Message.{fifth-size, sizes, table-cells};
-ghost use Rattle.model.specs.Message.{bads-at, tables-at, ceilings-at, weights-at, end-at};
-ghost use Rattle.sizes.specs.Sizes.{Placed, first-outside};
+ghost use Rattle.model.specs.Message.{fifth-size, sizes};
+ghost use Rattle.parts.specs.Parts.{Low-sizes};
+ghost use Rattle.sizes.specs.Sizes.{first-outside};
 use model::MAX_BAD_ROWS;
 use model::MAX_BADS;
 use model::MAX_CEILING_ENTRIES;
@@ -26,6 +25,7 @@ use model::MAX_STATES;
 use model::MAX_WEIGHT_ENTRIES;
 use model::MIN_BAD_ROWS;
 use model::Sizes;
+use parts::table_cells;
 use words::word;
 
 // Word i of the bytes, and 0 where they end before it, as the model reads a size that is not there.
@@ -53,18 +53,10 @@ fn fifth_size(bytes: &[u8], ceilings: usize, entries: usize, i: usize) -> usize
     }
 }
 
-// The words of the arrays of the tables: two columns of each list, and the third column of the states.
-pub fn table_cells(flows: usize, mails: usize, states: usize) -> usize
-    requires { ⌜ flows + mails + states < 2 ^ 19 ⌝ }
-    ensures { λ r. ⌜ r ≡ table-cells flows mails states ⌝ }
-{
-    2 * (flows + mails + states) + states
-}
-
 // The sizes of the five parts, each where the sizes before it say that it stands.
 pub fn sizes_of(bytes: &[u8]) -> Sizes
     ensures { λ r. ⌜ r ≡ sizes (words (now (bytes .entry))) ⌝ }
-    ensures { λ r. ⌜ Placed r ⌝ }
+    ensures { λ r. ⌜ Low-sizes r ⌝ }
 {
     let rows = size_at(bytes, 0);
     let bads = 4 + 2 * rows;
@@ -91,52 +83,6 @@ pub fn sizes_of(bytes: &[u8]) -> Sizes
         entries,
         lines: fifth_size(bytes, ceilings, entries, last + 2),
         weights: fifth_size(bytes, ceilings, entries, last + 3),
-    }
-}
-
-// The word at which the bads part begins.
-pub fn bads_at(s: Sizes) -> usize
-    requires { ⌜ Placed s ⌝ }
-    ensures { λ r. ⌜ r ≡ bads-at s ⌝ }
-{
-    4 + 2 * s.rows
-}
-
-// The word at which the tables part begins.
-pub fn tables_at(s: Sizes) -> usize
-    requires { ⌜ Placed s ⌝ }
-    ensures { λ r. ⌜ r ≡ tables-at s ⌝ }
-{
-    bads_at(s) + 2 + 2 * s.badrows
-}
-
-// The word at which the ceilings part begins.
-pub fn ceilings_at(s: Sizes) -> usize
-    requires { ⌜ Placed s ⌝ }
-    ensures { λ r. ⌜ r ≡ ceilings-at s ⌝ }
-{
-    let cells = table_cells(s.flows, s.mails, s.states);
-    tables_at(s) + 3 + cells
-}
-
-// The word past the ceilings, at which the weights part begins where there is one.
-pub fn weights_at(s: Sizes) -> usize
-    requires { ⌜ Placed s ⌝ }
-    ensures { λ r. ⌜ r ≡ weights-at s ⌝ }
-{
-    ceilings_at(s) + 2 + 2 * s.entries
-}
-
-// The word past the last part: the weights, where there are lines of them.
-pub fn end_at(s: Sizes) -> usize
-    requires { ⌜ Placed s ⌝ }
-    ensures { λ r. ⌜ r ≡ end-at s ⌝ }
-{
-    let at = weights_at(s);
-    if s.lines == 0 {
-        at
-    } else {
-        at + 2 + 2 * s.weights
     }
 }
 

@@ -14,9 +14,9 @@ use Rattle.model.specs.Counters.{letter-count, counter-count}
 use Rattle.model.specs.Ceilings.{ceilings-of, ceiling-entries}
 use Rattle.lists.specs.Lists.{Starts}
 use Rattle.lists.specs.Ready.{Ready}
-use Rattle.positions.specs.Positions.{Ends}
+use Rattle.layout.specs.Tables.{Ends}
 use Rattle.positions.specs.Branches.{Branch-bits}
-use Rattle.matching.specs.Patterns.{Fitting-sets}
+use Rattle.matching_names.specs.Names.{Fitting-sets}
 use Rattle.system_letters.specs.Letters.{Name-heads, Class-letters}
 use Rattle.letter_codes.specs.Codes.{Coded}
 use Rattle.rule_tables.specs.Joined.{flow-from, branches-from, letter-from}

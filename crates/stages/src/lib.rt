@@ -24,7 +24,7 @@ ghost use Rattle.model.specs.Weights.{lines-of, light-check};
 ghost use Rattle.model.specs.Limits.{maxCounters};
 ghost use Rattle.model.specs.Verify.{answer};
 ghost use Rattle.lists.specs.Ready.{Ready};
-ghost use Rattle.positions.specs.Positions.{Ends};
+ghost use Rattle.layout.specs.Tables.{Ends};
 ghost use Rattle.system_letters.specs.Letters.{Class-letters, Letter-sets};
 ghost use Rattle.ceilings_form.specs.Parts.{Whole};
 ghost use Rattle.ceilings.specs.Table.{Limits-table};

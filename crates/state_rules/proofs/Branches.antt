@@ -28,7 +28,7 @@ use Rattle.model.proofs.Parse.Locations.{Location}
 use Rattle.lists.specs.Ready.{Ready}
 use Rattle.positions.specs.Positions.{branch-row, Run}
 use Rattle.positions.specs.Branches.{Branch-bits}
-use Rattle.positions.proofs.Standing.{run-first, receive-run}
+use Rattle.positions.proofs.Standing.{run-first, receive-run, rows-length}
 use Rattle.values.proofs.Members.{each-none}
 use Rattle.matching.specs.Patterns.{Pattern}
 use Rattle.system_letters.specs.Letters.{Class-letters, letter-width, Found}
@@ -37,7 +37,7 @@ use Rattle.rules.specs.Listed.{kind-effect}
 use Rattle.rules.proofs.States.{class-low}
 use Rattle.rules.proofs.Gather.{gather-none, rows-range}
 use Rattle.plain_rules.proofs.Heads.{tag-head, here}
-use Rattle.plain_rules.proofs.Branches.{Branch-at, rows-length, rows-at, counted}
+use Rattle.plain_rules.proofs.Branches.{Branch-at, rows-at, counted}
 use Rattle.state_rules.specs.Heads.{letter-rules, class-turn, receive-turn, Letter-room}
 use Rattle.state_rules.proofs.Letters.{class-order, letters-ruled, read-there, letter-room}
 

@@ -14,7 +14,7 @@ use Rattle.model.specs.Tables.{Tables, tables, entries, state-at}
 use Rattle.model.specs.Counters.{letter-count}
 use Rattle.model.specs.Rules.{Effect, quiet, reads, puts, starts, Rule, rule, state-rules}
 use borrow.Author.Tests.{not-true}
-use Rattle.model.proofs.Logic.{test, true-false, and-intro}
+use Rattle.model.proofs.Logic.{test, true-false, and-intro, and-true}
 use Rattle.model.proofs.Index.{any-intro}
 use Rattle.model.proofs.Heads.{by-kind, tag-is}
 use Rattle.lists.specs.Ready.{Ready}
@@ -102,11 +102,7 @@ class-none {ws} {s} h letter-at g d class w found wide b is none effect to i =
 
 -- what the sets hold after `keep_within`
 pub wide-kept : (narrow a b : Bool) → not narrow ≡ true → a ≡ (a && (not narrow || b))
-wide-kept narrow a b n = rw n (kept-so a)
-  where
-    kept-so : (a : Bool) → a ≡ (a && true)
-    kept-so true = refl
-    kept-so false = refl
+wide-kept narrow a b n = rw n (sym (and-true a))
 
 pub narrow-kept : (narrow a b p q r : Bool) → not narrow ≡ false → p ≡ a → q ≡ (p && not b) → r ≡ (a && not q) → r ≡ (a && (not narrow || b))
 narrow-kept narrow a b p q r n u v w = rw n (w ∙ (ap (λ x. a && not x) (v ∙ ap (λ x. x && not b) u) ∙ both a b))

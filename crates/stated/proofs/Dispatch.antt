@@ -16,10 +16,9 @@ use Rattle.model.specs.Scopes.{rest}
 use Rattle.model.specs.Heads.{call-at, branch-rows, is-class, parameters, takes}
 use Rattle.model.specs.Tables.{Tables, tables, has, each, some-of, State, onward, state-at, has-state}
 use Rattle.model.specs.Closed.{passes, call-closed, send-closed, begun, spawn-closed, give-closed, branches-closed, entered, state-closed}
-use Rattle.model.proofs.Logic.{true-false, test, and-left, and-right, and-intro, implies-elim, implies-intro}
-use Rattle.model.proofs.Heads.{head-give, head-build, head-function, head-call, head-send, head-spawn, head-self, head-case, head-receive}
+use Rattle.model.proofs.Logic.{true-false, test, and-left, and-right, and-intro, implies-elim, implies-intro, both, and-joined}
+use Rattle.model.proofs.Heads.{head-give, head-build, head-function, head-call, head-send, head-spawn, head-self, head-case, head-receive, head-between}
 use Rattle.model.proofs.Exact.Members.{some-of-iff}
-use Rattle.bits.proofs.Loops.{both}
 use Rattle.lists.specs.Ready.{Ready}
 use Rattle.values.proofs.Names.{head-name, class-upto}
 use Rattle.bits.specs.Bits.{member}
@@ -33,10 +32,6 @@ use Rattle.asks.proofs.Rows.{head-here}
 use Rattle.settled.specs.Settled.{Settled}
 use Rattle.settled.proofs.Settling.{taken-told, told-most}
 use Rattle.stated.specs.Stated.{callees-here, Here, Flagged, Bits-of, Stated}
-
-pub is-head-tag : (t : ℕ) → 1 ≤ t → t ≤ 9 → is-head t ≡ true
-unfolding is-head
-is-head-tag t lo hi = and-intro (leb 1 t) (leb t 9) (le-leb 1 t lo) (le-leb t 9 hi)
 
 -- a code's test
 module _ (k : ℕ) (x : Bool) where
@@ -133,16 +128,12 @@ module _ (p : Program) (t : Tables) (s : State) where
   send-each d m n there filled =
       each-both (t .flow) m (has (t .mail) d) (λ v. has (t .flow) n v && there) ∙
       (ap (λ z. each (t .flow) m (has (t .mail) d) && z) (each-both (t .flow) m (has (t .flow) n) (λ v. there) ∙ ap (λ z. each (t .flow) m (has (t .flow) n) && z) (constant there)) ∙
-      assoc (each (t .flow) m (has (t .mail) d)) (each (t .flow) m (has (t .flow) n)) there)
+      and-joined (each (t .flow) m (has (t .mail) d)) (each (t .flow) m (has (t .flow) n)) there)
     where
       constant : (b : Bool) → each (t .flow) m (λ v. b) ≡ b
       constant b = both (each (t .flow) m (λ v. b)) b
           (λ h. let (v, z, y) = some-of-iff (t .flow) m (λ v. true) (λ w. Iff·rfl) .0 filled in each-at (t .flow) m (λ v. b) h v z)
           (λ h. at-each (t .flow) m (λ v. b) (λ v z. h))
-
-      assoc : (a b c : Bool) → (a && (b && c)) ≡ ((a && b) && c)
-      assoc true b c = refl
-      assoc false b c = refl
 
   spawn-value : (called held first there : Bool) → implies called (held && (there && first)) ≡ code-closed (elim called [ true ↦ there-code (held && first) | false ↦ 0 ]) there
   unfolding implies code-closed there-code

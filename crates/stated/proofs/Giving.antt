@@ -18,11 +18,10 @@ use Rattle.model.specs.Scopes.{rest}
 use Rattle.model.specs.Heads.{call-at, is-class, takes, body}
 use Rattle.model.specs.Tables.{Tables, tables, entries, has, each, State, state, onward, state-at, state-index, has-state}
 use Rattle.model.specs.Closed.{entered, waits-for, resumed, give-closed}
-use Rattle.model.proofs.Logic.{and-left, and-right, and-intro, implies-elim, implies-intro}
+use Rattle.model.proofs.Logic.{and-left, and-right, and-intro, implies-elim, implies-intro, both}
 use Rattle.model.proofs.Index.{all-intro, all-elim, all-miss, all-end}
 use Rattle.model.proofs.Parse.Locations.{head-range}
 use Rattle.model.proofs.Parse.Lengths.{row-within}
-use Rattle.bits.proofs.Loops.{both}
 use Rattle.lists.specs.Lists.{Ascending, head-from, head-to}
 use Rattle.lists.specs.Ready.{Ready}
 use Rattle.lists.proofs.Facts.{columns-whole, states-form}

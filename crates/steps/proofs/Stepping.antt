@@ -10,22 +10,9 @@ use Rattle.model.specs.Limits.{omega-limit}
 use Rattle.model.specs.Rules.{rule}
 use Rattle.model.specs.Markings.{Marking, readable, usable, taking, adding, effect-taken, effect-added, fire}
 use Rattle.model.specs.Ceilings.{Ceiling-limits, highest}
-use Rattle.model.proofs.Logic.{true-false, test, or-cases}
+use Rattle.model.proofs.Logic.{true-false, test, or-cases, and-none, and-first, and-second}
 use Rattle.steps.specs.declared.Step.{Step}
 use Rattle.steps.specs.Steps.{effect-of, rule-of-step, takes-other, adds-other, effect-kind, less-if, more-if}
-
--- a conjunction, or a disjunction, by its first part
-pub and-second : (a b : Bool) → a ≡ true → b ≡ (a && b)
-and-second true b h = refl
-and-second false b h = true-false h refl
-
-pub and-first : (a b : Bool) → a ≡ false → a ≡ (a && b)
-and-first true b h = true-false refl h
-and-first false b h = refl
-
-and-false : (a : Bool) → (a && false) ≡ false
-and-false true = refl
-and-false false = refl
 
 pub less-pass : (b : Bool) (count : ℕ) → b ≡ true → count - 1 ≡ less-if b count
 unfolding less-if
@@ -91,11 +78,11 @@ pub fire-untouched : (σ : Step) (m : Marking) (y : ℕ) → σ .kind ≤ 3 → 
 unfolding takes-other adds-other less-if more-if
 fire-untouched σ m y h a b c =
     fire-stages σ m y h ∙
-    rw (ne-eqb y (σ .from) a, ne-eqb y (σ .to) b, ne-eqb y (σ .other) c, and-false (leb 2 (σ .kind)), and-false (eqb (σ .kind) 1))
+    rw (ne-eqb y (σ .from) a, ne-eqb y (σ .to) b, ne-eqb y (σ .other) c, and-none (leb 2 (σ .kind)), and-none (eqb (σ .kind) 1))
 
 nothing-taken : (σ : Step) (count y : ℕ) → (y ≡ σ .from → ⊥) → (y ≡ σ .other → ⊥) → less-if (takes-other σ y) (less-if (eqb y (σ .from)) count) ≡ count
 unfolding takes-other less-if
-nothing-taken σ count y a c = rw (ne-eqb y (σ .from) a, ne-eqb y (σ .other) c, and-false (eqb (σ .kind) 1))
+nothing-taken σ count y a c = rw (ne-eqb y (σ .from) a, ne-eqb y (σ .other) c, and-none (eqb (σ .kind) 1))
 
 pub fire-kept : (σ : Step) (m : Marking) (y : ℕ) → σ .kind ≤ 3 → (y ≡ σ .from → ⊥) → (y ≡ σ .other → ⊥) → m y ≤ fire (rule-of-step σ) m y
 fire-kept σ m y h a c =
@@ -158,7 +145,7 @@ takes-none σ y h = rw (ne-eqb (σ .kind) 1 h)
 
 pub takes-apart : (σ : Step) (y : ℕ) → (y ≡ σ .other → ⊥) → takes-other σ y ≡ false
 unfolding takes-other
-takes-apart σ y h = rw (ne-eqb y (σ .other) h) (and-false (eqb (σ .kind) 1))
+takes-apart σ y h = rw (ne-eqb y (σ .other) h) (and-none (eqb (σ .kind) 1))
 
 pub takes-it : (σ : Step) (y : ℕ) → σ .kind ≡ 1 → y ≡ σ .other → takes-other σ y ≡ true
 unfolding takes-other

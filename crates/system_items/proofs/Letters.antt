@@ -11,7 +11,6 @@ use lib.ListN.{length, getD, drop, replicate, List·getD-eq-default}
 use lib.Dec.{eqb, leb, ltb}
 use borrow.Author.Tests.{not-true, not-false, eqb-true, eq-eqb, ne-eqb, leb-true, ltb-true}
 use Rattle.bits.specs.Bits.{member, Row}
-use Rattle.bits.proofs.Loops.{both}
 use Rattle.model.specs.declared.Sizes.{Sizes}
 use Rattle.model.specs.Keys.{begins}
 use Rattle.model.specs.Words.{Columns, right, columns}
@@ -20,7 +19,7 @@ use Rattle.model.specs.Letters.{head-count}
 use Rattle.model.specs.Tables.{Tables, tables}
 use Rattle.model.specs.Bads.{bad-rows, letter-arity, numbers}
 use Rattle.model.specs.Counters.{letters-allowed, any-argument, letter-keys, letter-count, counter-count}
-use Rattle.model.proofs.Logic.{test, and-right, or-cases}
+use Rattle.model.proofs.Logic.{test, and-right, or-cases, both}
 use Rattle.model.specs.Index.{all}
 use Rattle.model.proofs.Index.{all-end, all-hit, all-miss, all-elim}
 use Rattle.model.proofs.Keys.{getD-there, ascends-at}
@@ -32,11 +31,12 @@ use Rattle.model.proofs.Parse.Grammar.{fits-some}
 use Rattle.model.proofs.Parse.Reached.{whole-stands}
 use Rattle.model.proofs.Parse.Spans.{Spans}
 use Rattle.model.proofs.Parse.Lengths.{built-below}
+use Rattle.system_letters.proofs.Mailed.{key-told}
 use Rattle.values.proofs.Operands.{leaves}
 use Rattle.lists.specs.Ready.{Ready}
 use Rattle.lists.proofs.Facts.{rows-fit}
 use Rattle.system_letters.specs.Letters.{class-at, letter-at, letters-before, letter-width, Class-letters, digit-set, allowed-set, Letter-sets}
-use Rattle.system_letters.proofs.Tables.{head-low}
+use Rattle.system_letters.proofs.Tables.{head-low, built-low}
 use Rattle.system_letters.proofs.Classes.{class-here, before-most, before-rises}
 use Rattle.system_items.specs.Stretches.{digits-are, is-named, names-letters}
 use Rattle.system_items.proofs.Begun.{begins-between, digits-begin, begin-digits}
@@ -58,9 +58,6 @@ module _ {ws : List ℕ} {s : Sizes} (h : Ready ws s) where
   abbrev rows : Columns
   rows = bad-rows ws s
 
-  built-low : (v : ℕ) → tag p v ≡ 2 → num p (v + 1) < p .constructors
-  built-low v e = built-below p (rows-fit h) v (tag-inside ws s v (omega arith)) e
-
   -- a constructor has at most 8 arguments
   constructor-leaf : (x m : ℕ) (more : List Item) → step p constructor x m ≡ some more → (more ≡ []) × (m ≤ 8)
   unfolding step
@@ -81,24 +78,17 @@ module _ {ws : List ℕ} {s : Sizes} (h : Ready ws s) where
       (λ e. rw (e, letter-arity) (arity-low k (ltb-true k (p .constructors) e)))
       (λ e. rw (e, letter-arity) (omega arith))
 
-  -- letter y: its key, and its digits
-  pub key-is : (y : ℕ) → y < letter-count p t → getD (letter-keys p t) y [] ≡ class-at p t y ∷ letter-at p t y
-  unfolding class-at letter-at letter-count
-  key-is y l =
-      let a = key-from p t (getD (letter-keys p t) y []) (getD-there (letter-keys p t) y l) in
-      subst (λ k. k ≡ getD k 0 0 ∷ drop 1 k) (a .same) refl
-
   pub letter-proper : (y : ℕ) → y < letter-count p t → Proper p (letter-at p t y)
   unfolding counter-count
   letter-proper y l =
       let z : t .states .size + y - t .states .size ≡ y = omega arith in
-      key-proper p t built-low (t .states .size + y) (class-at p t y) (letter-at p t y) (omega arith) (omega arith) (rw z (key-is y l))
+      key-proper p t (built-low h) (t .states .size + y) (class-at p t y) (letter-at p t y) (omega arith) (omega arith) (rw z (key-told p t y l))
 
   number-low : (y : ℕ) → y < letter-count p t → getD (letter-at p t y) 0 0 < head-count p
   unfolding letter-count letters-allowed
   number-low y l =
       let a = key-from p t (getD (letter-keys p t) y []) (getD-there (letter-keys p t) y l) in
-      let same : a .class ∷ a .letter ≡ class-at p t y ∷ letter-at p t y = a .same ∙ key-is y l in
+      let same : a .class ∷ a .letter ≡ class-at p t y ∷ letter-at p t y = a .same ∙ key-told p t y l in
       let letter : a .letter ≡ letter-at p t y = cc in
       let f = letter-from p t any-argument (a .value) (a .letter) (a .allows) in
       let z = ap (λ k. getD k 0 0) (f .is ∙ letter) in
@@ -187,7 +177,7 @@ module _ {ws : List ℕ} {s : Sizes} (h : Ready ws s) where
         unfolding begins
         named-key y lo hi =
             let l : y < letter-count p t = omega (arith, before-most p t (c + 1)) in
-            rw (key-is y l, class-here p t c y lo hi, eq-eqb c c refl) (named-begins y l)
+            rw (key-told p t y l, class-here p t c y lo hi, eq-eqb c c refl) (named-begins y l)
 
         pub named-together : (i j k : ℕ) → letters-before p t c ≤ i → i < j → j < k → k < letters-before p t (c + 1) → is-named p t rows from to i ≡ true → is-named p t rows from to k ≡ true → is-named p t rows from to j ≡ true
         unfolding letter-count

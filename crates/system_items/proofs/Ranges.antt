@@ -19,6 +19,7 @@ use Rattle.model.specs.Counters.{letter-count, counter-count, letter-of, counte
 use Rattle.model.proofs.Logic.{test, true-false, and-left, and-right, and-intro, or-cases, or-left, or-right}
 use Rattle.model.proofs.LetterSums.{counter-letter}
 use Rattle.model.proofs.Numbering.Letters.{key-at}
+use Rattle.system_letters.proofs.Mailed.{key-told}
 use Rattle.lists.specs.Lists.{Ascending, head-from, head-to}
 use Rattle.lists.specs.Ready.{Ready}
 use Rattle.lists.proofs.Rising.{place-upto, heads-before, heads-within, heads-behind, heads-order}
@@ -30,7 +31,7 @@ use Rattle.bads_rows.specs.Items.{Range, subject-from}
 use Rattle.bads_rows.proofs.BadRows.{heads-bounds}
 use Rattle.system_items.specs.Stretches.{is-named, names-letters, Stretched}
 use Rattle.system_items.proofs.Begun.{begins-elim, begins-same, begins-intro, numbers-turn, numbers-one, numbers-length}
-use Rattle.system_items.proofs.Letters.{key-is, letter-proper, named-key}
+use Rattle.system_items.proofs.Letters.{letter-proper, named-key}
 
 module _ (p : Program) (t : Tables) where
   -- a state that is counted at a head has its class and row
@@ -131,7 +132,7 @@ module _ {ws : List ℕ} {s : Sizes} (h : Ready ws s) (r : ℕ) where
     there = omega arith
 
     key : key-at p t x ≡ class-at p t y ∷ letter-at p t y
-    key = key-is h y there
+    key = key-told p t y there
 
     begun-class : begins begun (key-at p t x) ≡ true → class-at p t y ≡ c
     begun-class b = sym (ap (λ k. getD k 0 0) key) ∙ begins-elim begun (key-at p t x) b .1 0 (omega (arith, begun-length))

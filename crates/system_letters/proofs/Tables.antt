@@ -13,7 +13,7 @@ use lib.Dec.{eqb}
 use borrow.Author.Tests.{eqb-true, eq-eqb, ne-eqb, lt-ltb, ltb-true}
 use Rattle.bits.specs.Bits.{member, Row, Put}
 use Rattle.bits.proofs.Bits.{bit-zero}
-use Rattle.bits.proofs.Loops.{both, any-split}
+use Rattle.bits.proofs.Loops.{any-split}
 use Rattle.model.specs.declared.Sizes.{Sizes}
 use Rattle.model.specs.Index.{any, count}
 use Rattle.model.specs.Words.{left, right, columns}
@@ -22,7 +22,7 @@ use Rattle.model.specs.Heads.{is-function, is-class}
 use Rattle.model.specs.Letters.{head, head-count, row-shape, row-head}
 use Rattle.model.specs.Tables.{Tables, tables, entries, some-of}
 use Rattle.model.specs.Counters.{letter-keys, letter-count}
-use Rattle.model.proofs.Logic.{test}
+use Rattle.model.proofs.Logic.{test, both, eqb-flip}
 use Rattle.model.proofs.Keys.{getD-there}
 use Rattle.model.proofs.Heads.{class-tag}
 use Rattle.model.proofs.Index.{any-end, any-hit, any-miss, count-end, count-last}
@@ -63,8 +63,12 @@ module _ {ws : List ℕ} {s : Sizes} (h : Ready ws s) where
   abbrev t : Tables
   t = tables ws s
 
+  -- a build is of a constructor
+  pub built-low : (v : ℕ) → tag p v ≡ 2 → num p (v + 1) < p .constructors
+  built-low v e = built-below p (rows-fit h) v (tag-inside ws s v (omega arith)) e
+
   pub head-low : (v : ℕ) → row-head p v < head-count p
-  head-low = row-head-low p (λ v e. built-below p (rows-fit h) v (tag-inside ws s v (omega arith)) e)
+  head-low = row-head-low p built-low
 
   pub head-small : (v x : ℕ) → x ≡ row-head p v → x < s .constructors + 2
   unfolding head-count program
@@ -139,13 +143,10 @@ module _ {ws : List ℕ} {s : Sizes} (h : Ready ws s) where
         (ap (λ x. any 0 i (name-head ws s n2 l2) || x) (turned n2 l2) ∙ sym (any-split 0 i (i + 1) (name-head ws s n2 l2) (omega arith) (omega arith))));
   }
     where
-      flip : (a b : ℕ) → eqb a b ≡ eqb b a
-      flip a b = both _ _ (λ z. eq-eqb b a (sym (eqb-true a b z))) (λ z. eq-eqb a b (sym (eqb-true b a z)))
-
       turned : (n2 l2 : ℕ) → (eqb n2 n && eqb l2 l) ≡ any i (i + 1) (name-head ws s n2 l2)
       turned n2 l2 = test (name-head ws s n2 l2 i)
-          (λ z. (rw (e, k, f, flip n2 (left (tables ws s .flow) i), flip l2 (row-head (program ws s) (right (tables ws s .flow) i))) z) ∙ sym (any-hit i (i + 1) (name-head ws s n2 l2) (omega arith) z))
-          (λ z. (rw (e, k, f, flip n2 (left (tables ws s .flow) i), flip l2 (row-head (program ws s) (right (tables ws s .flow) i))) z) ∙ sym (any-miss i (i + 1) (name-head ws s n2 l2) (omega arith) z ∙ any-end (i + 1) (i + 1) (name-head ws s n2 l2) (omega arith)))
+          (λ z. (rw (e, k, f, eqb-flip n2 (left (tables ws s .flow) i), eqb-flip l2 (row-head (program ws s) (right (tables ws s .flow) i))) z) ∙ sym (any-hit i (i + 1) (name-head ws s n2 l2) (omega arith) z))
+          (λ z. (rw (e, k, f, eqb-flip n2 (left (tables ws s .flow) i), eqb-flip l2 (row-head (program ws s) (right (tables ws s .flow) i))) z) ∙ sym (any-miss i (i + 1) (name-head ws s n2 l2) (omega arith) z ∙ any-end (i + 1) (i + 1) (name-head ws s n2 l2) (omega arith)))
 
   pub headed-all : (i : ℕ) (names : List ℕ) → Headed ws s i names → i ≡ s .flows → Name-heads (program ws s) (tables ws s) names
   unfolding some-of program head-count tables entries columns

@@ -21,7 +21,7 @@ use Rattle.model.specs.Letters.{head-count, row-head}
 use Rattle.model.specs.Tables.{Tables, tables, some-of}
 use Rattle.model.specs.Closed.{argument}
 use Rattle.model.specs.Counters.{name-heads, any-argument}
-use Rattle.model.proofs.Logic.{test, true-false, and-right}
+use Rattle.model.proofs.Logic.{test, true-false, and-right, and-twice}
 use Rattle.model.proofs.Index.{any-elim, any-none, first-is}
 use Rattle.model.proofs.Exact.Tests.{eqb-iff}
 use Rattle.model.proofs.Exact.Members.{some-of-iff}
@@ -108,12 +108,8 @@ lacking p v n k names x e l is never =
     record {
       at = k;
       below = l;
-      none = λ y low. ap (λ z. member names 2 z y) (sym e) ∙ both (member names 2 x y) (any-none 0 (64 * 2) y (λ w. member names 2 x w && member names 2 x w) (sym is ∙ never) (omega arith) (omega arith));
+      none = λ y low. ap (λ z. member names 2 z y) (sym e) ∙ (sym (and-twice (member names 2 x y)) ∙ any-none 0 (64 * 2) y (λ w. member names 2 x w && member names 2 x w) (sym is ∙ never) (omega arith) (omega arith));
     }
-  where
-    both : (c : Bool) → (c && c) ≡ false → c ≡ false
-    both true f = f
-    both false f = refl
 
 -- the heads as a mask of two words
 pub mask-heads : (names : List ℕ) (x : Mask) (name : ℕ) → x .a ≡ getD names (name * 2) 0 → x .b ≡ getD names (name * 2 + 1) 0 → (y : ℕ) → y < 128 → has x y ≡ member names 2 name y

@@ -15,10 +15,9 @@ use Rattle.model.specs.Rows.{Program, program, size, tag, num, is-name}
 use Rattle.model.specs.Heads.{is-class, is-function}
 use Rattle.model.specs.Tables.{Tables, tables, entries, has, is-value}
 use Rattle.model.specs.Wanted.{Member}
-use Rattle.model.proofs.Logic.{true-false, test, and-left, and-right, and-intro, or-cases}
+use Rattle.model.proofs.Logic.{true-false, test, and-left, and-right, and-intro, or-cases, both}
 use Rattle.model.proofs.Exact.Members.{has-iff}
 use Rattle.bits.specs.Bits.{member, Row, Put}
-use Rattle.bits.proofs.Loops.{both}
 use Rattle.bits.proofs.Rows.{put-here, put-kept}
 use Rattle.lists.specs.declared.Span.{Span}
 use Rattle.lists.specs.Lists.{flow-span, mail-span, listed}

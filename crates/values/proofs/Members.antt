@@ -11,11 +11,10 @@ use Rattle.model.specs.Index.{implies, any, all}
 use Rattle.model.specs.Words.{Columns, left, right}
 use Rattle.model.specs.Tables.{has, each, some-of}
 use Rattle.model.specs.Wanted.{Member}
-use Rattle.model.proofs.Logic.{true-false, test, and-left, and-right, and-intro, implies-elim, implies-intro}
+use Rattle.model.proofs.Logic.{true-false, test, and-left, and-right, and-intro, implies-elim, implies-intro, both, and-true, and-twice}
 use Rattle.model.proofs.Index.{any-elim, any-intro, all-elim, all-intro}
 use Rattle.model.proofs.Exact.Members.{has-iff, some-of-iff}
 use Rattle.bits.specs.Bits.{member}
-use Rattle.bits.proofs.Loops.{both}
 use Rattle.values.specs.Values.{Values}
 
 module _ (l : Columns) (a : ℕ) where
@@ -70,8 +69,4 @@ module _ {l : Columns} {a w k : ℕ} {sets : List ℕ} (of : Values l a w k sets
 
   -- a set that meets itself has a value
   pub some-meets : (b : Bool) → b ≡ any 0 (64 * w) (λ v. member sets w k v && member sets w k v) → b ≡ some-of l a (λ v. true)
-  some-meets b e = e ∙ sym (some-set (λ v. true) _ (λ v y. twice (member sets w k v)))
-    where
-      twice : (b : Bool) → (b && b) ≡ (b && true)
-      twice true = refl
-      twice false = refl
+  some-meets b e = e ∙ sym (some-set (λ v. true) _ (λ v y. and-twice (member sets w k v) ∙ sym (and-true (member sets w k v))))

@@ -19,14 +19,10 @@ use Rattle.model.proofs.Refusals.{refused-exactly}
 use Rattle.model.proofs.Longer.{messages-kept, longer-turned-away}
 use Rattle.model.proofs.Mailed.{no-function-mailed}
 use Rattle.model.proofs.Sums.{no-run-meets-a-bad}
+use Rattle.model.proofs.Demands.{safe-number}
 use Rattle.answers.specs.Safe.{is-safe}
 use Rattle.verifier.specs.Promises.{Refusal-changes-nothing, Safe-exactly-when-sound, System-is-written, Runs-are-followed, Refused-exactly-by-the-table, As-the-former-gate, Mailboxes-hold-no-function, Runs-meet-no-bad}
 use Rattle.answers.proofs.Passing.{safe-only}
-
--- only safe has the number 0
-zero-safe : (v : Verdict) → number v ≡ 0 → v ≡ Safe
-unfolding is-safe
-zero-safe v h = safe-only v (eq-eqb (number v) 0 h)
 
 safe-zero : (v : Verdict) → v ≡ Safe → number v ≡ 0
 unfolding number
@@ -47,7 +43,7 @@ module _ (bytes lent out part : List ℕ) (told at : ℕ) where
 
   module _ (is-number : told ≡ number v) (is-place : at ≡ place v) where
     safe : told ≡ 0 → v ≡ Safe
-    safe z = zero-safe v (sym is-number ∙ z)
+    safe z = safe-number v (sym is-number ∙ z)
 
     refused : (told ≡ 0 → ⊥) → v ≡ Safe → ⊥
     refused other s = other (is-number ∙ safe-zero v s)

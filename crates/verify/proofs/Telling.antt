@@ -20,6 +20,7 @@ use Rattle.model.proofs.Exact.Answer.{verdict-safe}
 use Rattle.model.proofs.Exact.Sound.{check-none}
 use Rattle.model.specs.Rules.{rules}
 use Rattle.model.proofs.Listed.{lines, length-written, length-system}
+use Rattle.model.proofs.Demands.{safe-number}
 use Rattle.answers.specs.Safe.{is-safe}
 use Rattle.answers.proofs.Passing.{safe-only}
 use Rattle.text.specs.Text.{put-at, line}
@@ -28,11 +29,6 @@ use Rattle.text.proofs.Digits.{line-most}
 use Rattle.report.specs.System.{system-text}
 use Rattle.report.proofs.Rows.{Put, put-then, system-most}
 use Rattle.verify.specs.Told.{lent-words, most-text, told}
-
--- only safe has the number 0
-number-safe : (v : Verdict) → number v ≡ 0 → v ≡ Safe
-unfolding is-safe
-number-safe v h = safe-only v (eq-eqb (number v) 0 h)
 
 -- what another verdict gives
 number-refused : {A : Type 0} (v : Verdict) (a b : A) → (number v ≡ 0 → ⊥) → if-safe v a b ≡ b
@@ -95,7 +91,7 @@ module _ (bytes lent : List ℕ) (blank : lent ≡ replicate lent-words 0) where
 
     module _ (safe : getD answer 0 0 ≡ 0) (ws : List ℕ) (after : ws ≡ lent-after bytes lent) where
       said-safe : v ≡ Safe
-      said-safe = number-safe v (sym is-number ∙ safe)
+      said-safe = safe-number v (sym is-number ∙ safe)
 
       pub system-inside : 4 + 2 * getD ws 3 0 ≤ length ws
       system-inside = let z = rows-inside bytes lent said-safe in let y = words-long bytes lent said-safe in rw after (omega arith)

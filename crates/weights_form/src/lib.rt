@@ -1,28 +1,19 @@
 // The entries of the lines of weights in form, refusal 16.
 use ceilings_form::entries::Form;
 use ceilings_form::entries::Part;
-use ceilings_form::entries::ceilings_at;
 use ceilings_form::entries::first_wrong;
 use model::MAX_WEIGHT;
 use model::Sizes;
 use model::Verdict;
+use parts::weights_at;
 ghost use mathlib.Core.Path.{_≡_};
 ghost use Prim.Native.Nat.{_≤_};
 ghost use Rattle.model.specs.Limits.{present, maxCounters};
-ghost use Rattle.model.specs.Message.{weights-at};
 ghost use Rattle.model.specs.Weights.{weight-check};
 ghost use Rattle.model.specs.Verify.{answer};
 ghost use Rattle.model.specs.Demands.{Within-limits};
 ghost use Rattle.ceilings_form.specs.Parts.{Whole};
 ghost use Rattle.weights_form.specs.Form.{weights-part};
-
-// The word at which the weights part begins, where there is one.
-pub fn weights_at(s: Sizes) -> usize
-    requires { ⌜ Within-limits present s ⌝ }
-    ensures { λ r. ⌜ r ≡ weights-at s ⌝ }
-{
-    ceilings_at(s) + 2 + 2 * s.entries
-}
 
 // Where the entries of the lines stand.
 pub fn weights_part(s: Sizes) -> Part

@@ -27,6 +27,7 @@ use Rattle.model.proofs.Bounded.Fire.{Apart, Shaped}
 use Rattle.model.proofs.Bounded.Shaped.{rules-shaped}
 use Rattle.model.proofs.Weighed.Rules.{Upto, Low, rules-low}
 use Rattle.model.proofs.Weighed.Change.{past-weighs}
+use Rattle.model.proofs.Logic.{or-joined}
 use Rattle.rules.specs.Listed.{listed-rules, State-rules}
 use Rattle.rules.proofs.Gather.{gather-same}
 use Rattle.rules.proofs.Stepped.{listed-step}
@@ -36,15 +37,10 @@ use Rattle.weights_change.specs.Changes.{weight-of, step-rules}
 use Rattle.weights_change.proofs.Weighing.{weight-below, weight-past}
 use Rattle.weights_change.proofs.Raised.{first-or, first-by, first-by-none}
 
--- rules and then others
-or-assoc : (a b c : Bool) → (a || (b || c)) ≡ ((a || b) || c)
-or-assoc true b c = refl
-or-assoc false b c = refl
-
 raised-append : (w : Line) (xs ys : List Rule) → raised w (xs ++ ys) ≡ (raised w xs || raised w ys)
 unfolding raised
 raised-append w [] ys = refl
-raised-append w (ρ ∷ xs) ys = ap (λ b. above-zero (change w ρ) || b) (raised-append w xs ys) ∙ or-assoc (above-zero (change w ρ)) (raised w xs) (raised w ys)
+raised-append w (ρ ∷ xs) ys = ap (λ b. above-zero (change w ρ) || b) (raised-append w xs ys) ∙ or-joined (above-zero (change w ρ)) (raised w xs) (raised w ys)
 
 -- lines that change alike are raised alike
 raised-same : (w w′ : Line) (ρs : List Rule) → ((ρ : Rule) → List·Memᴰ ρ ρs → change w ρ ≡ change w′ ρ) → raised w ρs ≡ raised w′ ρs

@@ -2,13 +2,13 @@
 use model::Sizes;
 use model::Verdict;
 use onward::guess_class;
+use parts::weights_at;
 use rule_tables::rules_of;
 use steps::effect_kind;
 use system_totals::Totals;
 use system_totals::row_total;
 use system_totals::state_head;
 use weights_change::first_raised_by;
-use weights_form::weights_at;
 ghost use mathlib.Core.Path.{_≡_};
 ghost use Prim.Native.Nat.{_+_, _≤_};
 ghost use lib.ListN.{length, getD};

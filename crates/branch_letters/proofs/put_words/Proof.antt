@@ -2,8 +2,7 @@ use Prim.Native.Nat.{_+_, _-_, _≤_}
 use mathlib.Core.Path.{refl}
 use lib.ListN.{getD}
 use Rattle.bits.specs.Bits.{Filled}
-use Rattle.bits.proofs.Rows.{filled-start, filled-next}
-use Rattle.branch_letters.proofs.Keeping.{filled-done}
+use Rattle.bits.proofs.Rows.{filled-start, filled-next, filled-to}
 use borrow.Author.Needs.{needs}
 use Rattle.branch_letters.proofs.put_words.Statement.{statement}
 use Rattle.branch_letters.proofs.put_words.Tie as tie
@@ -45,7 +44,7 @@ same-length : tie.Need-same-length Inv-loop μ-loop
 same-length c = c .before .loop .inv .0 .long
 
 returns : tie.Need-returns Inv-loop μ-loop
-returns c = filled-done _ _ _ _ _ _ (c .before .loop .inv .0) (search needs)
+returns c = filled-to _ _ _ _ _ _ (c .before .loop .inv .0) (search needs)
 
 pub put-words-spec : {M : Type 1} → statement M
 put-words-spec = tie.close (tie.spec Inv-loop μ-loop loop-holds add-i mul-letters shared-slice-read-letters mul-letters-2 slice-write-letters add-z loop-less loop-again same-length returns)

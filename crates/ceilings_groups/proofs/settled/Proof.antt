@@ -2,11 +2,11 @@ use native.Mathlib.Omega.{arith}
 use mathlib.Core.Path.{_∙_, ap}
 use mathlib.Core.Bool.{not}
 use Rattle.masks.specs.Masks.{has}
-use Rattle.bits.proofs.Loops.{not-not}
 use Rattle.ceilings_groups.proofs.Leading.{any-same}
 use Rattle.ceilings_groups.proofs.Settling.{settled-bit}
 use borrow.Author.Needs.{needs}
 use Rattle.ceilings_groups.proofs.settled.Statement.{statement}
+use Rattle.model.proofs.Logic.{not-not}
 use Rattle.ceilings_groups.proofs.settled.Tie as tie
 
 mul-first : tie.Need-mul-first

@@ -26,7 +26,7 @@ use Rattle.ceilings_covers.specs.Covers.{named, passes}
 use Rattle.ceilings_covers.proofs.Covering.{candidate-covers, covers-not}
 use Rattle.ceilings_groups.proofs.Settling.{settles}
 use Rattle.system_totals.proofs.Walk.{room-kept}
-use Rattle.ceilings_leaks.proofs.Leaking.{raised-at, leaks, by-state, by-step, step-at, Walk, Left-of, walk-start, walk-end, walk-limit, walk-settled, rules-start, rules-turn, rules-leak, rules-done, unused, covered, led-out, left-start, left-low, left-surely, left-next, left-covers, left-none, ceiling-turn, states-few, step-shape, leak-safe, leak-refused-at, state-none, beside-at, named-next, first-low, whole-of}
+use Rattle.ceilings_leaks.proofs.Leaking.{low-sizes, raised-at, leaks, by-state, by-step, step-at, Walk, Left-of, walk-start, walk-end, walk-limit, walk-settled, rules-start, rules-turn, rules-leak, rules-done, unused, covered, led-out, left-start, left-low, left-surely, left-next, left-covers, left-none, ceiling-turn, states-few, step-shape, leak-safe, leak-refused-at, state-none, beside-at, named-next, first-low, whole-of}
 use Rattle.ceilings_leaks.proofs.leak_check.Statement.{statement}
 use Rattle.ceilings_leaks.proofs.leak_check.Tie as tie
 
@@ -291,7 +291,7 @@ rules-again-3 c =
     rw (d .0) (rules-turn _ _ _ _ _ (p .1 .1 .0) _ _ _ (h .1) few _ (c .before .before .before .before .before .before .before .before .before .before .before .before .before .before .before .before .before .before .before .before .before .before .before .before .before .before .before .before .before .before .before .before .before .before .counter-at .ensures) (c .before .before .before .before .before .before .before .before .before .before .before .before .before .before .before .before .before .before .before .before .before .before .before .before .before .before .before .before .before .before .before .before .if1 .left) _ _ _ _ _ (c .before .before .before .before .before .before .before .before .before .before .before .before .before .before .before .rules .inv .3) (c .before .before .before .before .before .before .before .before .before .before .before .before .before .before .before .before .kind-at .ensures .0) _ (c .before .before .before .before .before .before .before .before .before .before .before .before .before .before .rules-test .taken) (c .before .before .before .before .before .before .before .before .before .before .before .before .before .before .before .rules .inv .0) (covered _ _ _ _ _ _ (sym (c .before .before .before .before .before .before .before .before .before .before .before .is-usable .ensures) ∙ not-false _ (c .before .before .before .before .before .before .before .before .before .before .if3 .left)) some), omega (arith, c .before .before .before .before .before .before .before .before .before .before .before .before .before .before .rules-test .taken), omega (arith, c .before .before .before .before .before .before .before .before .before .before .before .before .before .before .before .rules .inv .2), c .before .before .before .before .before .before .before .before .before .before .before .before .before .before .before .rules .inv .3)
 
 ceilings-at-requires : tie.Need-ceilings-at-requires Inv-loop μ-loop Inv-candidates μ-candidates Inv-rules μ-rules Inv-states μ-states Inv-ceilings μ-ceilings
-ceilings-at-requires c κs = c .before .before .before .before .before .before .before .before .before .before .before .before .before .before .before .before .before .before .before .before .before .before .before .before .before .before .before .before .before .before .before .before .before .before .before .before .before .before .before .before .before .before .before .before .before .before .before .before .before .before .before .before .before .before .before .before .before .before .before .before .before .before .before .before .before .pre .0 .ready .limits
+ceilings-at-requires c κs = low-sizes _ (c .before .before .before .before .before .before .before .before .before .before .before .before .before .before .before .before .before .before .before .before .before .before .before .before .before .before .before .before .before .before .before .before .before .before .before .before .before .before .before .before .before .before .before .before .before .before .before .before .before .before .before .before .before .before .before .before .before .before .before .before .before .before .before .before .before .pre .0 .ready .limits)
 
 add-place : tie.Need-add-place Inv-loop μ-loop Inv-candidates μ-candidates Inv-rules μ-rules Inv-states μ-states Inv-ceilings μ-ceilings
 add-place c = record { fits = omega (arith, c .ceilings-at .ensures, begins-low _ (c .before .before .before .before .before .before .before .before .before .before .before .before .before .before .before .before .before .before .before .before .before .before .before .before .before .before .before .before .before .before .before .before .before .before .before .before .before .before .before .before .before .before .before .before .before .before .before .before .before .before .before .before .before .before .before .before .before .before .before .before .before .before .before .before .before .before .pre .0 .ready .limits)) }

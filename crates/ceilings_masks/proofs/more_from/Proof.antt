@@ -1,20 +1,17 @@
 use native.Mathlib.Omega.{arith}
-use mathlib.Core.Path.{_≡_, refl, _∙_}
+use mathlib.Core.Path.{_≡_, refl, sym, _∙_}
 use mathlib.Core.Bool.{Bool, true, false, _&&_}
 use borrow.Author.Tests.{lt-ltb, le-ltb}
 use Rattle.masks.specs.Masks.{has}
 use Rattle.ceilings_masks.specs.Compared.{More-at}
 use borrow.Author.Needs.{needs}
 use Rattle.ceilings_masks.proofs.more_from.Statement.{statement}
+use Rattle.model.proofs.Logic.{and-true}
 use Rattle.ceilings_masks.proofs.more_from.Tie as tie
-
-all-kept : (b : Bool) → b ≡ (b && true)
-all-kept true = refl
-all-kept false = refl
 
 returns : tie.Need-returns
 unfolding More-at
-returns c = λ k. rw (lt-ltb _ _ (c .if1 .taken)) (all-kept (has (c .before .args .above) k))
+returns c = λ k. rw (lt-ltb _ _ (c .if1 .taken)) (sym (and-true (has (c .before .args .above) k)))
 
 and-requires : tie.Need-and-requires
 and-requires c κs = search needs

@@ -3,8 +3,8 @@ use native.Mathlib.Omega.{arith}
 use borrow.Author.Tests.{not-true, not-false}
 use Rattle.model.specs.Words.{columns}
 use Rattle.model.specs.Tables.{tables, entries}
-use Rattle.matching.proofs.Filling.{same-room}
-use Rattle.matching.proofs.Naming.{fitting-sets}
+use Rattle.matching_sets.proofs.Filling.{same-room}
+use Rattle.matching_names.proofs.Naming.{fitting-sets}
 use Rattle.closure.proofs.Answers.{open-refuses, opening-missing, opening-there, verdict-safe, safe-all, none-settled, bits-told}
 use borrow.Author.Needs.{needs}
 use Rattle.closure.proofs.open_check.Statement.{statement}

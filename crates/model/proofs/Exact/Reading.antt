@@ -13,7 +13,7 @@ use Rattle.model.specs.Words.{Columns, left, right}
 use Rattle.model.specs.Reader.{Read, past, wrong, Grammar, read, complete, first-wrong}
 use Rattle.model.specs.Refusals.{Ahead, at-first, after-row, Wrong, unfit, behind, early}
 use Rattle.model.proofs.Logic.{test}
-use Rattle.model.proofs.Reader.{past-wrong, past-row, wrong-row, by-option, read-none, read-end, read-stop, read-go, read-range, first-wrong-none, none-first-wrong}
+use Rattle.model.proofs.Reader.{past-wrong, past-row, wrong-row, by-option, read-none, read-end, read-stop, read-go, read-range, first-wrong-none, none-first-wrong, some-complete}
 
 -- row k is taken by an item
 pub record Taken {Item : Type 0} (step : Grammar Item) (rows : Columns) (k : ℕ) : Type 0 where
@@ -28,10 +28,6 @@ complete-some size r (past q) h =
     (λ e. let z : q ≡ r = Option·some-injective q r (rw (e, complete) at h) in
     inr (ap past z, λ w. eqb-false q size e (z ∙ w)))
 complete-some size r (wrong q) h = inl (ap wrong (Option·some-injective q r h))
-
-some-complete : (size r : ℕ) → r < size → complete size (past r) ≡ some r
-unfolding complete
-some-complete size r b = let e : eqb r size ≡ false = ne-eqb r size (λ z. omega arith) in rw (e, complete)
 
 module _ {Item : Type 0} (step : Grammar Item) (rows : Columns) (whole : List Item) where
   -- before a row at most one list of items is ahead

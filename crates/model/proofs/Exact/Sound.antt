@@ -28,7 +28,7 @@ use Rattle.model.specs.Ceilings.{from-counter, ceiling-entries, ceiling-
 use Rattle.model.specs.Weights.{weight-entries, weight-step, lines-ahead, lines-of, weight-check, rise-check, light-check}
 use Rattle.model.specs.Verify.{Message, message, evidence-check, ceilings-check, weights-check, bounds-check, message-check, check}
 use Rattle.model.specs.Demands.{Bytes, Within-limits, Well-formed, In-form, Mails-no-function, By-weights, Inductive, Weighed, Evidence, Safe-exactly}
-use Rattle.model.proofs.Logic.{test, true-false}
+use Rattle.model.proofs.Logic.{test, true-false, not-zero}
 use Rattle.model.proofs.Exact.Tests.{leb-iff}
 use Rattle.model.proofs.Exact.Checks.{then-none, then-iff, unless-iff}
 use Rattle.model.proofs.Numbering.Within.{within-iff}
@@ -121,13 +121,10 @@ module _ (bytes : List ℕ) where
         λ h. (ceiling-none (m .words) (m .sizes) (counter-count (m .program) (m .tables)) .0 (rw (b, form-of) at h), no-weights-form whole z),
         λ h. rw (b, form-of) (ceiling-none (m .words) (m .sizes) (counter-count (m .program) (m .tables)) .1 (h .0)),
       ))
-      (λ b. let z : 1 ≤ m .sizes .lines = one (m .sizes .lines) b in (
+      (λ b. let z : 1 ≤ m .sizes .lines = not-zero (m .sizes .lines) b in (
         λ h. (no-ceilings-form z, weight-none (m .words) (m .sizes) (counter-count (m .program) (m .tables)) .0 (rw (b, form-of) at h)),
         λ h. rw (b, form-of) (weight-none (m .words) (m .sizes) (counter-count (m .program) (m .tables)) .1 (h .1)),
       ))
-    where
-      one : (n : ℕ) → eqb n 0 ≡ false → 1 ≤ n
-      one n e = elim (ℕ-discrete n 0) [ yes z ↦ true-false (eq-eqb n 0 z) e | no z ↦ omega arith ]
 
 -- Nothing is refused where the message is formed, the tests of the ceilings or of the weights pass, and the system fits
 pub check-none : (most : Limits) (bytes : List ℕ) (lent : ℕ) → (check most bytes lent ≡ none) ↔ (Formed most bytes × ((tests-of (message bytes) ≡ none) × (length (system-words (message bytes .program) (message bytes .tables)) ≤ lent)))
@@ -183,13 +180,10 @@ evidence-iff ceilings weights most bytes b k =
       λ h. record { bounded = λ y. ceilings most bytes b k .0 (rw (e, tests-of) at h); weighed = λ y. absurd (omega arith) },
       λ h. rw (e, tests-of) (ceilings most bytes b k .1 (h .bounded z)),
     ))
-    (λ e. let z : 1 ≤ message bytes .sizes .lines = one (message bytes .sizes .lines) e in (
+    (λ e. let z : 1 ≤ message bytes .sizes .lines = not-zero (message bytes .sizes .lines) e in (
       λ h. record { bounded = λ y. absurd (omega arith); weighed = λ y. weights most bytes b k y .0 (rw (e, tests-of) at h) },
       λ h. rw (e, tests-of) (weights most bytes b k z .1 (h .weighed z)),
     ))
-  where
-    one : (n : ℕ) → eqb n 0 ≡ false → 1 ≤ n
-    one n e = elim (ℕ-discrete n 0) [ yes z ↦ true-false (eq-eqb n 0 z) e | no z ↦ omega arith ]
 
 -- Demand 2, first half
 pub safe-exactly : Ceilings-exactly → Weights-exactly → Safe-exactly

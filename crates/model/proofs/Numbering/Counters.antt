@@ -3,7 +3,7 @@ use Prim.Native.Nat.{ℕ, _+_, _≤_, _<_}
 use native.Mathlib.Decide.{decLt}
 use native.Mathlib.Omega.{arith}
 use mathlib.Core.Path.{_≡_, refl, sym, _∙_, ap, subst}
-use mathlib.Core.Bool.{true}
+use mathlib.Core.Bool.{true, false}
 use mathlib.Core.List.{List·Memᴰ}
 use mathlib.Core.Option.{some, Option·none-ne-some}
 use lib.Dec.{eqb}
@@ -74,6 +74,11 @@ module _ (p : Program) (t : Tables) where
       omega (arith, letter-index-below p t c l v)
 
 -- every value of the tables has one of the heads, where built ones have a constructor
+-- a value that is not built has no constructor's head
+pub plain-head : (p : Program) (v : ℕ) → eqb (tag p v) 2 ≡ false → p .constructors ≤ row-head p v
+unfolding row-head row-shape head
+plain-head p v e = test (is-function p v) (λ f. rw (e, f, row-shape) (omega arith)) (λ f. rw (e, f, row-shape) (omega arith))
+
 pub row-head-low : (p : Program) → ((v : ℕ) → tag p v ≡ 2 → num p (v + 1) < p .constructors) → (v : ℕ) → row-head p v < head-count p
 unfolding row-head row-shape head head-count
 row-head-low p built v =

@@ -23,6 +23,7 @@ use Rattle.model.proofs.Covering.{row-for, names-of, Covered, Held}
 use Rattle.model.proofs.Numbering.Choices.{Chosen, chosen-in, name-has, letters-built, letters-plain}
 use Rattle.model.proofs.Parse.Reached.{Rows-fit}
 use Rattle.model.proofs.Parse.Lengths.{Columns-whole, row-location, nums-at, build-length}
+use Rattle.model.proofs.Index.{turned}
 
 module _ (p : Program) where
   -- a row with another tag is no build row, and no function
@@ -101,11 +102,8 @@ module _ (p : Program) (t : Tables) (fit : Rows-fit p) (w : Columns-whole p) (pa
       let q : n ≡ argument p r i = e 0 (omega arith) ∙ ap (argument p r) z in (
         subst (λ x. List·Memᴰ x (name-heads p t (passes i) (argument p r i))) (head-kept p t classes v past-end classed c)
             (name-has p t (passes i) (argument p r i) (row-for classes v) (low (row-for classes v)) (subst (λ x. Member (t .flow) x (row-for classes v)) q m) (f .0)),
-        heads-chosen passes r a (i + 1) vs (omega arith) (λ j b. e (suc j) (omega arith) ∙ ap (argument p r) (shift j)) hs (f .1),
+        heads-chosen passes r a (i + 1) vs (omega arith) (λ j b. e (suc j) (omega arith) ∙ ap (argument p r) (turned i j)) hs (f .1),
       )
-    where
-      shift : (j : ℕ) → i + suc j ≡ i + 1 + j
-      shift j = omega arith
 
   pub letter-there : (passes : ℕ → ℕ → Bool) (v : Value) → Covered p t classes v → Arguments-fit classes passes v → List·Memᴰ (value-letter p v) (letters-where p t passes (row-for classes v))
   unfolding row-for value-letter argument-heads value-head value-shape row-head heads-each gather argument is-head

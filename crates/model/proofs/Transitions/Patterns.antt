@@ -31,7 +31,17 @@ module _ (p : Program) (held : Bindings) where
       let s = split us k in
       record { row = s .row; between = s .between; first = one-value h (s .first); others = s .others }
 
-  each-has : (n q : ℕ) (vs found found′ : Bindings) → n ≡ size p - q → match-rows p held n q vs found ≡ some found′ → (e : ℕ) × Matches-each p held q vs found found′ e
+  -- the values match, up to some row
+  abbrev Matching : (q : ℕ) (vs found found′ : Bindings) → Type 0
+  Matching q vs found found′ = (e : ℕ) × Matches-each p held q vs found found′ e
+
+  one-more : {q row m : ℕ} {v : Value} {vs found between found′ : Bindings} → Matches-at p held q v found between row → Matching row vs between found′ → Matching q (bind m v vs) found found′
+  one-more h k = (k .0, one-value h (k .1))
+
+  made-more : (inner : Bindings) (r c : ℕ) {q m : ℕ} {v : Value} {vs found found′ : Bindings} → v ≡ built r c inner → Row-at p q 31 c → Matching (q + 1) (join inner vs) found found′ → Matching q (bind m v vs) found found′
+  made-more inner r c made at k = let s = split inner (k .1) in (k .0, rw made (one-value (by-constructor at (s .first)) (s .others)))
+
+  each-has : (n q : ℕ) (vs found found′ : Bindings) → n ≡ size p - q → match-rows p held n q vs found ≡ some found′ → Matching q vs found found′
   unfolding match-rows
   each-has zero q empty found found′ z h = (q, rw (← Option·some-injective found found′ h) no-values)
   each-has zero q (bind m v vs) found found′ z h = absurd (Option·none-ne-some found′ h)
@@ -42,15 +52,13 @@ module _ (p : Program) (held : Bindings) where
       (λ a. absurd (Option·none-ne-some found′ (rw (e, match-rows, a) at h)))
       (λ inner a.
       let (r, made) = made-of (num p q) v inner a in
-      let (end, k) = each-has n (q + 1) (join inner vs) found found′ (omega arith) (rw (e, match-rows, a) at h) in
-      let s = split inner k in
-      (end, rw made (one-value (by-constructor (at 31 (num p q) (eqb-true (tag p q) 31 e) refl) (s .first)) (s .others)))))
+      made-more inner r (num p q) made (at 31 (num p q) (eqb-true (tag p q) 31 e) refl)
+      (each-has n (q + 1) (join inner vs) found found′ (omega arith) (rw (e, match-rows, a) at h))))
       (λ e. test (eqb (tag p q) 30)
-      (λ f. let (end, k) = each-has n (q + 1) vs (bind (num p q) v found) found′ (omega arith) (rw (e, match-rows, f) at h) in
-      (end, one-value (by-name (at 30 (num p q) (eqb-true (tag p q) 30 f) refl)) k))
+      (λ f. one-more (by-name (at 30 (num p q) (eqb-true (tag p q) 30 f) refl))
+      (each-has n (q + 1) vs (bind (num p q) v found) found′ (omega arith) (rw (e, match-rows, f) at h)))
       (λ f. test (passes-over p held q v)
-      (λ g. let (end, k) = each-has n (q + 1) vs found found′ (omega arith) (rw (e, match-rows, f, g) at h) in
-      (end, one-value (passed g) k))
+      (λ g. one-more (passed g) (each-has n (q + 1) vs found found′ (omega arith) (rw (e, match-rows, f, g) at h)))
       (λ g. absurd (Option·none-ne-some found′ (rw (e, match-rows, f, g) at h)))))
     where
       at : (t k : ℕ) → tag p q ≡ t → num p q ≡ k → Row-at p q t k

@@ -63,15 +63,15 @@ above-iff put taken =
 
 -- One counter, before and after
 
+one-of : (a b c : ℕ) → b ≡ c → a + b * 1 ≡ a + c
+one-of a b c h = omega arith
+
 adding-at : (w : Line) (x z : ℕ) (m : Marking) → w z * adding x m z ≡ w z * m z + only-at x (w x) z
 unfolding adding
 adding-at w x z m =
     test (eqb z x)
-    (λ e. let s = eqb-true z x e in rw (e, adding) (mul-add (w z) (m z) 1 ∙ one (w z * m z) (w z) (w x) (ap w s)))
+    (λ e. let s = eqb-true z x e in rw (e, adding) (mul-add (w z) (m z) 1 ∙ one-of (w z * m z) (w z) (w x) (ap w s)))
     (λ e. rw (e, adding) (omega arith))
-  where
-    one : (a b c : ℕ) → b ≡ c → a + b * 1 ≡ a + c
-    one a b c h = omega arith
 
 adding-else : (x z : ℕ) (m : Marking) → (z ≡ x → ⊥) → adding x m z ≡ m z
 unfolding adding
@@ -84,11 +84,8 @@ taking-at w x z m one =
     (λ e. let s = eqb-true z x e in
     let q = ap m s in
     let u : m z ≡ (m z - 1) + 1 = omega arith in
-    rw (e, taking) (ap (λ k. w z * k) u ∙ (mul-add (w z) (m z - 1) 1 ∙ last (w z * (m z - 1)) (w z) (w x) (ap w s))))
+    rw (e, taking) (ap (λ k. w z * k) u ∙ (mul-add (w z) (m z - 1) 1 ∙ one-of (w z * (m z - 1)) (w z) (w x) (ap w s))))
     (λ e. rw (e, taking) (omega arith))
-  where
-    last : (a b c : ℕ) → b ≡ c → a + b * 1 ≡ a + c
-    last a b c h = omega arith
 
 taking-else : (x z : ℕ) (m : Marking) → (z ≡ x → ⊥) → taking x m z ≡ m z
 unfolding taking

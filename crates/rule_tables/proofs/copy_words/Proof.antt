@@ -3,8 +3,7 @@ use mathlib.Core.Path.{refl}
 use lib.ListN.{getD}
 use borrow.Author.Needs.{needs}
 use Rattle.bits.specs.Bits.{Filled}
-use Rattle.bits.proofs.Rows.{filled-start, filled-next}
-use Rattle.rule_tables.proofs.Joining.{filled-all}
+use Rattle.bits.proofs.Rows.{filled-start, filled-next, filled-to}
 use Rattle.rule_tables.proofs.copy_words.Statement.{statement}
 use Rattle.rule_tables.proofs.copy_words.Tie as tie
 
@@ -45,7 +44,7 @@ same-length : tie.Need-same-length Inv-loop μ-loop
 same-length c = search needs
 
 returns : tie.Need-returns Inv-loop μ-loop
-returns c = filled-all _ _ _ _ _ _ (c .before .loop .inv .0) (search needs)
+returns c = filled-to _ _ _ _ _ _ (c .before .loop .inv .0) (search needs)
 
 pub copy-words-spec : {M : Type 1} → statement M
 copy-words-spec =

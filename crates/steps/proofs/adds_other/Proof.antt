@@ -1,7 +1,7 @@
 use borrow.Author.Tests.{le-leb, lt-leb}
 use Rattle.steps.specs.Steps.{adds-other}
-use Rattle.steps.proofs.Stepping.{and-first, and-second}
 use Rattle.steps.proofs.adds_other.Statement.{statement}
+use Rattle.model.proofs.Logic.{and-first, and-second}
 use Rattle.steps.proofs.adds_other.Tie as tie
 
 returns : tie.Need-returns

@@ -1,7 +1,7 @@
 use borrow.Author.Tests.{eq-eqb, ne-eqb}
 use Rattle.steps.specs.Steps.{takes-other}
-use Rattle.steps.proofs.Stepping.{and-first, and-second}
 use Rattle.steps.proofs.takes_other.Statement.{statement}
+use Rattle.model.proofs.Logic.{and-first, and-second}
 use Rattle.steps.proofs.takes_other.Tie as tie
 
 returns : tie.Need-returns

@@ -24,7 +24,7 @@ cast-first : tie.Need-cast-first
 cast-first c = omega (arith, c .before .before .before .shared-slice-known .given (c .before .before .before .before .args .line))
 
 weights-at-requires : tie.Need-weights-at-requires
-weights-at-requires c κs = c .before .before .before .before .pre .0
+weights-at-requires c κs = search needs
 
 add-place : tie.Need-add-place
 add-place c = record { fits = omega (arith, c .weights-at .ensures, begins-low _ (c .before .before .before .before .before .pre .0)) }

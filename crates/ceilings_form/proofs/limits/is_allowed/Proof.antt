@@ -1,6 +1,6 @@
 use borrow.Author.Tests.{eq-eqb, ne-eqb}
 use Rattle.model.specs.Ceilings.{allowed}
-use Rattle.ceilings_form.proofs.Limited.{or-first, or-second}
+use Rattle.model.proofs.Logic.{or-first, or-second}
 use Rattle.ceilings_form.proofs.limits.is_allowed.Statement.{statement}
 use Rattle.ceilings_form.proofs.limits.is_allowed.Tie as tie
 

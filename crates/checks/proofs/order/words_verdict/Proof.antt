@@ -19,7 +19,7 @@ use Rattle.model.proofs.Exact.Entries.{bad-none}
 use Rattle.answers.proofs.Passing.{passed, safe-only}
 use Rattle.rooms.specs.Rooms.{rule-words}
 use Rattle.lists.specs.Ready.{Ready}
-use Rattle.positions.specs.Positions.{Ends}
+use Rattle.layout.specs.Tables.{Ends}
 use Rattle.stages.specs.Order.{taken, from-3, from-4, from-5, from-6, from-7, from-8, from-22}
 use Rattle.stages.proofs.Answering.{in-order, goes-by, ends-with, scopes-refuse}
 use Rattle.checks.proofs.Laying.{program-passes, ready, ceilings-whole, ends, closed-tables}

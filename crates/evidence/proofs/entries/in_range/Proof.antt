@@ -2,9 +2,9 @@ use mathlib.Core.Path.{refl, sym, _∙_}
 use borrow.Author.Tests.{lt-ltb, le-ltb}
 use borrow.Author.Needs.{needs}
 use Rattle.model.specs.Rows.{program, is-name}
+use Rattle.model.proofs.Logic.{and-first, and-second}
 use Rattle.evidence.specs.Ranges.{legal-left, legal-rest}
 use Rattle.evidence.specs.declared.entries.Table.the-variants.{Flow, Mail, States}
-use Rattle.evidence.proofs.Tags.{and-first, and-second}
 use Rattle.evidence.proofs.Lists.{legal-pass, legal-fail}
 use Rattle.evidence.proofs.entries.in_range.Statement.{statement}
 use Rattle.evidence.proofs.entries.in_range.Tie as tie

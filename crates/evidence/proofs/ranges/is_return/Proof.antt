@@ -2,7 +2,7 @@ use borrow.Author.Needs.{needs}
 use Rattle.model.specs.Words.{columns}
 use Rattle.model.specs.Rows.{program}
 use Rattle.model.specs.Tables.{is-return}
-use Rattle.evidence.proofs.Tags.{with-tag, without-tag}
+use Rattle.program.proofs.Items.{with-tag, without-tag}
 use Rattle.evidence.proofs.ranges.is_return.Statement.{statement}
 use Rattle.evidence.proofs.ranges.is_return.Tie as tie
 

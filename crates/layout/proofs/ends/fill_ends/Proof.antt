@@ -6,16 +6,16 @@ use lib.ListN.{length, length-set}
 use Rattle.model.specs.Words.{columns}
 use Rattle.model.specs.Rows.{program}
 use Rattle.layout.specs.Tables.{After-from}
-use Rattle.layout.proofs.Ending.{after-start, after-set, after-keep, after-by}
+use Rattle.layout.proofs.Ending.{ends-of, after-start, after-set, after-keep, after-by}
 use borrow.Author.Needs.{needs}
 use Rattle.layout.proofs.ends.fill_ends.Statement.{statement}
 use Rattle.layout.proofs.ends.fill_ends.Tie as tie
 
 abbrev Inv-loop : tie.InvT-loop
-Inv-loop ws s table₀ r₀ table r = (r ≤ s .rows) × (length table ≡ length table₀) × After-from (program ws s) r table
+Inv-loop ws s afters₀ r₀ afters r = (r ≤ s .rows) × (length afters ≡ length afters₀) × After-from (program ws s) r afters
 
 abbrev μ-loop : tie.MeasureT-loop
-μ-loop ws s table₀ r₀ table r = r
+μ-loop ws s afters₀ r₀ afters r = r
 
 loop-holds : tie.Need-loop-holds Inv-loop μ-loop
 unfolding program columns
@@ -27,16 +27,16 @@ sub-r c = omega (arith, c .loop-test .taken)
 end-row-requires : tie.Need-end-row-requires Inv-loop μ-loop
 end-row-requires c κs =
     let l = c .before .before .loop in
-    (c .before .before .before .before .before .pre .0, (omega (arith, c .before .loop-test .taken, l .inv .0), after-by _ (l .r) (l .r - 1 + 1) (l .table) (omega (arith, c .before .loop-test .taken)) (l .inv .2)))
+    (c .before .before .before .before .before .pre .0, (omega (arith, c .before .loop-test .taken, l .inv .0), after-by _ (l .r) (l .r - 1 + 1) (l .afters) (omega (arith, c .before .loop-test .taken)) (l .inv .2)))
 
-cast-table : tie.Need-cast-table Inv-loop μ-loop
-cast-table c = search needs
+cast-afters : tie.Need-cast-afters Inv-loop μ-loop
+cast-afters c = search needs
 
-mul-table : tie.Need-mul-table Inv-loop μ-loop
-mul-table c = record { fits = omega (arith, c .before .before .before .before .before .loop .inv .0, c .before .before .before .before .before .before .before .before .pre .0 .rows) }
+mul-afters : tie.Need-mul-afters Inv-loop μ-loop
+mul-afters c = record { fits = omega (arith, c .before .before .before .before .before .loop .inv .0, c .before .before .before .before .before .before .before .before .pre .0 .rows) }
 
-slice-write-table : tie.Need-slice-write-table Inv-loop μ-loop
-slice-write-table c = omega (arith, c .before .before .before .before .loop-test .taken, c .before .before .before .before .before .loop .inv .0, c .before .before .before .before .before .loop .inv .1, c .before .before .before .before .before .before .before .before .pre .1)
+slice-write-afters : tie.Need-slice-write-afters Inv-loop μ-loop
+slice-write-afters c = omega (arith, c .before .before .before .before .loop-test .taken, c .before .before .before .before .before .loop .inv .0, c .before .before .before .before .before .loop .inv .1, c .before .before .before .before .before .before .before .before .pre .1)
 
 loop-less : tie.Need-loop-less Inv-loop μ-loop
 loop-less c = omega (arith, c .before .before .before .before .loop-test .taken)
@@ -45,8 +45,8 @@ loop-again : tie.Need-loop-again Inv-loop μ-loop
 loop-again c =
     let l = c .before .before .before .before .before .loop in (
       omega (arith, l .inv .0),
-      length-set (l .table) _ _ ∙ l .inv .1,
-      after-set _ (l .r) (l .r - 1) _ (l .table) (omega (arith, c .before .before .before .before .loop-test .taken)) (omega (arith, c .before .before .before .before .loop-test .taken, l .inv .0, l .inv .1, c .before .before .before .before .before .before .before .before .pre .1)) (c .before .before .end-row .ensures) (l .inv .2),
+      length-set (l .afters) _ _ ∙ l .inv .1,
+      after-set _ (l .r) (l .r - 1) _ (l .afters) (omega (arith, c .before .before .before .before .loop-test .taken)) (omega (arith, c .before .before .before .before .loop-test .taken, l .inv .0, l .inv .1, c .before .before .before .before .before .before .before .before .pre .1)) (c .before .before .end-row .ensures) (l .inv .2),
     )
 
 loop-less-2 : tie.Need-loop-less-2 Inv-loop μ-loop
@@ -58,14 +58,18 @@ loop-again-2 c =
     let l = c .before .before .before .before .before .loop in (
       omega (arith, l .inv .0),
       l .inv .1,
-      after-keep _ (l .r) (l .r - 1) _ (l .table) (omega (arith, c .before .before .before .before .loop-test .taken)) (c .if1 .left) (c .before .before .end-row .ensures) (l .inv .2),
+      after-keep _ (l .r) (l .r - 1) _ (l .afters) (omega (arith, c .before .before .before .before .loop-test .taken)) (c .if1 .left) (c .before .before .end-row .ensures) (l .inv .2),
     )
 
 same-length : tie.Need-same-length Inv-loop μ-loop
 same-length c = c .before .loop .inv .1
 
 returns : tie.Need-returns Inv-loop μ-loop
-returns c = let l = c .before .loop in after-by _ (l .r) 0 (l .table) (omega (arith, c .loop-test .left)) (l .inv .2)
+unfolding program columns
+returns c =
+    let l = c .before .loop in
+    let room = c .before .before .before .before .pre .1 in
+    ends-of _ _ (omega (arith, l .inv .1, room)) (after-by _ (l .r) 0 (l .afters) (omega (arith, c .loop-test .left)) (l .inv .2))
 
 pub fill-ends-spec : {M : Type 1} → statement M
 fill-ends-spec =
@@ -76,9 +80,9 @@ fill-ends-spec =
     loop-holds
     sub-r
     end-row-requires
-    cast-table
-    mul-table
-    slice-write-table
+    cast-afters
+    mul-afters
+    slice-write-afters
     loop-less
     loop-again
     loop-less-2

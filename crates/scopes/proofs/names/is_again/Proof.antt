@@ -25,10 +25,10 @@ returns : tie.Need-returns
 unfolding program columns
 returns c =
     let a = c .before .before .before .before .before .before .before .args in
-    let h = c .before .before .before .before .before .before .before .pre .1 in
+    let h = c .before .before .before .before .before .before .before .pre in
     let b = ap binds (sym (c .before .before .before .before .tag .ensures)) ∙ (sym (c .before .before .before .binds .ensures) ∙ c .before .before .if1 .taken) in
     let n = c .before .num in
-    let i = bound-below (program (a .ws .now) (a .s)) (a .r) (h .0) (h .1 .1) b in
+    let i = bound-below (program (a .ws .now) (a .s)) (a .r) (h .0 .fits) (h .1 .1) b in
     again-is _ (a .r) (n .result) _ (h .1 .1) (n .ensures) b (c .entry .ensures ∙ h .1 .0 .binders (n .result) (omega (arith, n .ensures)))
 
 returns-2 : tie.Need-returns-2

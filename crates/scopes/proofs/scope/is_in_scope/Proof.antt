@@ -14,7 +14,7 @@ returns : tie.Need-returns
 returns c = scope-global _ _ _ (sym (c .before .tag .ensures) ∙ c .if1 .taken)
 
 holds-in-requires : tie.Need-holds-in-requires
-holds-in-requires c κs = let h = c .before .before .before .before .before .pre in (h .0, (h .1 .0, (h .1 .1 .0, (h .1 .1 .1 .0, h .1 .1 .1 .1 .1))))
+holds-in-requires c κs = let h = c .before .before .before .before .before .pre in (h .0, h .1 .1)
 
 returns-2 : tie.Need-returns-2
 returns-2 c = scope-before _ _ _ _ (λ y. c .before .before .if1 .left (c .before .before .before .tag .ensures ∙ y)) (c .before .holds-in .ensures) (c .if2 .taken)
@@ -26,10 +26,10 @@ returns-3 : tie.Need-returns-3
 unfolding program columns
 returns-3 c =
     let a = c .before .before .before .before .before .before .before .before .args in
-    let h = c .before .before .before .before .before .before .before .before .pre .1 in
+    let h = c .before .before .before .before .before .before .before .before .pre in
     let x = c .before .before .holds-in in
     scope-within _ (a .b) (a .r) (x .result) _ (λ y. c .before .before .before .if1 .left (c .before .before .before .before .tag .ensures ∙ y)) (x .ensures) (c .before .if2 .left)
-    (holds-end (a .ws .now) (a .s) (a .b) (x .result) _ _ (h .0) (h .1 .1 .1 .1) (h .1 .1 .1 .2) (x .ensures) (omega arith) (h .1 .0) (c .entry .ensures))
+    (holds-end (a .ws .now) (a .s) (a .b) (x .result) _ _ (h .0 .fitted .fits) (h .1 .1) (h .1 .2) (x .ensures) (omega arith) (h .0 .after) (c .entry .ensures))
 
 pub is-in-scope-spec : {M : Type 1} → statement M
 is-in-scope-spec =

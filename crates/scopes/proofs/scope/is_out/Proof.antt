@@ -31,20 +31,20 @@ found : (c : tie.After-entry) → let a = c .before .before .before .before .bef
 unfolding program columns
 found c =
     let a = c .before .before .before .before .before .before .before .before .before .args in
-    let h = c .before .before .before .before .before .before .before .before .before .pre .1 in
+    let h = c .before .before .before .before .before .before .before .before .before .pre in
     let u = (ap uses (sym (c .before .before .before .before .tag .ensures)) ∙ (sym (c .before .before .before .uses .ensures) ∙ not-false _ (c .before .before .if1 .left))) in
-    let b = used-below (program (a .ws .now) (a .s)) (a .r) (h .0) (h .1 .1 .1 .1) u in
-    (u, c .entry .ensures ∙ h .1 .1 .1 .0 .binders _ (omega (arith, c .before .num .ensures)))
+    let b = used-below (program (a .ws .now) (a .s)) (a .r) (h .0 .fitted .fits) (h .1 .1) u in
+    (u, c .entry .ensures ∙ h .1 .0 .binders _ (omega (arith, c .before .num .ensures)))
 
 returns-2 : tie.Need-returns-2
 unfolding program columns
-returns-2 c = let f = found (c .before .before) in out-unbound (c .before .before .before .before .before .before .before .before .before .before .before .args .ws .now) (c .before .before .before .before .before .before .before .before .before .before .before .args .s) _ _ _ (f .0) (c .before .before .before .num .ensures) (f .1) (c .if2 .taken) (c .before .before .before .before .before .before .before .before .before .before .before .pre .1 .1 .1 .1 .1)
+returns-2 c = let f = found (c .before .before) in out-unbound (c .before .before .before .before .before .before .before .before .before .before .before .args .ws .now) (c .before .before .before .before .before .before .before .before .before .before .before .args .s) _ _ _ (f .0) (c .before .before .before .num .ensures) (f .1) (c .if2 .taken) (c .before .before .before .before .before .before .before .before .before .before .before .pre .1 .1)
 
 is-in-scope-requires : tie.Need-is-in-scope-requires
 unfolding program columns
 is-in-scope-requires c κs =
     let h = c .before .before .before .before .before .before .before .before .before .before .before .pre in
-    (h .0, (h .1 .0, (h .1 .1 .0, (h .1 .1 .1 .0, (h .1 .1 .1 .1 .1, c .if2 .left, binder-binds _ _ _ (found (c .before .before) .1) (c .if2 .left))))))
+    (h .0, (h .1 .1, c .if2 .left, binder-binds _ _ _ (found (c .before .before) .1) (c .if2 .left)))
 
 returns-3 : tie.Need-returns-3
 returns-3 c = let f = found (c .before .before .before) in out-by _ _ _ _ _ (f .0) (c .before .before .before .before .num .ensures) (f .1) (c .is-in-scope .ensures)

@@ -15,13 +15,13 @@ slice-aggregate-fill-next-heads : tie.Need-slice-aggregate-fill-next-heads
 slice-aggregate-fill-next-heads c = search needs
 
 fill-next-heads-requires : tie.Need-fill-next-heads-requires
-fill-next-heads-requires c κs = (c .before .before .before .before .before .pre .0, omega (arith, c .before .row-words16 .ensures .room, c .before .before .before .before .before .pre .0 .rows))
+fill-next-heads-requires c κs = (c .before .before .before .before .before .pre .0 .whole, omega (arith, c .before .row-words16 .ensures .room, c .before .before .before .before .before .pre .0 .whole .rows))
 
 slice-aggregate-first-out : tie.Need-slice-aggregate-first-out
 slice-aggregate-first-out c = search needs
 
 first-out-requires : tie.Need-first-out-requires
-first-out-requires c κs = let h = c .before .before .before .before .before .before .before .before .pre in (h .0, (h .1 .0, (h .1 .1 .0, (c .before .before .fill-next-heads .ensures, h .1 .1 .1))))
+first-out-requires c κs = let h = c .before .before .before .before .before .before .before .before .pre in (record { fitted = h .0; after = h .1 .0; head = c .before .before .fill-next-heads .ensures }, h .1 .1)
 
 add-place : tie.Need-add-place
 add-place c = search needs

@@ -1,8 +1,9 @@
 use borrow.Author.Needs.{needs}
 use native.Mathlib.Omega.{arith}
 use Rattle.branches.proofs.Walk.{state-there}
-use Rattle.stated.proofs.Dispatch.{is-head-tag, code-none, code-lacks, code-there, rest-told}
+use Rattle.stated.proofs.Dispatch.{code-none, code-lacks, code-there, rest-told}
 use Rattle.stated.proofs.states.rest_closed.Statement.{statement}
+use Rattle.model.proofs.Heads.{head-between}
 use Rattle.stated.proofs.states.rest_closed.Tie as tie
 
 returns : tie.Need-returns
@@ -12,7 +13,7 @@ returns-2 : tie.Need-returns-2
 returns-2 c = code-lacks _ _ (c .before .if1 .left) (c .if2 .taken)
 
 rest-requires : tie.Need-rest-requires
-rest-requires c κs = (c .before .before .before .before .before .pre .0, (c .before .before .before .before .before .pre .1 .0, is-head-tag _ (omega (arith, c .before .before .before .before .before .pre .1 .1 .1 .0)) (omega (arith, c .before .before .before .before .before .pre .1 .1 .1 .1))))
+rest-requires c κs = (c .before .before .before .before .before .pre .0, (c .before .before .before .before .before .pre .1 .0, head-between _ (omega (arith, c .before .before .before .before .before .pre .1 .1 .1 .0)) (omega (arith, c .before .before .before .before .before .pre .1 .1 .1 .1))))
 
 onward-requires : tie.Need-onward-requires
 onward-requires c κs = search needs
