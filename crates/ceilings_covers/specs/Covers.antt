@@ -18,16 +18,14 @@ use Rattle.ceilings_masks.specs.declared.Over.{Over}
 use Rattle.ceilings_masks.specs.Compared.{Holders, most, exceeds, takes-more, Counted, Neighbours}
 
 -- the tables of one ceiling beside all others
-pub record Beside (limits : List ℕ) (ceilings n k : ℕ) (holders unbounded : List ℕ) (over : Over)
-    (short more : List ℕ) : Type 0 where
+pub record Beside (limits : List ℕ) (ceilings n k : ℕ) (holders : List ℕ) (over : Over) (near : List ℕ) : Type 0 where
   pub room : n * ceilings ≤ length limits
   pub few : ceilings ≤ maxCeilings
   pub ceiling : k < ceilings
-  pub held-by : Holders limits ceilings n holders unbounded
+  pub held-by : Holders limits ceilings n holders
   pub counted : Counted limits ceilings n k over
-  pub near : Neighbours limits ceilings n k short more
-  pub short-room : n * 4 ≤ length short
-  pub more-room : n * 4 ≤ length more
+  pub neighbours : Neighbours limits ceilings n k near
+  pub near-room : n * 8 ≤ length near
 
 -- ceiling k′ covers the counts after a rule from the highest counts of ceiling k
 unfoldable pub covers : List ℕ → ℕ → ℕ → ℕ → Rule → ℕ → Bool

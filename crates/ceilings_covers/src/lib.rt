@@ -53,33 +53,34 @@ pub fn left_after(
     ceilings: usize,
     n: usize,
     holders: &[u64],
-    unbounded: &[u64],
     over: Over,
-    short: &[u64],
-    more: &[u64],
+    near: &[u64],
     k: usize,
     i: usize,
 ) -> Mask
-    requires { ⌜ Beside (now limits) ceilings n k (now holders) (now unbounded) over (now short) (now more) ⌝ }
+    requires { ⌜ Beside (now limits) ceilings n k (now holders) over (now near) ⌝ }
     requires { ⌜ (i < n) × (1 ≤ held (now limits) ceilings k i) ⌝ }
     ensures { λ r. ⌜ Left (now (limits .entry)) ceilings n k i r ⌝ }
 {
     let whole = without(below(ceilings), over.once);
-    let by_one = without(load(short, i), over.twice);
+    let first = 2 * i;
+    let by_one = without(load(near, first), over.twice);
     or(whole, by_one)
 }
 
 // The same with one less at counter x too.
-fn left_reading(over: Over, short: &[u64], left: Mask, i: usize, x: usize) -> Mask
-    requires { ⌜ Row (now short) 4 i × Row (now short) 4 x ⌝ }
+fn left_reading(over: Over, near: &[u64], left: Mask, i: usize, x: usize) -> Mask
+    requires { ⌜ Row (now near) 4 (2 * i) × Row (now near) 4 (2 * x) ⌝ }
     ensures { λ r. ⌜
         ((j : ℕ) → j < 256 →
-        has r j ≡ reading (has left) (has (over .twice)) (has (over .thrice)) (member (now (short .entry)) 4 i)
-        (member (now (short .entry)) 4 x) j) ⌝ }
+        has r j ≡ reading (has left) (has (over .twice)) (has (over .thrice)) (member (now (near .entry)) 4 (2 * i))
+        (member (now (near .entry)) 4 (2 * x)) j) ⌝ }
 {
-    let near = load(short, x);
-    let once = without(near, over.twice);
-    let twice = without(and(load(short, i), near), over.thrice);
+    let first = 2 * i;
+    let second = 2 * x;
+    let by_one = load(near, second);
+    let once = without(by_one, over.twice);
+    let twice = without(and(load(near, first), by_one), over.thrice);
     or(or(left, once), twice)
 }
 
@@ -90,29 +91,20 @@ fn one_more_at(
     ceilings: usize,
     n: usize,
     holders: &[u64],
-    unbounded: &[u64],
     over: Over,
-    short: &[u64],
-    more: &[u64],
+    near: &[u64],
     k: usize,
     y: usize,
 ) -> Mask
-    requires { ⌜ Beside (now limits) ceilings n k (now holders) (now unbounded) over (now short) (now more) ⌝ }
+    requires { ⌜ Beside (now limits) ceilings n k (now holders) over (now near) ⌝ }
     requires { ⌜ y < n ⌝ }
     ensures { λ r. ⌜ ((j : ℕ) → j < 256 → has r j ≡ takes-more (now (limits .entry)) ceilings k y j) ⌝ }
 {
     if limit(limits, ceilings, k, y) == 0 {
-        return allowing(
-            limits,
-            ceilings,
-            n,
-            holders,
-            unbounded,
-            y,
-            raised(0) as usize,
-        );
+        return allowing(limits, ceilings, n, holders, y, raised(0) as usize);
     }
-    load(more, y)
+    let second = 2 * y + 1;
+    load(near, second)
 }
 
 // Of the ceilings that hold the highest counts of ceiling k with one less at counter i, those that hold one more at the
@@ -122,17 +114,15 @@ pub fn left_moved(
     ceilings: usize,
     n: usize,
     holders: &[u64],
-    unbounded: &[u64],
     over: Over,
-    short: &[u64],
-    more: &[u64],
+    near: &[u64],
     k: usize,
     states: usize,
     left: Mask,
     i: usize,
     to: usize,
 ) -> Mask
-    requires { ⌜ Beside (now limits) ceilings n k (now holders) (now unbounded) over (now short) (now more) ⌝ }
+    requires { ⌜ Beside (now limits) ceilings n k (now holders) over (now near) ⌝ }
     requires { ⌜ states ≤ n ⌝ }
     ensures { λ r. ⌜ ((j : ℕ) → j < 256 → has r j ≡ moved (now (limits .entry)) ceilings states k i to left j) ⌝ }
 {
@@ -142,18 +132,7 @@ pub fn left_moved(
     if to >= states {
         return none();
     }
-    let raised = one_more_at(
-        limits,
-        ceilings,
-        n,
-        holders,
-        unbounded,
-        over,
-        short,
-        more,
-        k,
-        to,
-    );
+    let raised = one_more_at(limits, ceilings, n, holders, over, near, k, to);
     and(left, raised)
 }
 
@@ -163,15 +142,13 @@ fn by_taken(
     ceilings: usize,
     n: usize,
     holders: &[u64],
-    unbounded: &[u64],
     over: Over,
-    short: &[u64],
-    more: &[u64],
+    near: &[u64],
     k: usize,
     left: Mask,
     step: Step,
 ) -> Mask
-    requires { ⌜ Beside (now limits) ceilings n k (now holders) (now unbounded) over (now short) (now more) ⌝ }
+    requires { ⌜ Beside (now limits) ceilings n k (now holders) over (now near) ⌝ }
     requires { ⌜ Step-apart n step ⌝ }
     requires { ⌜ Left (now limits) ceilings n k (step .from) left ⌝ }
     requires { ⌜ usable (rule-of-step step) (highest (held (now limits) ceilings k)) ≡ true ⌝ }
@@ -179,7 +156,7 @@ fn by_taken(
     ensures { λ r. ⌜ ((step .kind ≡ 1 → ⊥) → (j : ℕ) → has r j ≡ true → has left j ≡ true) ⌝ }
 {
     if step.kind == 1 {
-        return left_reading(over, short, left, step.from, step.other);
+        return left_reading(over, near, left, step.from, step.other);
     }
     left
 }
@@ -190,16 +167,14 @@ fn by_added(
     ceilings: usize,
     n: usize,
     holders: &[u64],
-    unbounded: &[u64],
     over: Over,
-    short: &[u64],
-    more: &[u64],
+    near: &[u64],
     k: usize,
     step: Step,
     y: usize,
     m: Mask,
 ) -> Mask
-    requires { ⌜ Beside (now limits) ceilings n k (now holders) (now unbounded) over (now short) (now more) ⌝ }
+    requires { ⌜ Beside (now limits) ceilings n k (now holders) over (now near) ⌝ }
     requires { ⌜ Step-apart n step ⌝ }
     requires { ⌜ (eqb y (step .to) || adds-other step y) ≡ true ⌝ }
     requires { ⌜ Candidates (now limits) ceilings n k step m ⌝ }
@@ -217,18 +192,7 @@ fn by_added(
     }
     and(
         m,
-        one_more_at(
-            limits,
-            ceilings,
-            n,
-            holders,
-            unbounded,
-            over,
-            short,
-            more,
-            k,
-            y,
-        ),
+        one_more_at(limits, ceilings, n, holders, over, near, k, y),
     )
 }
 
@@ -238,43 +202,27 @@ pub fn candidates(
     ceilings: usize,
     n: usize,
     holders: &[u64],
-    unbounded: &[u64],
     over: Over,
-    short: &[u64],
-    more: &[u64],
+    near: &[u64],
     k: usize,
     left: Mask,
     step: Step,
 ) -> Mask
-    requires { ⌜ Beside (now limits) ceilings n k (now holders) (now unbounded) over (now short) (now more) ⌝ }
+    requires { ⌜ Beside (now limits) ceilings n k (now holders) over (now near) ⌝ }
     requires { ⌜ Step-apart n step ⌝ }
     requires { ⌜ Left (now limits) ceilings n k (step .from) left ⌝ }
     requires { ⌜ usable (rule-of-step step) (highest (held (now limits) ceilings k)) ≡ true ⌝ }
     ensures { λ r. ⌜ Candidates (now (limits .entry)) ceilings n k step r ⌝ }
     ensures { λ r. ⌜ Exact (now (limits .entry)) ceilings n k step r ⌝ }
 {
-    let taken = by_taken(
-        limits,
-        ceilings,
-        n,
-        holders,
-        unbounded,
-        over,
-        short,
-        more,
-        k,
-        left,
-        step,
-    );
+    let taken = by_taken(limits, ceilings, n, holders, over, near, k, left, step);
     let to = by_added(
         limits,
         ceilings,
         n,
         holders,
-        unbounded,
         over,
-        short,
-        more,
+        near,
         k,
         step,
         step.to,
@@ -288,10 +236,8 @@ pub fn candidates(
         ceilings,
         n,
         holders,
-        unbounded,
         over,
-        short,
-        more,
+        near,
         k,
         step,
         step.other,

@@ -18,7 +18,7 @@ use Rattle.model.specs.Markings.{Marking, usable, fire}
 use Rattle.model.specs.Ceilings.{allowed, highest, under, under-some, leads-out}
 use Rattle.model.proofs.Logic.{test, and-left, and-right, and-intro, or-left, or-right, or-cases, and-none, not-not, both}
 use Rattle.model.proofs.Index.{any-elim, any-intro, all-intro, all-elim}
-use Rattle.bits.specs.Bits.{member, Set-is}
+use Rattle.bits.specs.Bits.{member}
 use Rattle.masks.specs.declared.Mask.{Mask}
 use Rattle.masks.specs.Masks.{has}
 use Rattle.steps.specs.declared.Step.{Step}
@@ -27,7 +27,7 @@ use Rattle.steps.proofs.Stepping.{fire-fewer, less-pass, less-fail}
 use Rattle.ceilings.specs.Table.{held}
 use Rattle.ceilings_form.proofs.Limited.{highest-limit}
 use Rattle.ceilings_masks.specs.declared.Over.{Over}
-use Rattle.ceilings_masks.specs.Compared.{reaches, most, More-from, Raised}
+use Rattle.ceilings_masks.specs.Compared.{Three-put, reaches, most, More-from, Above}
 use Rattle.ceilings_covers.specs.Covers.{Left}
 use Rattle.ceilings_covers.proofs.Covering.{allowed-lower, fits-not, adds-elim, adds-apart, fire-once, more-allows}
 use Rattle.ceilings_groups.specs.Groups.{table-ceilings, escapes, Open-at, Open-step, Open-all, Open-to, Sets-open, Groups-upto, Group-put, in-sets}
@@ -108,7 +108,7 @@ module _ (limits : List ℕ) (ceilings n k i : ℕ) (left : Mask) (l : Left limi
   unfolding More-from
   more-none mask x j from inside = absurd (omega arith)
 
-  pub settles : (states : ℕ) (over : Over) → Raised limits ceilings states n k over → (p : Program) (t : Tables) (S : ℕ) (group : List ℕ) → i < S → Groups-upto p t limits ceilings states n S group → any 0 256 (λ j. has left j && in-sets over group i j) ≡ true → leads-out (table-ceilings ceilings n limits) (state-rules p t i (state-at t i)) (highest (held limits ceilings k)) ≡ false
+  pub settles : (states : ℕ) (over : Over) → Above limits ceilings states n k over → (p : Program) (t : Tables) (S : ℕ) (group : List ℕ) → i < S → Groups-upto p t limits ceilings states n S group → any 0 256 (λ j. has left j && in-sets over group i j) ≡ true → leads-out (table-ceilings ceilings n limits) (state-rules p t i (state-at t i)) (highest (held limits ceilings k)) ≡ false
   unfolding in-sets
   settles states over up p t S group inside g some =
       let (j, w, e) = any-elim 0 256 (λ j. has left j && in-sets over group i j) some in
@@ -146,7 +146,7 @@ settled-bit over group i k l first second third lettered raised held-by either a
 
 -- the mask has the ceilings that have no bound at the counters before x
 unfoldable pub Boundless-upto : List ℕ → ℕ → Mask → Type 0
-Boundless-upto unbounded x m = (k : ℕ) → k < 256 → has m k ≡ all 0 x (λ y. member unbounded 4 y k)
+Boundless-upto holders x m = (k : ℕ) → k < 256 → has m k ≡ all 0 x (λ y. member holders 4 (3 * y + 2) k)
 
 all-more : (x : ℕ) (f : ℕ → Bool) → (all 0 x f && f x) ≡ all 0 (x + 1) f
 all-more x f =
@@ -154,28 +154,28 @@ all-more x f =
     (λ t. all-intro 0 (x + 1) f (λ y a b. elim (ℕ-discrete y x) [ yes e ↦ rw e (and-right (all 0 x f) (f x) t) | no e ↦ all-elim 0 x y f (and-left (all 0 x f) (f x) t) a (omega arith) ]))
     (λ t. and-intro _ _ (all-intro 0 x f (λ y a b. all-elim 0 (x + 1) y f t a (omega arith))) (all-elim 0 (x + 1) x f t (omega arith) (omega arith)))
 
-module _ (unbounded : List ℕ) where
-  pub boundless-start : (m : Mask) → ((k : ℕ) → k < 256 → has m k ≡ ltb k 256) → Boundless-upto unbounded 0 m
+module _ (holders : List ℕ) where
+  pub boundless-start : (m : Mask) → ((k : ℕ) → k < 256 → has m k ≡ ltb k 256) → Boundless-upto holders 0 m
   unfolding Boundless-upto
-  boundless-start m is k h = is k h ∙ (lt-ltb k 256 h ∙ sym (all-intro 0 0 (λ y. member unbounded 4 y k) (λ y a b. absurd (omega arith))))
+  boundless-start m is k h = is k h ∙ (lt-ltb k 256 h ∙ sym (all-intro 0 0 (λ y. member holders 4 (3 * y + 2) k) (λ y a b. absurd (omega arith))))
 
-  pub boundless-next : (x : ℕ) (m next r : Mask) → Boundless-upto unbounded x m → ((k : ℕ) → k < 256 → has next k ≡ member unbounded 4 x k) → ((k : ℕ) → has r k ≡ (has m k && has next k)) → Boundless-upto unbounded (x + 1) r
+  pub boundless-next : (x : ℕ) (m next r : Mask) → Boundless-upto holders x m → ((k : ℕ) → k < 256 → has next k ≡ member holders 4 (3 * x + 2) k) → ((k : ℕ) → has r k ≡ (has m k && has next k)) → Boundless-upto holders (x + 1) r
   unfolding Boundless-upto
-  boundless-next x m next r b is and k h = and k ∙ (rw (b k h, is k h) (all-more x (λ y. member unbounded 4 y k)))
+  boundless-next x m next r b is and k h = and k ∙ (rw (b k h, is k h) (all-more x (λ y. member holders 4 (3 * y + 2) k)))
 
-  pub boundless-some : (n x : ℕ) (m : Mask) (r : Bool) → x ≡ n → Boundless-upto unbounded x m → r ≡ not (any 0 256 (has m)) → not r ≡ any 0 256 (λ k. all 0 n (λ y. member unbounded 4 y k))
+  pub boundless-some : (n x : ℕ) (m : Mask) (r : Bool) → x ≡ n → Boundless-upto holders x m → r ≡ not (any 0 256 (has m)) → not r ≡ any 0 256 (λ k. all 0 n (λ y. member holders 4 (3 * y + 2) k))
   unfolding Boundless-upto
   boundless-some n x m r e b is = ap not is ∙ (not-not _ ∙ (any-same 0 256 _ _ b ∙ rw e))
 
--- the sets of one state, stored one behind the other
-pub sets-put : (limits : List ℕ) (ceilings states n kind : ℕ) (tos others : List ℕ) (m i : ℕ) (group group₁ group₂ group₃ : List ℕ) (q r u : Mask) → Sets-open limits ceilings states n kind tos others m (has q) (has r) (has u) → Set-is 4 (3 * i) (has q) group group₁ → Set-is 4 (3 * i + 1) (has r) group₁ group₂ → Set-is 4 (3 * i + 2) (has u) group₂ group₃ → Group-put limits ceilings states n kind tos others m i group group₃
-sets-put limits ceilings states n kind tos others m i group group₁ group₂ group₃ q r u sets set₁ set₂ set₃ =
+-- the sets of one state, one behind the other
+pub sets-put : (limits : List ℕ) (ceilings states n kind : ℕ) (tos others : List ℕ) (m i : ℕ) (group group′ : List ℕ) (f g h : ℕ → Bool) → Sets-open limits ceilings states n kind tos others m f g h → Three-put i f g h group group′ → Group-put limits ceilings states n kind tos others m i group group′
+sets-put limits ceilings states n kind tos others m i group group′ f g h sets put =
     record {
       sets = record {
-        opens = λ k j l b t. sets .opens k j l b (sym (set₁ .here k l) ∙ (sym (set₂ .others (3 * i) k l (λ e. omega arith)) ∙ (sym (set₃ .others (3 * i) k l (λ e. omega arith)) ∙ t)));
-        opens-letters = λ k j l b t. sets .opens-letters k j l b (sym (set₂ .here k l) ∙ (sym (set₃ .others (3 * i + 1) k l (λ e. omega arith)) ∙ t));
-        opens-one = λ k j l b t. sets .opens-one k j l b (sym (set₃ .here k l) ∙ t);
+        opens = λ k j l b t. sets .opens k j l b (sym (put .first k l) ∙ t);
+        opens-letters = λ k j l b t. sets .opens-letters k j l b (sym (put .second k l) ∙ t);
+        opens-one = λ k j l b t. sets .opens-one k j l b (sym (put .third k l) ∙ t);
       };
-      stays = λ x k h l. set₃ .others x k l (λ e. omega arith) ∙ (set₂ .others x k l (λ e. omega arith) ∙ set₁ .others x k l (λ e. omega arith));
-      long = set₃ .long ∙ (set₂ .long ∙ set₁ .long);
+      stays = λ x k low l. put .others x k l (λ e. omega arith);
+      long = put .long;
     }

@@ -1,6 +1,7 @@
 // The rules of a state as one: the ceilings that are open at every counter to which one of them adds. A ceiling is open
 // from `low` on at a counter: it has no bound there if the counter is below `low`, and holds one there if it is not.
 use ceilings_masks::Over;
+use ceilings_masks::store_three;
 use masks::Mask;
 use masks::and;
 use masks::below;
@@ -8,7 +9,6 @@ use masks::is_none;
 use masks::load;
 use masks::none;
 use masks::or;
-use masks::store;
 ghost use mathlib.Core.Path.{_≡_};
 ghost use mathlib.Core.Bool.{true, _&&_};
 ghost use Prim.Native.Nat.{ℕ, _+_, _*_, _≤_, _<_};
@@ -21,26 +21,19 @@ ghost use Rattle.ceilings_groups.specs.Groups.{Allowed-at, Open-step, Op
 ghost use Rattle.ceilings_groups.specs.Groups.{Group-put, in-sets};
 
 // Ceilings that are open from `low` on at counter y; all where it is none of the n.
-fn open_at(
-    limits: &[u16],
-    ceilings: usize,
-    n: usize,
-    holders: &[u64],
-    unbounded: &[u64],
-    low: usize,
-    y: usize,
-) -> Mask
-    requires { ⌜ Holders (now limits) ceilings n (now holders) (now unbounded) ⌝ }
+fn open_at(limits: &[u16], ceilings: usize, n: usize, holders: &[u64], low: usize, y: usize) -> Mask
+    requires { ⌜ Holders (now limits) ceilings n (now holders) ⌝ }
     ensures { λ r. ⌜ ((k : ℕ) → k < 256 → has r k ≡ true → Allowed-at (now (limits .entry)) ceilings n low k y) ⌝ }
 {
     if n <= y {
         return below(256);
     }
     if low <= y {
-        let first = 2 * y;
+        let first = 3 * y;
         return load(holders, first);
     }
-    load(unbounded, y)
+    let third = 3 * y + 2;
+    load(holders, third)
 }
 
 // Ceilings that are open from `low` on where a rule of this kind adds: where it leads, and what it puts or starts.
@@ -50,27 +43,23 @@ fn open_to(
     ceilings: usize,
     n: usize,
     holders: &[u64],
-    unbounded: &[u64],
     low: usize,
     kind: usize,
     to: usize,
     other: usize,
 ) -> Mask
-    requires { ⌜ Holders (now limits) ceilings n (now holders) (now unbounded) ⌝ }
+    requires { ⌜ Holders (now limits) ceilings n (now holders) ⌝ }
     ensures { λ r. ⌜
         ((k : ℕ) → k < 256 → has r k ≡ true → Open-step (now (limits .entry)) ceilings n low k kind to other) ⌝ }
 {
-    let at_to = open_at(limits, ceilings, n, holders, unbounded, low, to);
+    let at_to = open_at(limits, ceilings, n, holders, low, to);
     if kind < 2 {
         return at_to;
     }
     if to == other {
         return none();
     }
-    and(
-        at_to,
-        open_at(limits, ceilings, n, holders, unbounded, low, other),
-    )
+    and(at_to, open_at(limits, ceilings, n, holders, low, other))
 }
 
 // Of the ceilings of a mask those that are open from `low` on where a rule of this kind adds.
@@ -80,30 +69,19 @@ fn narrowed(
     ceilings: usize,
     n: usize,
     holders: &[u64],
-    unbounded: &[u64],
     low: usize,
     kind: usize,
     to: usize,
     other: usize,
 ) -> Mask
-    requires { ⌜ Holders (now limits) ceilings n (now holders) (now unbounded) ⌝ }
+    requires { ⌜ Holders (now limits) ceilings n (now holders) ⌝ }
     ensures { λ r. ⌜ ((k : ℕ) → has r k ≡ true → has all k ≡ true) ⌝ }
     ensures { λ r. ⌜
         ((k : ℕ) → k < 256 → has r k ≡ true → Open-step (now (limits .entry)) ceilings n low k kind to other) ⌝ }
 {
     and(
         all,
-        open_to(
-            limits,
-            ceilings,
-            n,
-            holders,
-            unbounded,
-            low,
-            kind,
-            to,
-            other,
-        ),
+        open_to(limits, ceilings, n, holders, low, kind, to, other),
     )
 }
 
@@ -113,13 +91,12 @@ fn open_to_all(
     ceilings: usize,
     n: usize,
     holders: &[u64],
-    unbounded: &[u64],
     kind: usize,
     tos: &[u16],
     others: &[u16],
     m: usize,
 ) -> Mask
-    requires { ⌜ Holders (now limits) ceilings n (now holders) (now unbounded) ⌝ }
+    requires { ⌜ Holders (now limits) ceilings n (now holders) ⌝ }
     requires { ⌜ (m ≤ length (now tos)) × (m ≤ length (now others)) ⌝ }
     ensures { λ r. ⌜
         Open-all (now (limits .entry)) ceilings n n kind (now (tos .entry)) (now (others .entry)) m (has r) ⌝ }
@@ -128,18 +105,7 @@ fn open_to_all(
     for j in 0..m {
         let to = tos[j] as usize;
         let other = others[j] as usize;
-        all = narrowed(
-            all,
-            limits,
-            ceilings,
-            n,
-            holders,
-            unbounded,
-            n,
-            kind,
-            to,
-            other,
-        );
+        all = narrowed(all, limits, ceilings, n, holders, n, kind, to, other);
     }
     all
 }
@@ -159,13 +125,12 @@ fn sets_to_all(
     states: usize,
     n: usize,
     holders: &[u64],
-    unbounded: &[u64],
     kind: usize,
     tos: &[u16],
     others: &[u16],
     m: usize,
 ) -> Sets
-    requires { ⌜ Holders (now limits) ceilings n (now holders) (now unbounded) ⌝ }
+    requires { ⌜ Holders (now limits) ceilings n (now holders) ⌝ }
     requires { ⌜ (m ≤ length (now tos)) × (m ≤ length (now others)) ⌝ }
     ensures { λ r. ⌜ Sets-open (now (limits .entry)) ceilings states n kind (now (tos .entry)) (now (others .entry)) m
         (has (r .free)) (has (r .lettered)) (has (r .held)) ⌝ }
@@ -176,42 +141,19 @@ fn sets_to_all(
     for j in 0..m {
         let to = tos[j] as usize;
         let other = others[j] as usize;
-        free = narrowed(
-            free,
-            limits,
-            ceilings,
-            n,
-            holders,
-            unbounded,
-            n,
-            kind,
-            to,
-            other,
-        );
+        free = narrowed(free, limits, ceilings, n, holders, n, kind, to, other);
         lettered = narrowed(
             lettered,
             limits,
             ceilings,
             n,
             holders,
-            unbounded,
             states,
             kind,
             to,
             other,
         );
-        held = narrowed(
-            held,
-            limits,
-            ceilings,
-            n,
-            holders,
-            unbounded,
-            0,
-            kind,
-            to,
-            other,
-        );
+        held = narrowed(held, limits, ceilings, n, holders, 0, kind, to, other);
     }
     Sets {
         free,
@@ -229,47 +171,25 @@ fn state_sets(
     states: usize,
     n: usize,
     holders: &[u64],
-    unbounded: &[u64],
     kind: usize,
     tos: &[u16],
     others: &[u16],
     m: usize,
 ) -> Sets
-    requires { ⌜ Holders (now limits) ceilings n (now holders) (now unbounded) ⌝ }
+    requires { ⌜ Holders (now limits) ceilings n (now holders) ⌝ }
     requires { ⌜ (m ≤ length (now tos)) × (m ≤ length (now others)) ⌝ }
     ensures { λ r. ⌜ Sets-open (now (limits .entry)) ceilings states n kind (now (tos .entry)) (now (others .entry)) m
         (has (r .free)) (has (r .lettered)) (has (r .held)) ⌝ }
 {
     if boundless {
-        let free = open_to_all(
-            limits,
-            ceilings,
-            n,
-            holders,
-            unbounded,
-            kind,
-            tos,
-            others,
-            m,
-        );
+        let free = open_to_all(limits, ceilings, n, holders, kind, tos, others, m);
         return Sets {
             free: free,
             lettered: none(),
             held: none(),
         };
     }
-    sets_to_all(
-        limits,
-        ceilings,
-        states,
-        n,
-        holders,
-        unbounded,
-        kind,
-        tos,
-        others,
-        m,
-    )
+    sets_to_all(limits, ceilings, states, n, holders, kind, tos, others, m)
 }
 
 // The three sets of state i, whose m rules are all of this kind, one behind the other.
@@ -280,7 +200,6 @@ pub fn put_group(
     states: usize,
     n: usize,
     holders: &[u64],
-    unbounded: &[u64],
     kind: usize,
     tos: &[u16],
     others: &[u16],
@@ -288,7 +207,7 @@ pub fn put_group(
     i: usize,
     group: &mut [u64],
 )
-    requires { ⌜ Holders (now limits) ceilings n (now holders) (now unbounded) ⌝ }
+    requires { ⌜ Holders (now limits) ceilings n (now holders) ⌝ }
     requires { ⌜ (m ≤ length (now tos)) × (m ≤ length (now others)) ⌝ }
     requires { ⌜ (i < 65536) × (i * 12 + 12 ≤ length (now group)) ⌝ }
     ensures { λ _. ⌜ Group-put (now (limits .entry)) ceilings states n kind (now (tos .entry)) (now (others .entry)) m
@@ -301,28 +220,23 @@ pub fn put_group(
         states,
         n,
         holders,
-        unbounded,
         kind,
         tos,
         others,
         m,
     );
-    let first = 3 * i;
-    store(group, first, sets.free);
-    let second = 3 * i + 1;
-    store(group, second, sets.lettered);
-    let third = 3 * i + 2;
-    store(group, third, sets.held);
+    store_three(group, i, sets.free, sets.lettered, sets.held);
 }
 
 // Some ceiling has no bound at any of the n counters.
-pub fn is_boundless(unbounded: &[u64], n: usize) -> bool
-    requires { ⌜ n * 4 ≤ length (now unbounded) ⌝ }
-    ensures { λ r. ⌜ r ≡ any 0 256 (λ k. all 0 n (λ x. member (now (unbounded .entry)) 4 x k)) ⌝ }
+pub fn is_boundless(holders: &[u64], n: usize) -> bool
+    requires { ⌜ n * 12 ≤ length (now holders) ⌝ }
+    ensures { λ r. ⌜ r ≡ any 0 256 (λ k. all 0 n (λ x. member (now (holders .entry)) 4 (3 * x + 2) k)) ⌝ }
 {
     let mut left = below(256);
     for x in 0..n {
-        left = and(left, load(unbounded, x));
+        let third = 3 * x + 2;
+        left = and(left, load(holders, third));
     }
     !is_none(left)
 }

@@ -41,7 +41,7 @@ use Rattle.ceilings_form.proofs.Limited.{highest-limit}
 use Rattle.ceilings.specs.Table.{held, Limits-table}
 use Rattle.ceilings.proofs.Ahead.{Ahead, Counter-here, ahead-counter, ahead-none}
 use Rattle.ceilings_masks.specs.declared.Over.{Over}
-use Rattle.ceilings_masks.specs.Compared.{Holders, Counted, Raised, Neighbours}
+use Rattle.ceilings_masks.specs.Compared.{Holders, Counted, Above, Neighbours}
 use Rattle.ceilings_covers.specs.Covers.{Beside, covers, passes, named, Candidates, Exact, sure, Step-apart}
 use Rattle.ceilings_covers.proofs.Covering.{covers-pass, pass-covers}
 use Rattle.ceilings_groups.specs.Groups.{table-ceilings, escapes, Open-all, Rules-open, Groups-upto, Group-put, step}
@@ -63,12 +63,12 @@ pub first-low : (a r : ℕ) (f : ℕ → Bool) → a ≤ 256 → r ≡ first a 2
 first-low a r f h e = let z = first-is a 256 f h .from in omega arith
 
 -- one ceiling beside the others, by the code's values
-pub beside-at : (limits : List ℕ) (ceilings n k k₀ : ℕ) (holders unbounded : List ℕ) (over : Over) (short more : List ℕ) → k ≡ k₀ → n * ceilings ≤ length limits → ceilings ≤ 256 → k₀ < ceilings → Holders limits ceilings n holders unbounded → Counted limits ceilings n k₀ over → Neighbours limits ceilings n k₀ short more → n * 4 ≤ length short → n * 4 ≤ length more → Beside limits ceilings n k holders unbounded over short more
-beside-at limits ceilings n k k₀ holders unbounded over short more e room few below h c m a b =
-    rw e (record { room = room; few = few; ceiling = below; held-by = h; counted = c; near = m; short-room = a; more-room = b })
+pub beside-at : (limits : List ℕ) (ceilings n k k₀ : ℕ) (holders : List ℕ) (over : Over) (near : List ℕ) → k ≡ k₀ → n * ceilings ≤ length limits → ceilings ≤ 256 → k₀ < ceilings → Holders limits ceilings n holders → Counted limits ceilings n k₀ over → Neighbours limits ceilings n k₀ near → n * 8 ≤ length near → Beside limits ceilings n k holders over near
+beside-at limits ceilings n k k₀ holders over near e room few below h c m a =
+    rw e (record { room = room; few = few; ceiling = below; held-by = h; counted = c; neighbours = m; near-room = a })
 
-pub raised-at : (limits : List ℕ) (ceilings states n k k₀ : ℕ) (over : Over) → k ≡ k₀ → Raised limits ceilings states n k₀ over → Raised limits ceilings states n k over
-raised-at limits ceilings states n k k₀ over e c = rw e c
+pub above-at : (limits : List ℕ) (ceilings states n k k₀ : ℕ) (over : Over) → k ≡ k₀ → Above limits ceilings states n k₀ over → Above limits ceilings states n k over
+above-at limits ceilings states n k k₀ over e c = rw e c
 
 -- the counters that a step names, one more
 pub named-next : (limits : List ℕ) (ceilings n k k′ : ℕ) (σ : Step) (b y : ℕ) → y ≡ named σ b → (y < n → passes limits ceilings k k′ σ y ≡ true) → ((x : ℕ) → x < b → named σ x < n → passes limits ceilings k k′ σ (named σ x) ≡ true) → (x : ℕ) → x < b + 1 → named σ x < n → passes limits ceilings k k′ σ (named σ x) ≡ true

@@ -19,18 +19,17 @@ use Rattle.ceilings_groups.specs.Groups.{table-ceilings, escapes}
 use Rattle.ceilings_masks.specs.Compared.{Holders}
 
 -- the n counters of a message, and the tables of its ceilings, which are in form
-pub record Ceilings-ready (ws : List ℕ) (s : Sizes) (n : ℕ) (limits starts holders unbounded : List ℕ) : Type 0 where
+pub record Ceilings-ready (ws : List ℕ) (s : Sizes) (n : ℕ) (limits starts holders : List ℕ) : Type 0 where
   pub counted : n ≡ counter-count (program ws s) (tables ws s)
   pub in-form : In-form ws s n
   pub limits-table : Limits-table (ceilings-of ws s n) limits
   pub starts-table : Starts-table n (ceiling-entries ws s) (s .ceilings) starts
-  pub held-by : Holders limits (s .ceilings) n holders unbounded
+  pub held-by : Holders limits (s .ceilings) n holders
 
 -- the scratch of the leak test: the rules of a state, and two sets for each counter
-pub record Rooms (ws : List ℕ) (s : Sizes) (n : ℕ) (tos others short more : List ℕ) : Type 0 where
+pub record Rooms (ws : List ℕ) (s : Sizes) (n : ℕ) (tos others near : List ℕ) : Type 0 where
   pub rules : Rule-room ws s tos others
-  pub short-room : n * 4 ≤ length short
-  pub more-room : n * 4 ≤ length more
+  pub near-room : n * 8 ≤ length near
 
 -- between two places of the lists stand the rules of state i, but for some that lead out of nothing from the highest
 -- counts of ceiling k

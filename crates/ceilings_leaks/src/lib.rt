@@ -93,7 +93,6 @@ pub fn fill_groups(
     limits: &[u16],
     starts: &[u16],
     holders: &[u64],
-    unbounded: &[u64],
     spare: usize,
     at: &mut [u16],
     tos: &mut [u16],
@@ -102,7 +101,7 @@ pub fn fill_groups(
     group: &mut [u64],
 ) -> Gathered
     requires { ⌜ Joined-tables (now ws) s (now narrow) (now fitting) (now names) (now letters) ⌝ }
-    requires { ⌜ Ceilings-ready (now ws) s n (now limits) (now starts) (now holders) (now unbounded) ⌝ }
+    requires { ⌜ Ceilings-ready (now ws) s n (now limits) (now starts) (now holders) ⌝ }
     requires { ⌜ Room-from (now ws) s spare (now tos) (now others) × (length (now tos) ≤ 65536) ⌝ }
     requires { ⌜ s .states * 12 ≤ length (now group) ⌝ }
     ensures { λ _. ⌜ Groups-upto (program (now (ws .entry)) s) (tables (now (ws .entry)) s) (now (limits .entry))
@@ -111,7 +110,7 @@ pub fn fill_groups(
     ensures { λ g. ⌜ Kept-rules (program (now (ws .entry)) s) (tables (now (ws .entry)) s) (s .states) (g .kept)
         (now («first_at» .exit)) (now (tos .exit)) (now (others .exit)) ⌝ }
 {
-    let boundless = is_boundless(unbounded, n);
+    let boundless = is_boundless(holders, n);
     let mut kept = none_kept(s.states, first_at);
     let mut rules = 0;
     let mut rows = 0;
@@ -141,7 +140,6 @@ pub fn fill_groups(
             s.states,
             n,
             holders,
-            unbounded,
             effect_kind(head),
             &tos[used..],
             &others[used..],
@@ -177,10 +175,8 @@ fn rules_under(
     n: usize,
     limits: &[u16],
     holders: &[u64],
-    unbounded: &[u64],
     over: Over,
-    short: &[u64],
-    more: &[u64],
+    near: &[u64],
     kept: Kept,
     first_at: &[u16],
     at: &[u16],
@@ -195,7 +191,7 @@ fn rules_under(
     requires { ⌜ Joined-tables (now ws) s (now narrow) (now fitting) (now names) (now letters) ⌝ }
     requires { ⌜ (n ≡ counter-count (program (now ws) s) (tables (now ws) s)) × (i < s .states) ⌝ }
     requires { ⌜ words ≡ letter-width (program (now ws) s) (tables (now ws) s) ⌝ }
-    requires { ⌜ Beside (now limits) (s .ceilings) n k (now holders) (now unbounded) over (now short) (now more) ⌝ }
+    requires { ⌜ Beside (now limits) (s .ceilings) n k (now holders) over (now near) ⌝ }
     requires { ⌜ Left (now limits) (s .ceilings) n k i left ⌝ }
     requires { ⌜ Row (now within) words 0 ⌝ }
     requires { ⌜ (not (kept .all) ≡ true →
@@ -218,10 +214,8 @@ fn rules_under(
         n,
         limits,
         holders,
-        unbounded,
         over,
-        short,
-        more,
+        near,
         k,
         i,
         left,
@@ -261,24 +255,22 @@ pub fn leak_check(
     limits: &[u16],
     starts: &[u16],
     holders: &[u64],
-    unbounded: &[u64],
     group: &[u64],
     kept: Kept,
     first_at: &[u16],
     at: &[u16],
     tos: &mut [u16],
     others: &mut [u16],
-    short: &mut [u64],
-    more: &mut [u64],
+    near: &mut [u64],
 ) -> Verdict
     requires { ⌜ Joined-tables (now ws) s (now narrow) (now fitting) (now names) (now letters) ⌝ }
-    requires { ⌜ Ceilings-ready (now ws) s n (now limits) (now starts) (now holders) (now unbounded) ⌝ }
+    requires { ⌜ Ceilings-ready (now ws) s n (now limits) (now starts) (now holders) ⌝ }
     requires { ⌜ Groups-upto (program (now ws) s) (tables (now ws) s) (now limits) (s .ceilings) (s .states) n
         (s .states) (now group) ⌝ }
     requires { ⌜ Kept-rules (program (now ws) s) (tables (now ws) s) (s .states) kept (now «first_at») (now tos)
         (now others) ⌝ }
     requires { ⌜ s .states * 12 ≤ length (now group) ⌝ }
-    requires { ⌜ Rooms (now ws) s n (now tos) (now others) (now short) (now more) ⌝ }
+    requires { ⌜ Rooms (now ws) s n (now tos) (now others) (now near) ⌝ }
     ensures { λ r. ⌜ r ≡
         answer (leak-check (now (ws .entry)) s (ceilings-of (now (ws .entry)) s n)
         (rules (program (now (ws .entry)) s) (tables (now (ws .entry)) s))) ⌝ }
@@ -287,7 +279,7 @@ pub fn leak_check(
     let mut within = [0u64; LETTER_WORDS];
     'ceilings: for k in 0..s.ceilings {
         let first = starts[k] as usize;
-        let over = compare(ws, s, n, limits, holders, unbounded, k, first, short, more);
+        let over = compare(ws, s, n, limits, holders, k, first, near);
         held_letters(!kept.all, s, n, limits, k, words, &mut within);
         let mut e = first;
         'states: loop {
@@ -296,18 +288,7 @@ pub fn leak_check(
                 continue 'ceilings;
             }
             e += 1;
-            let left = left_after(
-                limits,
-                s.ceilings,
-                n,
-                holders,
-                unbounded,
-                over,
-                short,
-                more,
-                k,
-                i,
-            );
+            let left = left_after(limits, s.ceilings, n, holders, over, near, k, i);
             if settled(left, over, group, i) {
                 continue 'states;
             }
@@ -321,10 +302,8 @@ pub fn leak_check(
                 n,
                 limits,
                 holders,
-                unbounded,
                 over,
-                short,
-                more,
+                near,
                 kept,
                 first_at,
                 at,
@@ -350,19 +329,7 @@ pub fn leak_check(
                 if !is_usable(limits, s.ceilings, n, k, step) {
                     continue 'rules;
                 }
-                let mask = candidates(
-                    limits,
-                    s.ceilings,
-                    n,
-                    holders,
-                    unbounded,
-                    over,
-                    short,
-                    more,
-                    k,
-                    left,
-                    step,
-                );
+                let mask = candidates(limits, s.ceilings, n, holders, over, near, k, left, step);
                 // every candidate of a sure step covers
                 if surely_covered(step, mask) {
                     continue 'rules;

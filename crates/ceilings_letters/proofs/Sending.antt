@@ -44,19 +44,19 @@ use Rattle.ceilings_letters.specs.Letters.{is-held, Held-set, One-more, 
 use Rattle.ceilings_letters.proofs.Holding.{letters-asked}
 
 -- the ceilings that hold one more, by the tables of one ceiling beside the others
-pub more-tables : (limits : List ℕ) (ceilings n k : ℕ) (holders unbounded : List ℕ) (over : Over) (short more : List ℕ) → Beside limits ceilings n k holders unbounded over short more → One-more limits ceilings n k holders more
+pub more-tables : (limits : List ℕ) (ceilings n k : ℕ) (holders : List ℕ) (over : Over) (near : List ℕ) → Beside limits ceilings n k holders over near → One-more limits ceilings n k holders near
 unfolding takes-more
-more-tables limits ceilings n k holders unbounded over short more b =
+more-tables limits ceilings n k holders over near b =
     record {
-      holders-room = b .held-by .holders-room;
-      more-room = b .more-room;
+      holders-room = b .held-by .room;
+      near-room = b .near-room;
       not-held = λ x j l z h.
           let none : held limits ceilings k x ≡ 0 = eqb-true _ 0 (not-false _ z) in
           let least : 0 ≡ most limits ceilings k x = highest-limit (held limits ceilings k) x 0 (sym none) (λ u. omega arith) in
           b .held-by .holder x j l h ∙ allows-one limits ceilings x (most limits ceilings k x + 1) j (omega arith);
       some-held = λ x j l z h.
           let some : held limits ceilings k x ≡ 0 → ⊥ = λ e. true-false z (ap not (eq-eqb _ 0 e)) in
-          b .near .one-more x j l (omega arith) h;
+          b .neighbours .one-more x j l (omega arith) h;
     }
 
 -- a rule that puts a letter

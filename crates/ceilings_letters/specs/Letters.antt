@@ -39,15 +39,15 @@ Held-set limits ceilings n k states words within =
 
 -- the ceilings that hold one more than ceiling k at each of n counters stand in two tables, by whether it holds the
 -- counter
-pub record One-more (limits : List ℕ) (ceilings n k : ℕ) (holders more : List ℕ) : Type 0 where
-  pub holders-room : n * 8 ≤ length holders
-  pub more-room : n * 4 ≤ length more
+pub record One-more (limits : List ℕ) (ceilings n k : ℕ) (holders near : List ℕ) : Type 0 where
+  pub holders-room : n * 12 ≤ length holders
+  pub near-room : n * 8 ≤ length near
   pub not-held :
       (x j : ℕ) → x < n → is-held limits ceilings k x ≡ false → j < 256 →
-      member holders 4 (2 * x) j ≡ takes-more limits ceilings k x j
+      member holders 4 (3 * x) j ≡ takes-more limits ceilings k x j
   pub some-held :
       (x j : ℕ) → x < n → is-held limits ceilings k x ≡ true → j < 256 →
-      member more 4 x j ≡ takes-more limits ceilings k x j
+      member near 4 (2 * x + 1) j ≡ takes-more limits ceilings k x j
 
 -- counter x is a letter, and a ceiling of the mask holds one more than ceiling k there
 unfoldable pub more-in : List ℕ → ℕ → ℕ → ℕ → Mask → ℕ → Bool

@@ -71,18 +71,19 @@ fn one_more_by(
     n: usize,
     k: usize,
     holders: &[u64],
-    more: &[u64],
+    near: &[u64],
     x: usize,
 ) -> Mask
-    requires { ⌜ One-more (now limits) ceilings n k (now holders) (now more) ⌝ }
+    requires { ⌜ One-more (now limits) ceilings n k (now holders) (now near) ⌝ }
     requires { ⌜ (x < n) × (n ≤ maxCounters) ⌝ }
     requires { ⌜ «is_held» ≡ is-held (now limits) ceilings k x ⌝ }
     ensures { λ r. ⌜ ((j : ℕ) → j < 256 → has r j ≡ takes-more (now (limits .entry)) ceilings k x j) ⌝ }
 {
     if is_held {
-        return load(more, x);
+        let second = 2 * x + 1;
+        return load(near, second);
     }
-    let first = 2 * x;
+    let first = 3 * x;
     load(holders, first)
 }
 
@@ -93,14 +94,14 @@ fn open_letters(
     limits: &[u16],
     k: usize,
     holders: &[u64],
-    more: &[u64],
+    near: &[u64],
     words: usize,
     within: &[u64],
     mask: Mask,
     uncovered: &mut [u64],
 )
     requires { ⌜ Letters-room s n k words (now limits) (now uncovered) ⌝ }
-    requires { ⌜ One-more (now limits) (s .ceilings) n k (now holders) (now more) ⌝ }
+    requires { ⌜ One-more (now limits) (s .ceilings) n k (now holders) (now near) ⌝ }
     requires { ⌜ Row (now within) words 0 ⌝ }
     requires { ⌜ Held-set (now limits) (s .ceilings) n k (s .states) words (now within) ⌝ }
     ensures { λ _. ⌜ Open-set (now (limits .entry)) (s .ceilings) n k (s .states) words mask (now (uncovered .exit)) ⌝ }
@@ -109,7 +110,7 @@ fn open_letters(
     for x in s.states..n {
         let y = x - s.states;
         let is_held = holds(within, words, 0, y);
-        let raised = one_more_by(is_held, limits, s.ceilings, n, k, holders, more, x);
+        let raised = one_more_by(is_held, limits, s.ceilings, n, k, holders, near, x);
         if !is_none(and(mask, raised)) {
             continue;
         }
@@ -129,10 +130,8 @@ pub fn asked_letters(
     n: usize,
     limits: &[u16],
     holders: &[u64],
-    unbounded: &[u64],
     over: Over,
-    short: &[u64],
-    more: &[u64],
+    near: &[u64],
     k: usize,
     i: usize,
     left: Mask,
@@ -144,7 +143,7 @@ pub fn asked_letters(
     requires { ⌜ Ends (program (now ws) s) (now afters) ⌝ }
     requires { ⌜ (n ≡ counter-count (program (now ws) s) (tables (now ws) s)) × (i < s .states) ⌝ }
     requires { ⌜ words ≡ letter-width (program (now ws) s) (tables (now ws) s) ⌝ }
-    requires { ⌜ Beside (now limits) (s .ceilings) n k (now holders) (now unbounded) over (now short) (now more) ⌝ }
+    requires { ⌜ Beside (now limits) (s .ceilings) n k (now holders) over (now near) ⌝ }
     requires { ⌜ Left (now limits) (s .ceilings) n k i left ⌝ }
     requires { ⌜ Letters-room s n k words (now limits) (now asked) ⌝ }
     requires { ⌜ Row (now within) words 0 ⌝ }
@@ -167,15 +166,13 @@ pub fn asked_letters(
         s.ceilings,
         n,
         holders,
-        unbounded,
         over,
-        short,
-        more,
+        near,
         k,
         s.states,
         left,
         i,
         to,
     );
-    open_letters(s, n, limits, k, holders, more, words, within, mask, asked);
+    open_letters(s, n, limits, k, holders, near, words, within, mask, asked);
 }

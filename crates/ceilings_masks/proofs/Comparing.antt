@@ -17,7 +17,7 @@ use Rattle.bits.proofs.Bits.{bit-or, bit-one, bit-zero}
 use Rattle.masks.specs.declared.Mask.{Mask}
 use Rattle.masks.specs.Masks.{words, has}
 use Rattle.ceilings.specs.Table.{held}
-use Rattle.ceilings_masks.specs.Compared.{reaches, allows, Holders}
+use Rattle.ceilings_masks.specs.Compared.{reaches, allows, Two-put, Three-put, Holders}
 
 -- the first e bits of a word are what f says, and no other is set
 pub record Word-upto (w e : ℕ) (f : ℕ → Bool) : Type 0 where
@@ -127,50 +127,54 @@ module _ (limits : List ℕ) (ceilings x n k : ℕ) where
   unfolding allows reaches
   allows-unbounded words h = ap (λ b. ltb k ceilings && b) (allowed-unbounded (held limits ceilings k x) n (let z = words (x * ceilings + k) in omega arith) h)
 
--- the sets of a table before number e are what f says
-pub Sets-upto : List ℕ → ℕ → (ℕ → ℕ → Bool) → Type 0
-Sets-upto t e f = (x k : ℕ) → x < e → k < 256 → member t 4 x k ≡ f x k
-
-pub sets-start : (t : List ℕ) (f : ℕ → ℕ → Bool) → Sets-upto t 0 f
-unfolding Sets-upto
-sets-start t f x k h = absurd (omega arith)
-
-pub sets-next : (u t : List ℕ) (e : ℕ) (g : ℕ → Bool) (f : ℕ → ℕ → Bool) → Sets-upto u e f → Set-is 4 e g u t → ((k : ℕ) → k < 256 → g k ≡ f e k) → Sets-upto t (e + 1) f
-unfolding Sets-upto
-sets-next u t e g f s is same x k h l = elim (ℕ-discrete x e) [
-  | yes z ↦ rw z (is .here k l ∙ same k l)
-  | no z ↦ is .others x k l z ∙ s x k (omega arith) l
-]
-
-pub sets-at : (t : List ℕ) (d e : ℕ) (f : ℕ → ℕ → Bool) → d ≡ e → Sets-upto t d f → Sets-upto t e f
-sets-at t d e f z s = subst (λ n. Sets-upto t n f) z s
-
--- the sets of the ceilings that hold a counter and that hold two of it, one behind the other
-unfoldable pub paired : List ℕ → ℕ → ℕ → ℕ → Bool
-paired limits ceilings y k = reaches limits ceilings (y / 2) (1 + y % 2) k
-
-module _ (limits : List ℕ) (ceilings x k : ℕ) where
-  pub paired-one : reaches limits ceilings x 1 k ≡ paired limits ceilings (2 * x) k
-  unfolding paired
-  paired-one =
-      let a : x ≡ 2 * x / 2 = omega arith in
-      let b : 1 ≡ 1 + 2 * x % 2 = omega arith in
-      ap (λ z. reaches limits ceilings z 1 k) a ∙ ap (λ z. reaches limits ceilings (2 * x / 2) z k) b
-
-  pub paired-two : reaches limits ceilings x 2 k ≡ paired limits ceilings (2 * x + 1) k
-  unfolding paired
-  paired-two =
-      let a : x ≡ (2 * x + 1) / 2 = omega arith in
-      let b : 2 ≡ 1 + (2 * x + 1) % 2 = omega arith in
-      ap (λ z. reaches limits ceilings z 2 k) a ∙ ap (λ z. reaches limits ceilings ((2 * x + 1) / 2) z k) b
-
-pub holders-table : (limits : List ℕ) (ceilings n x : ℕ) (holders unbounded : List ℕ) → n ≤ x → n * 8 ≤ length holders → n * 4 ≤ length unbounded → Sets-upto holders (2 * x) (paired limits ceilings) → Sets-upto unbounded x (λ y. reaches limits ceilings y omega-limit) → Holders limits ceilings n holders unbounded
-unfolding Sets-upto
-holders-table limits ceilings n x holders unbounded all a b s t =
+-- sets stored one behind the other
+pub two-put : (i : ℕ) (a b : Mask) (f g : ℕ → Bool) (u v t : List ℕ) → Set-is 4 (2 * i) (has a) u v → Set-is 4 (2 * i + 1) (has b) v t → ((k : ℕ) → k < 256 → has a k ≡ f k) → ((k : ℕ) → k < 256 → has b k ≡ g k) → Two-put i f g u t
+two-put i a b f g u v t one two p q =
     record {
-      holders-room = a;
-      unbounded-room = b;
-      holder = λ y k h l. s (2 * y) k (omega arith) l ∙ sym (paired-one limits ceilings y k);
-      holder-of-two = λ y k h l. s (2 * y + 1) k (omega arith) l ∙ sym (paired-two limits ceilings y k);
-      no-bound = λ y k h. t y k (omega arith);
+      long = two .long ∙ one .long;
+      first = λ k l. two .others (2 * i) k l (λ e. omega arith) ∙ (one .here k l ∙ p k l);
+      second = λ k l. two .here k l ∙ q k l;
+      others = λ y k l n. two .others y k l (λ e. n (omega arith)) ∙ one .others y k l (λ e. n (omega arith));
     }
+
+pub three-put : (i : ℕ) (f g h : ℕ → Bool) (u v w t : List ℕ) → Set-is 4 (3 * i) f u v → Set-is 4 (3 * i + 1) g v w → Set-is 4 (3 * i + 2) h w t → Three-put i f g h u t
+three-put i f g h u v w t one two three =
+    record {
+      long = three .long ∙ (two .long ∙ one .long);
+      first = λ k l. three .others (3 * i) k l (λ e. omega arith) ∙ (two .others (3 * i) k l (λ e. omega arith) ∙ one .here k l);
+      second = λ k l. three .others (3 * i + 1) k l (λ e. omega arith) ∙ two .here k l;
+      third = three .here;
+      others = λ y k l n. three .others y k l (λ e. n (omega arith)) ∙ (two .others y k l (λ e. n (omega arith)) ∙ one .others y k l (λ e. n (omega arith)));
+    }
+
+-- the sets of no counter, those of one counter more, and those of all
+module _ (limits : List ℕ) (ceilings : ℕ) where
+  pub holders-none : (t : List ℕ) → Holders limits ceilings 0 t
+  holders-none t =
+      record {
+        room = omega arith;
+        holder = λ y k h. absurd (omega arith);
+        holder-of-two = λ y k h. absurd (omega arith);
+        no-bound = λ y k h. absurd (omega arith);
+      }
+
+  pub holders-next : (x : ℕ) (one two all : Mask) (u t : List ℕ) → Holders limits ceilings x u → Three-put x (has one) (has two) (has all) u t → x * 12 + 12 ≤ length u → ((k : ℕ) → k < 256 → has one k ≡ reaches limits ceilings x 1 k) → ((k : ℕ) → k < 256 → has two k ≡ reaches limits ceilings x 2 k) → ((k : ℕ) → k < 256 → has all k ≡ reaches limits ceilings x omega-limit k) → Holders limits ceilings (x + 1) t
+  holders-next x one two all u t s p room a b c =
+      record {
+        room = omega (arith, p .long, room);
+        holder = λ y k h l. elim (ℕ-discrete y x) [
+          | yes z ↦ rw z (p .first k l ∙ a k l)
+          | no z ↦ p .others (3 * y) k l (λ e. z (omega arith)) ∙ s .holder y k (omega arith) l
+        ];
+        holder-of-two = λ y k h l. elim (ℕ-discrete y x) [
+          | yes z ↦ rw z (p .second k l ∙ b k l)
+          | no z ↦ p .others (3 * y + 1) k l (λ e. z (omega arith)) ∙ s .holder-of-two y k (omega arith) l
+        ];
+        no-bound = λ y k h l. elim (ℕ-discrete y x) [
+          | yes z ↦ rw z (p .third k l ∙ c k l)
+          | no z ↦ p .others (3 * y + 2) k l (λ e. z (omega arith)) ∙ s .no-bound y k (omega arith) l
+        ];
+      }
+
+  pub holders-all : (n x : ℕ) (t : List ℕ) → x ≡ n → Holders limits ceilings x t → Holders limits ceilings n t
+  holders-all n x t e s = subst (λ z. Holders limits ceilings z t) e s

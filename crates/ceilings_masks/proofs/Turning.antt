@@ -14,7 +14,7 @@ use Rattle.model.specs.Words.{Columns, left}
 use Rattle.model.specs.Ceilings.{allowed, highest}
 use Rattle.model.proofs.Logic.{test, not-fails, and-left, and-right}
 use Rattle.model.proofs.Index.{count-end, count-last, count-last-miss}
-use Rattle.bits.specs.Bits.{member, Set-is}
+use Rattle.bits.specs.Bits.{member}
 use Rattle.masks.specs.declared.Mask.{Mask}
 use Rattle.masks.specs.Masks.{has}
 use Rattle.ceilings_form.proofs.Limited.{highest-limit}
@@ -23,11 +23,7 @@ use Rattle.ceilings.proofs.Ahead.{Ahead, Counter-here, ahead-counter, ahead-non
 use Rattle.ceilings_masks.specs.declared.Over.{Over}
 use Rattle.steps.specs.Steps.{raised, as-limit}
 use Rattle.steps.proofs.Raising.{next-allowed}
-use Rattle.ceilings_masks.specs.Compared.{allows, most, exceeds, exceeds-by-one, takes-more, exceeded, Counted, More-from, More-at, Raised, Neighbours}
-
--- a set said in other words
-pub set-as : (x : ℕ) (f g : ℕ → Bool) (u t : List ℕ) → Set-is 4 x f u t → ((k : ℕ) → k < 256 → f k ≡ g k) → Set-is 4 x g u t
-set-as x f g u t is same = record { long = is .long; here = λ v l. is .here v l ∙ same v l; others = is .others }
+use Rattle.ceilings_masks.specs.Compared.{Two-put, allows, most, exceeds, exceeds-by-one, takes-more, exceeded, Counted, More-from, More-at, Above, Neighbours}
 
 -- nothing passes from a up to b
 count-gap : (a d : ℕ) (f : ℕ → Bool) → ((y : ℕ) → a ≤ y → y < a + d → f y ≡ false) → count 0 (a + d) f ≡ count 0 a f
@@ -141,64 +137,64 @@ module _ (limits : List ℕ) (ceilings k : ℕ) where
     ]
 
   module _ (states : ℕ) where
-    raised-start : (over : Over) → Raised limits ceilings states 0 k over
-    raised-start over = record { above = more-start 0 _; letters = more-start states _ }
+    above-start : (over : Over) → Above limits ceilings states 0 k over
+    above-start over = record { above = more-start 0 _; letters = more-start states _ }
 
-    raised-gap : (a b : ℕ) (over : Over) → ((x : ℕ) → a ≤ x → x < b → held limits ceilings k x ≡ 0) → Raised limits ceilings states a k over → Raised limits ceilings states b k over
-    raised-gap a b over gap c = record { above = more-gap 0 a b _ gap (c .above); letters = more-gap states a b _ gap (c .letters) }
+    above-gap : (a b : ℕ) (over : Over) → ((x : ℕ) → a ≤ x → x < b → held limits ceilings k x ≡ 0) → Above limits ceilings states a k over → Above limits ceilings states b k over
+    above-gap a b over gap c = record { above = more-gap 0 a b _ gap (c .above); letters = more-gap states a b _ gap (c .letters) }
 
-    raised-next : (x : ℕ) (o r : Over) (next : Mask) → ((j : ℕ) → j < 256 → has next j ≡ takes-more limits ceilings k x j) → More-at 0 x (o .above) next (r .above) → More-at states x (o .letters) next (r .letters) → Raised limits ceilings states x k o → Raised limits ceilings states (x + 1) k r
-    raised-next x o r next is a l c = record { above = more-next 0 x _ next _ is a (c .above); letters = more-next states x _ next _ is l (c .letters) }
+    above-next : (x : ℕ) (o r : Over) (next : Mask) → ((j : ℕ) → j < 256 → has next j ≡ takes-more limits ceilings k x j) → More-at 0 x (o .above) next (r .above) → More-at states x (o .letters) next (r .letters) → Above limits ceilings states x k o → Above limits ceilings states (x + 1) k r
+    above-next x o r next is a l c = record { above = more-next 0 x _ next _ is a (c .above); letters = more-next states x _ next _ is l (c .letters) }
 
-  pub near-gap : (a b : ℕ) (short more : List ℕ) → ((x : ℕ) → a ≤ x → x < b → held limits ceilings k x ≡ 0) → Neighbours limits ceilings a k short more → Neighbours limits ceilings b k short more
-  near-gap a b short more gap c =
+  pub near-gap : (a b : ℕ) (near : List ℕ) → ((x : ℕ) → a ≤ x → x < b → held limits ceilings k x ≡ 0) → Neighbours limits ceilings a k near → Neighbours limits ceilings b k near
+  near-gap a b near gap c =
       record {
         by-one = λ x j l one. elim (decLt x a) [ yes h ↦ c .by-one x j h one | no h ↦ absurd (let z = gap x (omega arith) l in omega arith) ];
         one-more = λ x j l one. elim (decLt x a) [ yes h ↦ c .one-more x j h one | no h ↦ absurd (let z = gap x (omega arith) l in omega arith) ];
       }
 
-  pub near-next : (x : ℕ) (short more short′ more′ : List ℕ) → Set-is 4 x (exceeds-by-one limits ceilings k x) short short′ → Set-is 4 x (takes-more limits ceilings k x) more more′ → Neighbours limits ceilings x k short more → Neighbours limits ceilings (x + 1) k short′ more′
-  near-next x short more short′ more′ s m c =
+  pub near-next : (x : ℕ) (near near′ : List ℕ) → Two-put x (exceeds-by-one limits ceilings k x) (takes-more limits ceilings k x) near near′ → Neighbours limits ceilings x k near → Neighbours limits ceilings (x + 1) k near′
+  near-next x near near′ p c =
       record {
-        by-one = λ y j l one h. elim (ℕ-discrete y x) [ yes z ↦ rw z (s .here j h) | no z ↦ s .others y j h z ∙ c .by-one y j (omega arith) one h ];
-        one-more = λ y j l one h. elim (ℕ-discrete y x) [ yes z ↦ rw z (m .here j h) | no z ↦ m .others y j h z ∙ c .one-more y j (omega arith) one h ];
+        by-one = λ y j l one h. elim (ℕ-discrete y x) [ yes z ↦ rw z (p .first j h) | no z ↦ p .others (2 * y) j h (λ e. z (omega arith)) ∙ c .by-one y j (omega arith) one h ];
+        one-more = λ y j l one h. elim (ℕ-discrete y x) [ yes z ↦ rw z (p .second j h) | no z ↦ p .others (2 * y + 1) j h (λ e. z (omega arith)) ∙ c .one-more y j (omega arith) one h ];
       }
 
 -- the counters of the entries before i are done
-pub record Turning (n : ℕ) (entries : Columns) (limits : List ℕ) (ceilings states k end i : ℕ) (over : Over) (short more : List ℕ) : Type 0 where
+pub record Turning (n : ℕ) (entries : Columns) (limits : List ℕ) (ceilings states k end i : ℕ) (over : Over) (near : List ℕ) : Type 0 where
   pub least : ℕ
   pub low : least ≤ n
   pub ahead : Ahead n entries (held limits ceilings k) end i least
   pub counted : Counted limits ceilings least k over
-  pub rising : Raised limits ceilings states least k over
-  pub near : Neighbours limits ceilings least k short more
+  pub rising : Above limits ceilings states least k over
+  pub neighbours : Neighbours limits ceilings least k near
 
-module _ (n : ℕ) (entries : Columns) (limits : List ℕ) (ceilings states k end i : ℕ) (over : Over) (short more : List ℕ) where
-  pub turning-start : Ahead n entries (held limits ceilings k) end i 0 → Counted limits ceilings 0 k over → Turning n entries limits ceilings states k end i over short more
+module _ (n : ℕ) (entries : Columns) (limits : List ℕ) (ceilings states k end i : ℕ) (over : Over) (near : List ℕ) where
+  pub turning-start : Ahead n entries (held limits ceilings k) end i 0 → Counted limits ceilings 0 k over → Turning n entries limits ceilings states k end i over near
   turning-start a c =
       record {
         least = 0;
         low = omega arith;
         ahead = a;
         counted = c;
-        rising = raised-start limits ceilings k states over;
-        near = record { by-one = λ x j l. absurd (omega arith); one-more = λ x j l. absurd (omega arith) };
+        rising = above-start limits ceilings k states over;
+        neighbours = record { by-one = λ x j l. absurd (omega arith); one-more = λ x j l. absurd (omega arith) };
       }
 
-  module _ (t : Turning n entries limits ceilings states k end i over short more) where
+  module _ (t : Turning n entries limits ceilings states k end i over near) where
     pub turning-inside : i < entries .size
     turning-inside = ahead-inside n entries _ end i _ (t .ahead)
 
     pub turning-counter : (left entries i ≡ n → ⊥) → left entries i < n
     turning-counter h = ahead-counter n entries _ end i _ (t .ahead) h .below
 
-    pub turning-end : left entries i ≡ n → Counted limits ceilings n k over × (Raised limits ceilings states n k over × Neighbours limits ceilings n k short more)
+    pub turning-end : left entries i ≡ n → Counted limits ceilings n k over × (Above limits ceilings states n k over × Neighbours limits ceilings n k near)
     turning-end h =
         let gap = ahead-none n entries _ end i _ (t .ahead) h in
-        (counted-gap limits ceilings k (t .least) n over (t .low) gap (t .counted), (raised-gap limits ceilings k states (t .least) n over gap (t .rising), near-gap limits ceilings k (t .least) n short more gap (t .near)))
+        (counted-gap limits ceilings k (t .least) n over (t .low) gap (t .counted), (above-gap limits ceilings k states (t .least) n over gap (t .rising), near-gap limits ceilings k (t .least) n near gap (t .neighbours)))
 
-    pub turning-next : (r : Over) (m next : Mask) (short′ more′ : List ℕ) (x : ℕ) → x ≡ left entries i → (left entries i ≡ n → ⊥) → ceilings ≤ 256 → ((j : ℕ) → j < 256 → has m j ≡ (ltb j ceilings && exceeds limits ceilings k j x)) → ((j : ℕ) → has (r .once) j ≡ (has (over .once) j || has m j)) → ((j : ℕ) → has (r .twice) j ≡ (has (over .twice) j || has (over .once) j && has m j)) → ((j : ℕ) → has (r .thrice) j ≡ (has (over .thrice) j || has (over .twice) j && has m j)) → ((j : ℕ) → j < 256 → has next j ≡ member more′ 4 x j) → More-at 0 x (over .above) next (r .above) → More-at states x (over .letters) next (r .letters) → Set-is 4 x (exceeds-by-one limits ceilings k x) short short′ → Set-is 4 x (takes-more limits ceilings k x) more more′ → Turning n entries limits ceilings states k end (i + 1) r short′ more′
-    turning-next r m next short′ more′ x z h few is a b d is-more above letters s m′ =
+    pub turning-next : (r : Over) (m next : Mask) (near′ : List ℕ) (x : ℕ) → x ≡ left entries i → (left entries i ≡ n → ⊥) → ceilings ≤ 256 → ((j : ℕ) → j < 256 → has m j ≡ (ltb j ceilings && exceeds limits ceilings k j x)) → ((j : ℕ) → has (r .once) j ≡ (has (over .once) j || has m j)) → ((j : ℕ) → has (r .twice) j ≡ (has (over .twice) j || has (over .once) j && has m j)) → ((j : ℕ) → has (r .thrice) j ≡ (has (over .thrice) j || has (over .twice) j && has m j)) → ((j : ℕ) → j < 256 → has next j ≡ member near′ 4 (2 * x + 1) j) → More-at 0 x (over .above) next (r .above) → More-at states x (over .letters) next (r .letters) → Two-put x (exceeds-by-one limits ceilings k x) (takes-more limits ceilings k x) near near′ → Turning n entries limits ceilings states k end (i + 1) r near′
+    turning-next r m next near′ x z h few is a b d is-more above letters p =
         let here : Counter-here n entries (held limits ceilings k) end i (t .least) = ahead-counter n entries _ end i _ (t .ahead) h in
         let gap : (y : ℕ) → t .least ≤ y → y < x → held limits ceilings k y ≡ 0 = λ y l b. here .gap y l (omega arith) in
         let low : t .least ≤ x = let w = here .low in omega arith in
@@ -207,6 +203,6 @@ module _ (n : ℕ) (entries : Columns) (limits : List ℕ) (ceilings states k en
           low = let w = here .below in omega arith;
           ahead = rw z (here .next);
           counted = counted-next limits ceilings k x over r m few is a b d (counted-gap limits ceilings k (t .least) x over low gap (t .counted));
-          rising = raised-next limits ceilings k states x over r next (λ j l. is-more j l ∙ m′ .here j l) above letters (raised-gap limits ceilings k states (t .least) x over gap (t .rising));
-          near = near-next limits ceilings k x short more short′ more′ s m′ (near-gap limits ceilings k (t .least) x short more gap (t .near));
+          rising = above-next limits ceilings k states x over r next (λ j l. is-more j l ∙ p .second j l) above letters (above-gap limits ceilings k states (t .least) x over gap (t .rising));
+          neighbours = near-next limits ceilings k x near near′ p (near-gap limits ceilings k (t .least) x near gap (t .neighbours));
         }

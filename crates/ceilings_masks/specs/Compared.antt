@@ -1,5 +1,5 @@
 -- Ceilings compared at a counter, and what the masks of a ceiling say of the others.
-use Prim.Native.Nat.{ℕ, _+_, _*_, _-_, _≤_, _<_}
+use Prim.Native.Nat.{ℕ, _+_, _*_, _-_, _/_, _≤_, _<_}
 use mathlib.Core.Path.{_≡_}
 use mathlib.Core.Bool.{Bool, true, not, _&&_, _||_}
 use mathlib.Core.List.{List}
@@ -22,14 +22,29 @@ reaches limits ceilings x least k = ltb k ceilings && leb least (held limits cei
 unfoldable pub allows : List ℕ → ℕ → ℕ → ℕ → ℕ → Bool
 allows limits ceilings x n k = ltb k ceilings && allowed (held limits ceilings k x) n
 
--- For each of n counters, two sets of the ceilings that hold it at all and that hold two of it, one behind the other,
--- and the set of those where it is unbounded.
-pub record Holders (limits : List ℕ) (ceilings n : ℕ) (holders unbounded : List ℕ) : Type 0 where
-  pub holders-room : n * 8 ≤ length holders
-  pub unbounded-room : n * 4 ≤ length unbounded
-  pub holder : (x k : ℕ) → x < n → k < 256 → member holders 4 (2 * x) k ≡ reaches limits ceilings x 1 k
-  pub holder-of-two : (x k : ℕ) → x < n → k < 256 → member holders 4 (2 * x + 1) k ≡ reaches limits ceilings x 2 k
-  pub no-bound : (x k : ℕ) → x < n → k < 256 → member unbounded 4 x k ≡ reaches limits ceilings x omega-limit k
+-- t is u with the two sets of number i anew, one behind the other
+pub record Two-put (i : ℕ) (f g : ℕ → Bool) (u t : List ℕ) : Type 0 where
+  pub long : length t ≡ length u
+  pub first : (k : ℕ) → k < 256 → member t 4 (2 * i) k ≡ f k
+  pub second : (k : ℕ) → k < 256 → member t 4 (2 * i + 1) k ≡ g k
+  pub others : (y k : ℕ) → k < 256 → (y / 2 ≡ i → ⊥) → member t 4 y k ≡ member u 4 y k
+
+-- t is u with the three sets of number i anew, one behind the other
+pub record Three-put (i : ℕ) (f g h : ℕ → Bool) (u t : List ℕ) : Type 0 where
+  pub long : length t ≡ length u
+  pub first : (k : ℕ) → k < 256 → member t 4 (3 * i) k ≡ f k
+  pub second : (k : ℕ) → k < 256 → member t 4 (3 * i + 1) k ≡ g k
+  pub third : (k : ℕ) → k < 256 → member t 4 (3 * i + 2) k ≡ h k
+  pub others : (y k : ℕ) → k < 256 → (y / 3 ≡ i → ⊥) → member t 4 y k ≡ member u 4 y k
+
+-- for each of n counters three sets, one behind the other: of the ceilings that hold it at all, of those that hold two
+-- of it, and of those where it is unbounded
+pub record Holders (limits : List ℕ) (ceilings n : ℕ) (holders : List ℕ) : Type 0 where
+  pub room : n * 12 ≤ length holders
+  pub holder : (x k : ℕ) → x < n → k < 256 → member holders 4 (3 * x) k ≡ reaches limits ceilings x 1 k
+  pub holder-of-two : (x k : ℕ) → x < n → k < 256 → member holders 4 (3 * x + 1) k ≡ reaches limits ceilings x 2 k
+  pub no-bound :
+      (x k : ℕ) → x < n → k < 256 → member holders 4 (3 * x + 2) k ≡ reaches limits ceilings x omega-limit k
 
 -- the highest count of counter x under ceiling k
 abbrev pub most : List ℕ → ℕ → ℕ → ℕ → ℕ
@@ -71,15 +86,16 @@ More-at low x above next r = (k′ : ℕ) → has r k′ ≡ (has above k′ && 
 
 -- none but ceilings that hold one more than ceiling k at each counter below e; and at each letter below e: the letters
 -- are the counters behind the states
-pub record Raised (limits : List ℕ) (ceilings states e k : ℕ) (over : Over) : Type 0 where
+pub record Above (limits : List ℕ) (ceilings states e k : ℕ) (over : Over) : Type 0 where
   pub above : More-from limits ceilings 0 e k (over .above)
   pub letters : More-from limits ceilings states e k (over .letters)
 
--- the sets of two tables, for each counter below e with a limit from 1 under ceiling k
-pub record Neighbours (limits : List ℕ) (ceilings e k : ℕ) (short more : List ℕ) : Type 0 where
+-- for each counter below e with a limit from 1 under ceiling k two sets, one behind the other: of the ceilings that it
+-- exceeds by one there, and of those that hold one more
+pub record Neighbours (limits : List ℕ) (ceilings e k : ℕ) (near : List ℕ) : Type 0 where
   pub by-one :
       (x k′ : ℕ) → x < e → 1 ≤ held limits ceilings k x → k′ < 256 →
-      member short 4 x k′ ≡ exceeds-by-one limits ceilings k x k′
+      member near 4 (2 * x) k′ ≡ exceeds-by-one limits ceilings k x k′
   pub one-more :
       (x k′ : ℕ) → x < e → 1 ≤ held limits ceilings k x → k′ < 256 →
-      member more 4 x k′ ≡ takes-more limits ceilings k x k′
+      member near 4 (2 * x + 1) k′ ≡ takes-more limits ceilings k x k′

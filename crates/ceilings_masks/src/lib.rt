@@ -22,13 +22,13 @@ ghost use lib.Dec.{ltb};
 ghost use lib.ListN.{length};
 ghost use Rattle.model.specs.Limits.{maxCeilings, maxCounters, omega-limit};
 ghost use Rattle.model.specs.Ceilings.{ceiling-entries, ceiling-entry, ceilings-of};
-ghost use Rattle.bits.specs.Bits.{bit, Row, Set-is};
+ghost use Rattle.bits.specs.Bits.{bit, Row};
 ghost use Rattle.masks.specs.Masks.{has};
 ghost use Rattle.ceilings_form.specs.Limits.{In-form};
 ghost use Rattle.ceilings_form.specs.Parts.{Whole};
 ghost use Rattle.ceilings.specs.Table.{Limits-table};
-ghost use Rattle.ceilings_masks.specs.Compared.{reaches, allows, Holders, exceeds, exceeds-by-one, takes-more};
-ghost use Rattle.ceilings_masks.specs.Compared.{More-at, Counted, Raised, Neighbours};
+ghost use Rattle.ceilings_masks.specs.Compared.{reaches, allows, Two-put, Three-put, Holders};
+ghost use Rattle.ceilings_masks.specs.Compared.{exceeds, exceeds-by-one, takes-more, More-at, Counted, Above, Neighbours};
 
 // The ceilings that one ceiling exceeds at a counter, at two of them and at three; those that hold one more than it at
 // every counter that it limits, and those that do so at every letter that it limits.
@@ -93,26 +93,32 @@ fn limits_from(limits: &[u16], ceilings: usize, x: usize, least: usize) -> Mask
     }
 }
 
+// The three sets of number i, one behind the other.
+pub fn store_three(t: &mut [u64], i: usize, a: Mask, b: Mask, c: Mask)
+    requires { ⌜ i * 12 + 12 ≤ length (now t) ⌝ }
+    ensures { λ _. ⌜ Three-put i (has a) (has b) (has c) (now (t .entry)) (now (t .exit)) ⌝ }
+{
+    let first = 3 * i;
+    let second = first + 1;
+    let third = first + 2;
+    store(t, first, a);
+    store(t, second, b);
+    store(t, third, c);
+}
+
 // For each of n counters the ceilings that hold it, those that hold two of it, and those where it is unbounded. (A
 // limit is 1 most often, and one more than that is asked of every ceiling: so two is kept beside one.)
-pub fn fill_holders(
-    limits: &[u16],
-    ceilings: usize,
-    n: usize,
-    holders: &mut [u64],
-    unbounded: &mut [u64],
-)
+pub fn fill_holders(limits: &[u16], ceilings: usize, n: usize, holders: &mut [u64])
     requires { ⌜ (ceilings ≤ maxCeilings) × (n ≤ maxCounters) ⌝ }
     requires { ⌜ n * ceilings ≤ length (now limits) ⌝ }
-    requires { ⌜ (n * 8 ≤ length (now holders)) × (n * 4 ≤ length (now unbounded)) ⌝ }
-    ensures { λ _. ⌜ Holders (now (limits .entry)) ceilings n (now (holders .exit)) (now (unbounded .exit)) ⌝ }
+    requires { ⌜ n * 12 ≤ length (now holders) ⌝ }
+    ensures { λ _. ⌜ Holders (now (limits .entry)) ceilings n (now (holders .exit)) ⌝ }
 {
     for x in 0..n {
-        let first = 2 * x;
-        store(holders, first, limits_from(limits, ceilings, x, 1));
-        let second = 2 * x + 1;
-        store(holders, second, limits_from(limits, ceilings, x, 2));
-        store(unbounded, x, limits_from(limits, ceilings, x, OMEGA));
+        let one = limits_from(limits, ceilings, x, 1);
+        let two = limits_from(limits, ceilings, x, 2);
+        let all = limits_from(limits, ceilings, x, OMEGA);
+        store_three(holders, x, one, two, all);
     }
 }
 
@@ -122,28 +128,28 @@ pub fn allowing(
     ceilings: usize,
     n: usize,
     holders: &[u64],
-    unbounded: &[u64],
     x: usize,
     count: usize,
 ) -> Mask
     requires { ⌜ (ceilings ≤ maxCeilings) × (x < n) ⌝ }
     requires { ⌜ n * ceilings ≤ length (now limits) ⌝ }
-    requires { ⌜ Holders (now limits) ceilings n (now holders) (now unbounded) ⌝ }
+    requires { ⌜ Holders (now limits) ceilings n (now holders) ⌝ }
     ensures { λ r. ⌜ ((k : ℕ) → k < 256 → has r k ≡ allows (now (limits .entry)) ceilings x count k) ⌝ }
 {
     if count == 0 {
         return below(ceilings);
     }
     if count == 1 {
-        let first = 2 * x;
+        let first = 3 * x;
         return load(holders, first);
     }
     if count == 2 {
-        let second = 2 * x + 1;
+        let second = 3 * x + 1;
         return load(holders, second);
     }
     if count >= OMEGA {
-        return load(unbounded, x);
+        let third = 3 * x + 2;
+        return load(holders, third);
     }
     limits_from(limits, ceilings, x, count)
 }
@@ -182,38 +188,35 @@ fn put_counter(
     ceilings: usize,
     n: usize,
     holders: &[u64],
-    unbounded: &[u64],
     k: usize,
     x: usize,
-    short: &mut [u64],
-    more: &mut [u64],
+    near: &mut [u64],
 ) -> Mask
     requires { ⌜ (ceilings ≤ maxCeilings) × (x < n) ⌝ }
     requires { ⌜ k < ceilings ⌝ }
     requires { ⌜ n * ceilings ≤ length (now limits) ⌝ }
-    requires { ⌜ Holders (now limits) ceilings n (now holders) (now unbounded) ⌝ }
-    requires { ⌜ (n * 4 ≤ length (now short)) × (n * 4 ≤ length (now more)) ⌝ }
+    requires { ⌜ Holders (now limits) ceilings n (now holders) ⌝ }
+    requires { ⌜ n * 8 ≤ length (now near) ⌝ }
     ensures { λ r. ⌜
         ((j : ℕ) → j < 256 → has r j ≡ (ltb j ceilings && exceeds (now (limits .entry)) ceilings k j x)) ⌝ }
-    ensures { λ _. ⌜ Set-is 4 x (exceeds-by-one (now (limits .entry)) ceilings k x) (now (short .entry))
-        (now (short .exit)) ⌝ }
-    ensures { λ _. ⌜ Set-is 4 x (takes-more (now (limits .entry)) ceilings k x) (now (more .entry))
-        (now (more .exit)) ⌝ }
+    ensures { λ _. ⌜ Two-put x (exceeds-by-one (now (limits .entry)) ceilings k x)
+        (takes-more (now (limits .entry)) ceilings k x) (now (near .entry)) (now (near .exit)) ⌝ }
 {
     let most = highest(limits, ceilings, k, x);
-    let held = allowing(limits, ceilings, n, holders, unbounded, x, most);
-    let fewer = allowing(limits, ceilings, n, holders, unbounded, x, one_less(most));
+    let held = allowing(limits, ceilings, n, holders, x, most);
+    let fewer = allowing(limits, ceilings, n, holders, x, one_less(most));
     let next = allowing(
         limits,
         ceilings,
         n,
         holders,
-        unbounded,
         x,
         raised(as_limit(most)) as usize,
     );
-    store(short, x, without(fewer, held));
-    store(more, x, next);
+    let first = 2 * x;
+    let second = first + 1;
+    store(near, first, without(fewer, held));
+    store(near, second, next);
     without(below(ceilings), held)
 }
 
@@ -225,21 +228,19 @@ pub fn compare(
     n: usize,
     limits: &[u16],
     holders: &[u64],
-    unbounded: &[u64],
     k: usize,
     e: usize,
-    short: &mut [u64],
-    more: &mut [u64],
+    near: &mut [u64],
 ) -> Over
     requires { ⌜ Whole (now ws) s ⌝ }
     requires { ⌜ In-form (now ws) s n ⌝ }
     requires { ⌜ Limits-table (ceilings-of (now ws) s n) (now limits) ⌝ }
-    requires { ⌜ Holders (now limits) (s .ceilings) n (now holders) (now unbounded) ⌝ }
+    requires { ⌜ Holders (now limits) (s .ceilings) n (now holders) ⌝ }
     requires { ⌜ (k < s .ceilings) × (e ≡ ceiling-entry n (ceiling-entries (now ws) s) k) ⌝ }
-    requires { ⌜ (n * 4 ≤ length (now short)) × (n * 4 ≤ length (now more)) ⌝ }
+    requires { ⌜ n * 8 ≤ length (now near) ⌝ }
     ensures { λ r. ⌜ Counted (now (limits .entry)) (s .ceilings) n k r ⌝ }
-    ensures { λ r. ⌜ Raised (now (limits .entry)) (s .ceilings) (s .states) n k r ⌝ }
-    ensures { λ _. ⌜ Neighbours (now (limits .entry)) (s .ceilings) n k (now (short .exit)) (now (more .exit)) ⌝ }
+    ensures { λ r. ⌜ Above (now (limits .entry)) (s .ceilings) (s .states) n k r ⌝ }
+    ensures { λ _. ⌜ Neighbours (now (limits .entry)) (s .ceilings) n k (now (near .exit)) ⌝ }
 {
     let mut over = Over {
         once: none(),
@@ -254,8 +255,9 @@ pub fn compare(
         if x == n {
             return over;
         }
-        let m = put_counter(limits, s.ceilings, n, holders, unbounded, k, x, short, more);
-        over = over_more(s.states, over, m, x, load(more, x));
+        let m = put_counter(limits, s.ceilings, n, holders, k, x, near);
+        let second = 2 * x + 1;
+        over = over_more(s.states, over, m, x, load(near, second));
         i += 1;
     }
 }

@@ -2,10 +2,9 @@
 use ceilings_stage::ceilings_on;
 use model::Sizes;
 use model::Verdict;
-use rooms::counter_masks;
-use rooms::group_masks;
-use rooms::holder_masks;
 use rooms::limit_words;
+use rooms::mask_pairs;
+use rooms::mask_triples;
 use rooms::row_words16;
 use rooms::row_words32;
 use rooms::words16_258;
@@ -13,10 +12,8 @@ use rooms::words16_2048;
 use rooms::words16_16384;
 use rooms::words32_66;
 use rooms::words32_258;
-use rooms::words64_130;
 use rooms::words64_256;
 use rooms::words64_384;
-use rooms::words64_512;
 use rooms::words64_1024;
 use rooms::words64_1536;
 ghost use mathlib.Core.Path.{_≡_};
@@ -48,11 +45,9 @@ fn few_limits(
     let mut limits = words16_2048();
     let mut ceiling_at = words16_258();
     let mut sums = words32_66();
-    let mut holders = words64_256();
-    let mut unbounded = words64_130();
+    let mut holders = words64_384();
     let mut group = words64_384();
-    let mut short = words64_130();
-    let mut more = words64_130();
+    let mut near = words64_256();
     let mut tos = row_words16();
     let mut others = row_words16();
     ceilings_on(
@@ -67,10 +62,8 @@ fn few_limits(
         &mut ceiling_at,
         &mut sums,
         &mut holders,
-        &mut unbounded,
         &mut group,
-        &mut short,
-        &mut more,
+        &mut near,
         &mut tos,
         &mut others,
         lent,
@@ -97,11 +90,9 @@ fn more_limits(
     let mut limits = words16_16384();
     let mut ceiling_at = words16_258();
     let mut sums = words32_258();
-    let mut holders = words64_1024();
-    let mut unbounded = words64_512();
+    let mut holders = words64_1536();
     let mut group = words64_1536();
-    let mut short = words64_512();
-    let mut more = words64_512();
+    let mut near = words64_1024();
     let mut tos = words16_2048();
     let mut others = words16_2048();
     ceilings_on(
@@ -116,10 +107,8 @@ fn more_limits(
         &mut ceiling_at,
         &mut sums,
         &mut holders,
-        &mut unbounded,
         &mut group,
-        &mut short,
-        &mut more,
+        &mut near,
         &mut tos,
         &mut others,
         lent,
@@ -145,11 +134,9 @@ fn all_limits(
     let mut limits = limit_words();
     let mut ceiling_at = words16_258();
     let mut sums = row_words32();
-    let mut holders = holder_masks();
-    let mut unbounded = counter_masks();
-    let mut group = group_masks();
-    let mut short = counter_masks();
-    let mut more = counter_masks();
+    let mut holders = mask_triples();
+    let mut group = mask_triples();
+    let mut near = mask_pairs();
     let mut tos = words16_16384();
     let mut others = words16_16384();
     ceilings_on(
@@ -164,10 +151,8 @@ fn all_limits(
         &mut ceiling_at,
         &mut sums,
         &mut holders,
-        &mut unbounded,
         &mut group,
-        &mut short,
-        &mut more,
+        &mut near,
         &mut tos,
         &mut others,
         lent,

@@ -32,10 +32,8 @@ pub fn ceilings_on(
     ceiling_at: &mut [u16],
     sums: &mut [u32],
     holders: &mut [u64],
-    unbounded: &mut [u64],
     group: &mut [u64],
-    short: &mut [u64],
-    more: &mut [u64],
+    near: &mut [u64],
     tos: &mut [u16],
     others: &mut [u16],
     lent: &mut [u32],
@@ -43,7 +41,7 @@ pub fn ceilings_on(
     requires { ⌜ Joined-tables (now ws) s (now narrow) (now fitting) (now names) (now letters) ⌝ }
     requires { ⌜ Numbered (now ws) s n ⌝ }
     requires { ⌜ Bounds-room n (s .ceilings) (now limits) (now «ceiling_at») × (n < length (now sums)) ⌝ }
-    requires { ⌜ Mask-room n (now holders) (now unbounded) (now group) (now short) (now more) ⌝ }
+    requires { ⌜ Mask-room n (now holders) (now group) (now near) ⌝ }
     requires { ⌜ Rule-room (now ws) s (now tos) (now others) × (length (now tos) ≤ 65536) ⌝ }
     ensures { λ v. ⌜ v ≡ answer (below-ceilings (now (ws .entry)) s n (length (now (lent .entry)))) ⌝ }
     ensures { λ v. ⌜ now (lent .exit) ≡ words-after v (now (ws .entry)) s (now (lent .entry)) ⌝ }
@@ -69,10 +67,8 @@ pub fn ceilings_on(
         limits,
         ceiling_at,
         holders,
-        unbounded,
         group,
-        short,
-        more,
+        near,
         &mut at,
         tos,
         others,

@@ -65,24 +65,22 @@ pub fn leaks_on(
     limits: &[u16],
     ceiling_at: &[u16],
     holders: &mut [u64],
-    unbounded: &mut [u64],
     group: &mut [u64],
-    short: &mut [u64],
-    more: &mut [u64],
+    near: &mut [u64],
     at: &mut [u16],
     tos: &mut [u16],
     others: &mut [u16],
 ) -> Leaks
     requires { ⌜ Joined-tables (now ws) s (now narrow) (now fitting) (now names) (now letters) ⌝ }
     requires { ⌜ Limited (now ws) s n (now limits) (now «ceiling_at») ⌝ }
-    requires { ⌜ Mask-room n (now holders) (now unbounded) (now group) (now short) (now more) ⌝ }
+    requires { ⌜ Mask-room n (now holders) (now group) (now near) ⌝ }
     requires { ⌜ Rule-room (now ws) s (now tos) (now others) × (length (now tos) ≤ 65536) ⌝ }
     ensures { λ l. ⌜ l .verdict ≡
         answer (leak-check (now (ws .entry)) s (ceilings-of (now (ws .entry)) s n)
         (rules (program (now (ws .entry)) s) (tables (now (ws .entry)) s))) ⌝ }
     ensures { λ l. ⌜ Totalled (program (now (ws .entry)) s) (tables (now (ws .entry)) s) (l .totals) ⌝ }
 {
-    fill_holders(limits, s.ceilings, n, holders, unbounded);
+    fill_holders(limits, s.ceilings, n, holders);
     let letter_at = &narrow[LETTER_AT..];
     let spare = spare_words(ws, s, letter_at, tos.len());
     let mut first_at = words16_258();
@@ -97,7 +95,6 @@ pub fn leaks_on(
         limits,
         ceiling_at,
         holders,
-        unbounded,
         spare,
         at,
         tos,
@@ -117,15 +114,13 @@ pub fn leaks_on(
         limits,
         ceiling_at,
         holders,
-        unbounded,
         group,
         kept,
         &first_at,
         at,
         tos,
         others,
-        short,
-        more,
+        near,
     );
     let totals = gathered.totals;
     Leaks { verdict, totals }

@@ -40,17 +40,13 @@ letter-words = maxCounters / 64 + 1
 abbrev pub letter-sets : ℕ
 letter-sets = ((maxArity + 1) * (maxConstructors + 2) + maxMails) * letter-words
 
--- for each counter the ceilings, a bit each
-abbrev pub counter-masks : ℕ
-counter-masks = maxCounters * 4
+-- for each counter two sets of ceilings, a bit for each ceiling
+abbrev pub mask-pairs : ℕ
+mask-pairs = maxCounters * 8
 
--- for each counter the ceilings that hold it, and those that hold two of it
-abbrev pub holder-masks : ℕ
-holder-masks = maxCounters * 8
-
--- for each state, which is a counter, three sets of the ceilings that are open where its rules add
-abbrev pub group-masks : ℕ
-group-masks = maxCounters * 12
+-- for each counter, which every state is, three sets of ceilings
+abbrev pub mask-triples : ℕ
+mask-triples = maxCounters * 12
 
 -- a limit for each counter under each ceiling
 abbrev pub limit-room : ℕ

@@ -12,8 +12,7 @@ use model::OTHER_HEADS;
 ghost use Rattle.model.specs.Message.{maxWords};
 ghost use Rattle.rooms.specs.Cleared.{Cleared};
 ghost use Rattle.rooms.specs.Rooms.{row-room, rule-words, name-sets, row-sets, fitting-sets};
-ghost use Rattle.rooms.specs.Rooms.{letter-codes, letter-sets, counter-masks, holder-masks};
-ghost use Rattle.rooms.specs.Rooms.{group-masks, limit-room};
+ghost use Rattle.rooms.specs.Rooms.{letter-codes, letter-sets, mask-pairs, mask-triples, limit-room};
 
 // specs/Rooms.antt says what each of these is for.
 const ROW_ROOM: usize = MAX_ROWS + 2;
@@ -35,11 +34,9 @@ const LETTER_WORDS: usize = MAX_COUNTERS / 64 + 1;
 const LETTER_SETS: usize = ((MAX_ARITY + 1) * (MAX_CONSTRUCTORS + OTHER_HEADS) + MAX_MAILS)
     * LETTER_WORDS;
 
-const COUNTER_MASKS: usize = MAX_COUNTERS * 4;
+const MASK_PAIRS: usize = MAX_COUNTERS * 8;
 
-const HOLDER_MASKS: usize = MAX_COUNTERS * 8;
-
-const GROUP_MASKS: usize = MAX_COUNTERS * 12;
+const MASK_TRIPLES: usize = MAX_COUNTERS * 12;
 
 const LIMIT_ROOM: usize = MAX_COUNTERS * MAX_CEILINGS;
 
@@ -101,12 +98,6 @@ pub fn words64_384() -> [u64; 384]
     ensures { λ r. ⌜ Cleared 384 r ⌝ }
 {
     [0; 384]
-}
-
-pub fn words64_512() -> [u64; 512]
-    ensures { λ r. ⌜ Cleared 512 r ⌝ }
-{
-    [0; 512]
 }
 
 pub fn words64_1024() -> [u64; 1024]
@@ -183,25 +174,18 @@ pub fn letter_sets() -> [u64; LETTER_SETS]
     [0; LETTER_SETS]
 }
 
-// A set of ceilings for each counter.
-pub fn counter_masks() -> [u64; COUNTER_MASKS]
-    ensures { λ r. ⌜ Cleared counter-masks r ⌝ }
-{
-    [0; COUNTER_MASKS]
-}
-
 // Two sets of ceilings for each counter.
-pub fn holder_masks() -> [u64; HOLDER_MASKS]
-    ensures { λ r. ⌜ Cleared holder-masks r ⌝ }
+pub fn mask_pairs() -> [u64; MASK_PAIRS]
+    ensures { λ r. ⌜ Cleared mask-pairs r ⌝ }
 {
-    [0; HOLDER_MASKS]
+    [0; MASK_PAIRS]
 }
 
-// Three sets of ceilings for each state, which is a counter.
-pub fn group_masks() -> [u64; GROUP_MASKS]
-    ensures { λ r. ⌜ Cleared group-masks r ⌝ }
+// Three sets of ceilings for each counter, which every state is.
+pub fn mask_triples() -> [u64; MASK_TRIPLES]
+    ensures { λ r. ⌜ Cleared mask-triples r ⌝ }
 {
-    [0; GROUP_MASKS]
+    [0; MASK_TRIPLES]
 }
 
 // A limit for each counter under each ceiling.

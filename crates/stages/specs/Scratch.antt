@@ -33,13 +33,11 @@ pub record Bounds-room (n count : ℕ) (limits starts : List ℕ) : Type 0 where
   pub blank : (z : ℕ) → getD limits z 0 ≡ 0
   pub firsts : count ≤ length starts
 
--- two sets of ceilings for each of n counters, three for each state, and one for each counter three times
-pub record Mask-room (n : ℕ) (holders unbounded group short more : List ℕ) : Type 0 where
-  pub held : n * 8 ≤ length holders
-  pub free : n * 4 ≤ length unbounded
+-- three sets of ceilings for each of n counters, three for each state, and two for each counter
+pub record Mask-room (n : ℕ) (holders group near : List ℕ) : Type 0 where
+  pub held : n * 12 ≤ length holders
   pub states : n * 12 ≤ length group
-  pub one-less : n * 4 ≤ length short
-  pub one-more : n * 4 ≤ length more
+  pub beside : n * 8 ≤ length near
 
 -- n counters, and the bounds and bads of a message in form
 pub record Formed (ws : List ℕ) (s : Sizes) (n : ℕ) : Type 0 where

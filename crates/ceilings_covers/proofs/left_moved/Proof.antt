@@ -18,7 +18,7 @@ returns-2 : tie.Need-returns-2
 returns-2 c = moved-none _ _ _ _ _ _ _ _ (inr (c .before .if2 .taken)) (c .none2 .ensures)
 
 one-more-at-requires : tie.Need-one-more-at-requires
-one-more-at-requires c κs = (c .before .before .before .before .before .before .before .pre .0, omega (arith, c .if2 .left, c .before .before .before .before .before .before .before .pre .1))
+one-more-at-requires c κs = (c .before .before .before .before .before .pre .0, omega (arith, c .if2 .left, c .before .before .before .before .before .pre .1))
 
 and-requires : tie.Need-and-requires
 and-requires c κs = search needs

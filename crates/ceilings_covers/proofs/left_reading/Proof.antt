@@ -3,6 +3,12 @@ use borrow.Author.Needs.{needs}
 use Rattle.ceilings_covers.proofs.left_reading.Statement.{statement}
 use Rattle.ceilings_covers.proofs.left_reading.Tie as tie
 
+mul-first : tie.Need-mul-first
+mul-first c = search needs
+
+mul-second : tie.Need-mul-second
+mul-second c = search needs
+
 load-requires : tie.Need-load-requires
 load-requires c κs = search needs
 
@@ -31,6 +37,8 @@ pub left-reading-spec : {M : Type 1} → statement M
 left-reading-spec =
     tie.close
     (tie.spec
+    mul-first
+    mul-second
     load-requires
     without-requires
     load-requires-2

@@ -7,16 +7,22 @@ use Rattle.ceilings_groups.proofs.is_boundless.Statement.{statement}
 use Rattle.ceilings_groups.proofs.is_boundless.Tie as tie
 
 abbrev Inv-loop : tie.InvT-loop
-Inv-loop unbounded n left₀ x₀ left x = Boundless-upto unbounded x left × (x ≤ n)
+Inv-loop holders n left₀ x₀ left x = Boundless-upto holders x left × (x ≤ n)
 
 abbrev μ-loop : tie.MeasureT-loop
-μ-loop unbounded n left₀ x₀ left x = n - x
+μ-loop holders n left₀ x₀ left x = n - x
 
 below-requires : tie.Need-below-requires Inv-loop μ-loop
 below-requires c κs = tt
 
 loop-holds : tie.Need-loop-holds Inv-loop μ-loop
 loop-holds c = (boundless-start _ _ (c .below .ensures), search needs)
+
+mul-third : tie.Need-mul-third Inv-loop μ-loop
+mul-third c = search needs
+
+add-third : tie.Need-add-third Inv-loop μ-loop
+add-third c = search needs
 
 load-requires : tie.Need-load-requires Inv-loop μ-loop
 load-requires c κs = record { room = omega (arith, c .loop-test .taken, c .before .before .before .before .pre) }
@@ -47,6 +53,8 @@ is-boundless-spec =
     μ-loop
     below-requires
     loop-holds
+    mul-third
+    add-third
     load-requires
     and-requires
     add-x

@@ -7,10 +7,10 @@ use Rattle.ceilings_groups.proofs.open_to_all.Statement.{statement}
 use Rattle.ceilings_groups.proofs.open_to_all.Tie as tie
 
 abbrev Inv-loop : tie.InvT-loop
-Inv-loop limits ceilings n holders unbounded kind tos others m all₀ j₀ all j = Open-upto limits ceilings n n kind tos others j all × (j ≤ m)
+Inv-loop limits ceilings n holders kind tos others m all₀ j₀ all j = Open-upto limits ceilings n n kind tos others j all × (j ≤ m)
 
 abbrev μ-loop : tie.MeasureT-loop
-μ-loop limits ceilings n holders unbounded kind tos others m all₀ j₀ all j = m - j
+μ-loop limits ceilings n holders kind tos others m all₀ j₀ all j = m - j
 
 below-requires : tie.Need-below-requires Inv-loop μ-loop
 below-requires c κs = tt
@@ -25,7 +25,7 @@ shared-slice-read-to : tie.Need-shared-slice-read-to Inv-loop μ-loop
 shared-slice-read-to c = search needs
 
 cast-to : tie.Need-cast-to Inv-loop μ-loop
-cast-to c = omega (arith, c .before .before .before .before .before .shared-slice-known4 .given (c .before .before .loop .j))
+cast-to c = omega (arith, c .before .before .before .before .before .shared-slice-known3 .given (c .before .before .loop .j))
 
 mul-other : tie.Need-mul-other Inv-loop μ-loop
 mul-other c = search needs
@@ -34,10 +34,10 @@ shared-slice-read-other : tie.Need-shared-slice-read-other Inv-loop μ-loop
 shared-slice-read-other c = search needs
 
 cast-other : tie.Need-cast-other Inv-loop μ-loop
-cast-other c = omega (arith, c .before .before .before .before .before .shared-slice-known5 .given (c .before .before .before .loop .j))
+cast-other c = omega (arith, c .before .before .before .before .before .shared-slice-known4 .given (c .before .before .before .loop .j))
 
 narrowed-requires : tie.Need-narrowed-requires Inv-loop μ-loop
-narrowed-requires c κs = c .before .before .before .before .before .before .before .before .before .before .pre .0
+narrowed-requires c κs = c .before .before .before .before .before .before .before .before .before .pre .0
 
 add-j : tie.Need-add-j Inv-loop μ-loop
 add-j c = search needs

@@ -4,7 +4,7 @@ use Rattle.ceilings_groups.proofs.state_sets.Statement.{statement}
 use Rattle.ceilings_groups.proofs.state_sets.Tie as tie
 
 open-to-all-requires : tie.Need-open-to-all-requires
-open-to-all-requires c κs = c .before .before .before .before .before .before .pre
+open-to-all-requires c κs = c .before .before .before .before .before .pre
 
 none-requires : tie.Need-none-requires
 none-requires c κs = search needs
@@ -21,7 +21,7 @@ returns c =
     }
 
 sets-to-all-requires : tie.Need-sets-to-all-requires
-sets-to-all-requires c κs = c .before .before .before .before .before .before .pre
+sets-to-all-requires c κs = c .before .before .before .before .before .pre
 
 returns-2 : tie.Need-returns-2
 returns-2 c = c .sets-to-all .ensures

@@ -12,7 +12,7 @@ use Rattle.ceilings_letters.proofs.asked_letters.Statement.{statement}
 use Rattle.ceilings_letters.proofs.asked_letters.Tie as tie
 
 returns : tie.Need-returns
-returns c = none-narrowed _ _ _ _ _ (c .before .before .before .before .before .before .before .before .before .before .before .args .words) _ _ _ (c .if1 .taken)
+returns c = none-narrowed _ _ _ _ _ (c .before .before .before .before .before .before .before .before .before .args .words) _ _ _ (c .if1 .taken)
 
 state-location-requires : tie.Need-state-location-requires
 state-location-requires c κs = search needs
@@ -21,40 +21,40 @@ tag-requires : tie.Need-tag-requires
 tag-requires c κs = search needs
 
 copy-into-requires : tie.Need-copy-into-requires
-copy-into-requires c κs = (c .before .before .before .before .before .before .before .before .before .before .before .before .before .before .before .pre .1 .1 .1 .1 .1 .1 .0 .row, c .before .before .before .before .before .before .before .before .before .before .before .before .before .before .before .pre .1 .1 .1 .1 .1 .1 .1 .0)
+copy-into-requires c κs = (c .before .before .before .before .before .before .before .before .before .before .before .before .before .pre .1 .1 .1 .1 .1 .1 .0 .row, c .before .before .before .before .before .before .before .before .before .before .before .before .before .pre .1 .1 .1 .1 .1 .1 .1 .0)
 
 same-length : tie.Need-same-length
 same-length c = search needs
 
 returns-2 : tie.Need-returns-2
 returns-2 c =
-    let p = c .before .before .before .before .before .before .before .before .before .before .before .before .before .before .before .before .before .before .pre in
+    let p = c .before .before .before .before .before .before .before .before .before .before .before .before .before .before .before .before .pre in
     held-narrowed _ _ _ _ _ _ _ _ _ (p .1 .1 .0 .0) (p .1 .1 .1 .0) _ _ (c .before .before .before .before .before .before .state-location .ensures) (c .before .before .before .before .before .tag .ensures) (c .before .before .before .before .if2 .taken)
     (λ y l. c .before .before .copy-into .ensures .here y (omega (arith, p .1 .1 .1 .1 .1 .1 .0 .bits)) ∙ p .1 .1 .1 .1 .1 .1 .1 .1 (not-false _ (c .before .before .before .before .before .before .before .if1 .left)) y l)
 
 rest-requires : tie.Need-rest-requires
 rest-requires c κs =
-    let p = c .before .before .before .before .before .before .before .before .before .before .before .before .before .before .pre in
-    (p .0, (p .1 .0, rw (c .before .before .state-location .ensures) (state-head (p .0) (c .before .before .before .before .before .before .before .before .before .before .before .before .before .before .args .i) (p .1 .1 .0 .1))))
+    let p = c .before .before .before .before .before .before .before .before .before .before .before .before .pre in
+    (p .0, (p .1 .0, rw (c .before .before .state-location .ensures) (state-head (p .0) (c .before .before .before .before .before .before .before .before .before .before .before .before .args .i) (p .1 .1 .0 .1))))
 
 onward-requires : tie.Need-onward-requires
-onward-requires c κs = (c .before .before .before .before .before .before .before .before .before .before .before .before .before .before .before .pre .0, c .before .before .before .before .before .before .before .before .before .before .before .before .before .before .before .pre .1 .1 .0 .1)
+onward-requires c κs = (c .before .before .before .before .before .before .before .before .before .before .before .before .before .pre .0, c .before .before .before .before .before .before .before .before .before .before .before .before .before .pre .1 .1 .0 .1)
 
 left-moved-requires : tie.Need-left-moved-requires
 unfolding counter-count tables entries columns
-left-moved-requires c κs = (c .before .before .before .before .before .before .before .before .before .before .before .before .before .before .before .before .pre .1 .1 .1 .1 .0, omega (arith, c .before .before .before .before .before .before .before .before .before .before .before .before .before .before .before .before .pre .1 .1 .0 .0))
+left-moved-requires c κs = (c .before .before .before .before .before .before .before .before .before .before .before .before .before .before .pre .1 .1 .1 .1 .0, omega (arith, c .before .before .before .before .before .before .before .before .before .before .before .before .before .before .pre .1 .1 .0 .0))
 
 open-letters-requires : tie.Need-open-letters-requires
 open-letters-requires c κs =
-    let p = c .before .before .before .before .before .before .before .before .before .before .before .before .before .before .before .before .before .before .pre in
-    (p .1 .1 .1 .1 .1 .1 .0, (more-tables _ _ _ _ _ _ _ _ _ (p .1 .1 .1 .1 .0), (p .1 .1 .1 .1 .1 .1 .1 .0, p .1 .1 .1 .1 .1 .1 .1 .1 (not-false _ (c .before .before .before .before .before .before .before .if1 .left)))))
+    let p = c .before .before .before .before .before .before .before .before .before .before .before .before .before .before .before .before .pre in
+    (p .1 .1 .1 .1 .1 .1 .0, (more-tables _ _ _ _ _ _ _ (p .1 .1 .1 .1 .0), (p .1 .1 .1 .1 .1 .1 .1 .0, p .1 .1 .1 .1 .1 .1 .1 .1 (not-false _ (c .before .before .before .before .before .before .before .if1 .left)))))
 
 same-length-2 : tie.Need-same-length-2
 same-length-2 c = search needs
 
 returns-3 : tie.Need-returns-3
 returns-3 c =
-    let p = c .before .before .before .before .before .before .before .before .before .before .before .before .before .before .before .before .before .before .before .before .before .pre in
+    let p = c .before .before .before .before .before .before .before .before .before .before .before .before .before .before .before .before .before .before .before .pre in
     open-narrowed _ _ _ _ _ _ _ _ _ (p .1 .1 .0 .0) (p .1 .1 .1 .0) _ _ (c .before .before .before .before .before .before .before .before .before .state-location .ensures) (c .before .before .before .before .before .before .before .before .tag .ensures) _ _ _ _ (c .before .before .before .before .before .before .before .if2 .left) (p .1 .1 .1 .1 .0 .few) (p .1 .1 .0 .1) (p .1 .1 .1 .1 .1 .0) (c .before .before .before .before .before .before .rest .ensures) (c .before .before .before .before .before .onward .ensures) (c .before .before .before .before .left-moved .ensures) (c .before .before .open-letters .ensures)
 
 pub asked-letters-spec : {M : Type 1} → statement M

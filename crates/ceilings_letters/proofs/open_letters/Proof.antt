@@ -12,10 +12,10 @@ use Rattle.ceilings_letters.proofs.open_letters.Statement.{statement}
 use Rattle.ceilings_letters.proofs.open_letters.Tie as tie
 
 abbrev Inv-loop : tie.InvT-loop
-Inv-loop s n limits k holders more words within mask uncovered₀ x₀ uncovered x = Held-below (s .states) words (λ z. not (more-in limits (s .ceilings) (s .states) k mask z)) x uncovered × (length uncovered ≡ length uncovered₀) × (s .states ≤ x)
+Inv-loop s n limits k holders near words within mask uncovered₀ x₀ uncovered x = Held-below (s .states) words (λ z. not (more-in limits (s .ceilings) (s .states) k mask z)) x uncovered × (length uncovered ≡ length uncovered₀) × (s .states ≤ x)
 
 abbrev μ-loop : tie.MeasureT-loop
-μ-loop s n limits k holders more words within mask uncovered₀ x₀ uncovered x = n - x
+μ-loop s n limits k holders near words within mask uncovered₀ x₀ uncovered x = n - x
 
 clear-requires : tie.Need-clear-requires Inv-loop μ-loop
 clear-requires c κs = c .before .before .before .before .before .before .pre .0 .row

@@ -13,15 +13,15 @@ use Rattle.ceilings_masks.proofs.compare.Statement.{statement}
 use Rattle.ceilings_masks.proofs.compare.Tie as tie
 
 abbrev Inv-loop : tie.InvT-loop
-Inv-loop ws s n limits holders unbounded k e short₀ more₀ over₀ i₀ short more over i =
-    Turning n (ceiling-entries ws s) limits (s .ceilings) (s .states) k (ceiling-end n (ceiling-entries ws s) e) i over short more × (length short ≡ length short₀) × (length more ≡ length more₀)
+Inv-loop ws s n limits holders k e near₀ over₀ i₀ near over i =
+    Turning n (ceiling-entries ws s) limits (s .ceilings) (s .states) k (ceiling-end n (ceiling-entries ws s) e) i over near × (length near ≡ length near₀)
 
 abbrev μ-loop : tie.MeasureT-loop
-μ-loop ws s n limits holders unbounded k e short₀ more₀ over₀ i₀ short more over i = s .entries - i
+μ-loop ws s n limits holders k e near₀ over₀ i₀ near over i = s .entries - i
 
 -- an entry is left
-inside : (c : tie.At-loop Inv-loop μ-loop) → c .loop .i < c .before .before .before .before .before .before .before .before .before .before .before .before .args .s .entries
-inside c = let a = c .before .before .before .before .before .before .before .before .before .before .before .before .args in omega (arith, turning-inside _ _ _ _ _ _ _ _ _ _ _ (c .loop .inv .0), entries-size (a .ws .now) (a .s))
+inside : (c : tie.At-loop Inv-loop μ-loop) → c .loop .i < c .before .before .before .before .before .before .before .before .before .before .args .s .entries
+inside c = let a = c .before .before .before .before .before .before .before .before .before .before .args in omega (arith, turning-inside _ _ _ _ _ _ _ _ _ _ (c .loop .inv .0), entries-size (a .ws .now) (a .s))
 
 none-requires : tie.Need-none-requires Inv-loop μ-loop
 none-requires c κs = tt
@@ -40,47 +40,52 @@ below-requires-2 c κs = tt
 
 loop-holds : tie.Need-loop-holds Inv-loop μ-loop
 loop-holds c =
-    let p = c .before .before .before .before .before .before .before .before .before .before .before .pre .1 in
-    (turning-start _ _ _ _ _ _ _ _ _ _ _ (begun _ _ _ _ (p .0) (p .1 .0) _ _ (p .1 .1 .1 .0 .0) (p .1 .1 .1 .0 .1)) (counted-start _ _ _ _ (c .before .before .before .before .none .ensures) (c .before .before .before .none2 .ensures) (c .before .before .none3 .ensures)), refl, refl)
+    let p = c .before .before .before .before .before .before .before .before .before .pre .1 in
+    (turning-start _ _ _ _ _ _ _ _ _ _ (begun _ _ _ _ (p .0) (p .1 .0) _ _ (p .1 .1 .1 .0 .0) (p .1 .1 .1 .0 .1)) (counted-start _ _ _ _ (c .before .before .before .before .none .ensures) (c .before .before .before .none2 .ensures) (c .before .before .none3 .ensures)), refl)
 
 counter-at-requires : tie.Need-counter-at-requires Inv-loop μ-loop
-counter-at-requires c κs = c .before .before .before .before .before .before .before .before .before .before .before .before .pre .0
+counter-at-requires c κs = c .before .before .before .before .before .before .before .before .before .before .pre .0
 
 same-length : tie.Need-same-length Inv-loop μ-loop
 same-length c = c .before .before .loop .inv .1
 
-same-length-2 : tie.Need-same-length-2 Inv-loop μ-loop
-same-length-2 c = c .before .before .loop .inv .2
-
 returns : tie.Need-returns Inv-loop μ-loop
-returns c = turning-end _ _ _ _ _ _ _ _ _ _ _ (c .before .before .loop .inv .0) (sym (c .before .counter-at .ensures) ∙ c .if1 .taken)
+returns c = turning-end _ _ _ _ _ _ _ _ _ _ (c .before .before .loop .inv .0) (sym (c .before .counter-at .ensures) ∙ c .if1 .taken)
+
+-- a counter that is not n is one of the n
+counter-low : (c : tie.After-put-counter-arg Inv-loop μ-loop) → c .before .before .counter-at .result < c .before .before .before .before .before .before .before .before .before .before .before .before .before .args .n
+counter-low c = omega (arith, turning-counter _ _ _ _ _ _ _ _ _ _ (c .before .before .before .loop .inv .0) (λ z. c .before .if1 .left (c .before .before .counter-at .ensures ∙ z)), c .before .before .counter-at .ensures)
 
 put-counter-requires : tie.Need-put-counter-requires Inv-loop μ-loop
 put-counter-requires c κs =
-    let p = c .before .before .before .before .before .before .before .before .before .before .before .before .before .before .before .before .pre .1 in
-    let below = turning-counter _ _ _ _ _ _ _ _ _ _ _ (c .before .before .before .before .loop .inv .0) (λ z. c .before .before .if1 .left (c .before .before .before .counter-at .ensures ∙ z)) in
-    ((c .before .before .before .before .before .before .before .before .before .before .before .before .before .before .before .before .pre .0 .limits .ceilings, omega (arith, below, c .before .before .before .counter-at .ensures)), (p .1 .1 .1 .0 .0, (room-all _ _ _ _ (p .0) (p .1 .0), (p .1 .1 .0, (omega (arith, p .1 .1 .1 .1 .0, c .before .before .before .before .loop .inv .1), omega (arith, p .1 .1 .1 .1 .1, c .before .before .before .before .loop .inv .2))))))
+    let p = c .before .before .before .before .before .before .before .before .before .before .before .before .before .pre .1 in
+    ((c .before .before .before .before .before .before .before .before .before .before .before .before .before .pre .0 .limits .ceilings, counter-low c), (p .1 .1 .1 .0 .0, (room-all _ _ _ _ (p .0) (p .1 .0), (p .1 .1 .0, omega (arith, p .1 .1 .1 .1, c .before .before .before .loop .inv .1)))))
+
+mul-second : tie.Need-mul-second Inv-loop μ-loop
+mul-second c = record { fits = omega (arith, counter-low (c .before .before .before), c .before .before .before .before .before .before .before .before .before .before .before .before .before .before .before .before .pre .1 .1 .1 .1 .1, c .before .before .before .before .before .before .before .before .before .before .before .before .before .before .before .before .good .1 .1 .1 .1 .1 .1 .1) }
+
+add-second : tie.Need-add-second Inv-loop μ-loop
+add-second c = record { fits = omega (arith, counter-low (c .before .before .before), c .before .before .before .before .before .before .before .before .before .before .before .before .before .before .before .before .pre .1 .1 .1 .1 .1, c .before .before .before .before .before .before .before .before .before .before .before .before .before .before .before .before .good .1 .1 .1 .1 .1 .1 .1) }
 
 load-requires : tie.Need-load-requires Inv-loop μ-loop
 load-requires c κs =
-    let p = c .before .before .before .before .before .before .before .before .before .before .before .before .before .before .before .before .before .before .before .before .before .before .pre .1 in
-    let below = turning-counter _ _ _ _ _ _ _ _ _ _ _ (c .before .before .before .before .before .before .before .before .before .before .loop .inv .0) (λ z. c .before .before .before .before .before .before .before .before .if1 .left (c .before .before .before .before .before .before .before .before .before .counter-at .ensures ∙ z)) in
-    record { room = omega (arith, below, c .before .before .before .before .before .before .before .before .before .counter-at .ensures, c .before .before .before .before .before .put-counter .ensures .1 .1 .long, c .before .before .before .before .before .before .before .before .before .before .loop .inv .2, p .1 .1 .1 .1 .1) }
+    let p = c .before .before .before .before .before .before .before .before .before .before .before .before .before .before .before .before .before .pre .1 in
+    record { room = omega (arith, counter-low (c .before .before .before .before), c .before .before .before .put-counter .ensures .1 .long, c .before .before .before .before .before .before .before .loop .inv .1, p .1 .1 .1 .1) }
 
 over-more-requires : tie.Need-over-more-requires Inv-loop μ-loop
 over-more-requires c κs = tt
 
 add-i : tie.Need-add-i Inv-loop μ-loop
-add-i c = let h = inside (c .before .before .before .before .before .before .before .before .before .before .before .before) in record { fits = omega (arith, h, c .before .before .before .before .before .before .before .before .before .before .before .before .before .before .before .before .before .before .before .before .before .before .before .before .pre .0 .limits .entries) }
+add-i c = let h = inside (c .before .before .before .before .before .before .before .before .before) in record { fits = omega (arith, h, c .before .before .before .before .before .before .before .before .before .before .before .before .before .before .before .before .before .before .before .pre .0 .limits .entries) }
 
 loop-less : tie.Need-loop-less Inv-loop μ-loop
-loop-less c = let h = inside (c .before .before .before .before .before .before .before .before .before .before .before .before) in omega (arith, h)
+loop-less c = let h = inside (c .before .before .before .before .before .before .before .before .before) in omega (arith, h)
 
 loop-again : tie.Need-loop-again Inv-loop μ-loop
 loop-again c =
     let o = c .over-more .ensures in
-    let m = c .before .before .before .before .before .before .before .put-counter .ensures in
-    (turning-next _ _ _ _ _ _ _ _ _ _ _ (c .before .before .before .before .before .before .before .before .before .before .before .before .loop .inv .0) _ _ _ _ _ _ (c .before .before .before .before .before .before .before .before .before .before .before .counter-at .ensures) (λ z. c .before .before .before .before .before .before .before .before .before .before .if1 .left (c .before .before .before .before .before .before .before .before .before .before .before .counter-at .ensures ∙ z)) (c .before .before .before .before .before .before .before .before .before .before .before .before .before .before .before .before .before .before .before .before .before .before .before .before .pre .0 .limits .ceilings) (m .0) (o .0) (o .1 .0) (o .1 .1 .0) (c .before .load .ensures) (o .1 .1 .1 .0) (o .1 .1 .1 .1) (m .1 .0) (m .1 .1), m .1 .0 .long ∙ c .before .before .before .before .before .before .before .before .before .before .before .before .loop .inv .1, m .1 .1 .long ∙ c .before .before .before .before .before .before .before .before .before .before .before .before .loop .inv .2)
+    let m = c .before .before .before .before .before .put-counter .ensures in
+    (turning-next _ _ _ _ _ _ _ _ _ _ (c .before .before .before .before .before .before .before .before .before .loop .inv .0) _ _ _ _ _ (c .before .before .before .before .before .before .before .before .counter-at .ensures) (λ z. c .before .before .before .before .before .before .before .if1 .left (c .before .before .before .before .before .before .before .before .counter-at .ensures ∙ z)) (c .before .before .before .before .before .before .before .before .before .before .before .before .before .before .before .before .before .before .before .pre .0 .limits .ceilings) (m .0) (o .0) (o .1 .0) (o .1 .1 .0) (c .before .load .ensures) (o .1 .1 .1 .0) (o .1 .1 .1 .1) (m .1), m .1 .long ∙ c .before .before .before .before .before .before .before .before .before .loop .inv .1)
 
 pub compare-spec : {M : Type 1} → statement M
 compare-spec =
@@ -96,9 +101,10 @@ compare-spec =
     loop-holds
     counter-at-requires
     same-length
-    same-length-2
     returns
     put-counter-requires
+    mul-second
+    add-second
     load-requires
     over-more-requires
     add-i
