@@ -2,7 +2,7 @@ use mathlib.Core.Path.{sym, _∙_}
 use Rattle.model.specs.Words.{columns}
 use Rattle.model.specs.Rows.{program}
 use Rattle.matching.proofs.Subpatterns.{pattern-within}
-use Rattle.state_rules.proofs.Letters.{set-room}
+use Rattle.lettered_rules.proofs.Letters.{set-room}
 use borrow.Author.Needs.{needs}
 use Rattle.kept_letters.proofs.keep_branch.Statement.{statement}
 use Rattle.kept_letters.proofs.keep_branch.Tie as tie
