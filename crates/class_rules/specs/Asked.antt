@@ -1,5 +1,5 @@
--- The rules for the letters of a class that a set has, of w words, and another set too where only those of it are asked
--- for. e is the number of the state that the rules are told from.
+-- The rules for the letters of a class that a set has, of w words, and another set too where only those of it are
+-- asked for. e is the number of the state that the rules are told from.
 use Prim.Native.Nat.{ℕ, _+_, _*_, _≤_, _<_}
 use mathlib.Core.Path.{_≡_}
 use mathlib.Core.Bool.{Bool, not, _&&_, _||_}

@@ -1,5 +1,5 @@
-// The rules that go by letters, behind n rules of the two lists: of one value that the target of a send may have, and of
-// one branch of a receive.
+// The rules that go by letters, behind n rules of the two lists: of one value that the target of a send may have, and
+// of one branch of a receive.
 use branch_letters::branch_letters;
 use class_rules::asks_class;
 use class_rules::class_rules;
@@ -9,15 +9,15 @@ use sent_letters::sent_letters;
 use system_letters::letter_width;
 ghost use mathlib.Core.Path.{_≡_};
 ghost use mathlib.Core.Bool.{Bool, true};
-ghost use Prim.Native.Nat.{ℕ, _+_, _≤_, _<_};
+ghost use Prim.Native.Nat.{ℕ, _+_, _≤_};
 ghost use lib.ListN.{getD};
 ghost use Rattle.model.specs.Limits.{maxDepth};
 ghost use Rattle.model.specs.Rows.{program, send, receive};
 ghost use Rattle.model.specs.Heads.{is-class};
-ghost use Rattle.model.specs.Tables.{tables, has, each};
+ghost use Rattle.model.specs.Tables.{tables};
 ghost use Rattle.matching.specs.Patterns.{Pattern};
 ghost use Rattle.rules.specs.Added.{Added};
-ghost use Rattle.rules.specs.Derived.{Sent-tables};
+ghost use Rattle.rules.specs.Derived.{Sent-tables, Sent-to};
 ghost use Rattle.rules.specs.Within.{only-passing, Asked-letters};
 ghost use Rattle.branch_letters.specs.Kept.{Read-tables};
 ghost use Rattle.lettered_rules.specs.Turns.{Class-room, sent-turn, read-turn};
@@ -44,8 +44,7 @@ pub fn sent_rules(
     requires { ⌜ Sent-tables (now ws) s (now «flow_at») (now «letter_at») (now letters) ⌝ }
     requires { ⌜ Class-room (now ws) s (now «letter_at») (now within) (now part) (now found) (now tos) (now others)
         n d ⌝ }
-    requires { ⌜ (m < s .names) × (is-class (program (now ws) s) d ≡ true →
-        each (tables (now ws) s .flow) m (has (tables (now ws) s .mail) d) ≡ true) ⌝ }
+    requires { ⌜ (is-class (program (now ws) s) d ≡ true → Sent-to (now ws) s m d) ⌝ }
     ensures { λ e. ⌜ ((f : ℕ → Bool) →
         Asked-letters (program (now (ws .entry)) s) (tables (now (ws .entry)) s) narrow (now (within .entry)) f →
         Added send (now (tos .entry)) (now (others .entry)) n (now (tos .exit)) (now (others .exit)) e
@@ -76,8 +75,8 @@ pub fn sent_rules(
     )
 }
 
-// The letters of class c that the branch reads whose pattern stands at row q, and that leads to the state `next`; where
-// that is asked for, of the set `within` only.
+// The letters of class c that the branch reads whose pattern stands at row q, and that leads to the state `next`;
+// where that is asked for, of the set `within` only.
 pub fn read_rules(
     ws: &[u16],
     s: Sizes,

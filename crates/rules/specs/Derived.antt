@@ -11,7 +11,7 @@ use Rattle.model.specs.declared.Sizes.{Sizes}
 use Rattle.model.specs.Limits.{maxBranches, maxCounters}
 use Rattle.model.specs.Words.{left, right}
 use Rattle.model.specs.Rows.{Program, program, tag}
-use Rattle.model.specs.Tables.{Tables, tables}
+use Rattle.model.specs.Tables.{Tables, tables, has, each}
 use Rattle.model.specs.Closed.{open-check}
 use Rattle.model.specs.Counters.{letter-count, counter-count}
 use Rattle.model.specs.Rules.{from-each, letters-read}
@@ -61,6 +61,11 @@ pub record Letter-tables (ws : List ℕ) (s : Sizes) (letter-at letters : List �
 pub record Sent-tables (ws : List ℕ) (s : Sizes) (flow-at letter-at letters : List ℕ) : Type 0 where
   pub letter-tables : Letter-tables ws s letter-at letters
   pub flow-starts : Starts (tables ws s .flow) (s .names) flow-at
+
+-- The values of the name m are in the mail of d.
+pub record Sent-to (ws : List ℕ) (s : Sizes) (m d : ℕ) : Type 0 where
+  pub name : m < s .names
+  pub mailed : each (tables ws s .flow) m (has (tables ws s .mail) d) ≡ true
 
 -- State i stands at row r, whose tag is k.
 pub record State-head (ws : List ℕ) (s : Sizes) (i r k : ℕ) : Type 0 where

@@ -1,5 +1,5 @@
--- The rules of a send and of a receive, turn by turn of their loops, and what they are read from. e is the number of the
--- state s that the rules are told from.
+-- The rules of a send and of a receive, turn by turn of their loops, and what they are read from. e is the number of
+-- the state s that the rules are told from.
 use Prim.Native.Nat.{ℕ}
 use mathlib.Core.Path.{_≡_}
 use mathlib.Core.List.{List}

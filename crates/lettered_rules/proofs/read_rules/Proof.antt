@@ -7,7 +7,7 @@ use Rattle.lettered_rules.proofs.read_rules.Statement.{statement}
 use Rattle.lettered_rules.proofs.read_rules.Tie as tie
 
 branch-letters-requires : tie.Need-branch-letters-requires
-branch-letters-requires c κs = (c .before .before .before .before .before .before .before .before .before .before .before .before .before .pre .0 .pattern-tables .match-tables, (c .before .before .before .before .before .before .before .before .before .before .before .before .before .pre .0 .pattern-tables .ends, (c .before .before .before .before .before .before .before .before .before .before .before .before .before .pre .0 .pattern-tables .letter-tables .class-letters, (c .before .before .before .before .before .before .before .before .before .before .before .before .before .pre .0 .pattern-tables .letter-tables .letter-sets, (c .before .before .before .before .before .before .before .before .before .before .before .before .before .pre .0 .reads, (c .before .before .before .before .before .before .before .before .before .before .before .before .before .pre .1 .0 .value, (c .before .before .before .before .before .before .before .before .before .before .before .before .before .pre .1 .1, (c .before .before .before .before .before .before .before .before .before .before .before .before .before .pre .1 .0 .part-row, c .before .before .before .before .before .before .before .before .before .before .before .before .before .pre .1 .0 .found-row))))))))
+branch-letters-requires c κs = (c .before .before .before .before .before .before .before .before .before .before .before .before .before .pre .0, record { class = c .before .before .before .before .before .before .before .before .before .before .before .before .before .pre .1 .0 .value; pattern = c .before .before .before .before .before .before .before .before .before .before .before .before .before .pre .1 .1; part-row = c .before .before .before .before .before .before .before .before .before .before .before .before .before .pre .1 .0 .part-row; found-row = c .before .before .before .before .before .before .before .before .before .before .before .before .before .pre .1 .0 .found-row })
 
 letter-width-requires : tie.Need-letter-width-requires
 letter-width-requires c κs = search needs
