@@ -18,7 +18,8 @@ ghost use Rattle.model.specs.Rows.{program, tag};
 ghost use Rattle.model.specs.Tables.{tables};
 ghost use Rattle.bits.specs.Bits.{Row, shared};
 ghost use Rattle.values.specs.Values.{Flow-ready};
-ghost use Rattle.matching.specs.Patterns.{code, Is-code, Is-values-code, Matched, Match-ready, Pattern-asked, Same-made};
+ghost use Rattle.matching.specs.Patterns.{code, Is-code, Is-values-code, Matched};
+ghost use Rattle.matching.specs.Patterns.{Match-ready, Pattern-asked, Same-made};
 
 // The worse of two codes.
 pub fn worse(a: usize, b: usize) -> usize

@@ -34,8 +34,8 @@ pub record Alike (p : Program) (w n : ℕ) (sets : List ℕ) : Type 0 where
   pub alike : (a b : ℕ) → a < 64 * w → b < 64 * w → is-class p a ≡ false → tag p a ≡ 2 → member sets w n a ≡ true →
       is-build p (num p (a + 1)) b ≡ true → member sets w n b ≡ true
 
--- what the sets of patterns are filled from: the checks before refusal 8 found nothing, and the layout, the sets of names
--- and the chains of builds are there
+-- what the sets of patterns are filled from: the checks before refusal 8 found nothing, and the layout, the sets of
+-- names and the chains of builds are there
 pub record Fill-ready (ws : List ℕ) (s : Sizes) (afters flow firsts nexts : List ℕ) : Type 0 where
   pub ready : Ready ws s
   pub layout : Ends (program ws s) afters
