@@ -15,7 +15,7 @@ fill-letters-requires : tie.Need-fill-letters-requires
 fill-letters-requires c κs =
     let p = c .before .before .before .before .before .before .before .before .before .pre in
     let l = p .0 in
-    (l .closed-tables .ready, (l .name-heads, (lent-classes _ _ _ _ _ _ _ l, (l .coded, (p .1 .0, p .1 .1 .0)))))
+    (record { heads = record { ready = l .closed-tables .ready; name-heads = l .name-heads }; class-letters = lent-classes _ _ _ _ _ _ _ l; coded = l .coded }, record { room = p .1 .1 .0; empty = p .1 .0 })
 
 fill-reads-requires : tie.Need-fill-reads-requires
 fill-reads-requires c κs =
