@@ -23,7 +23,7 @@ fill-items-requires : tie.Need-fill-items-requires
 fill-items-requires c κs =
     let p = c .before .before .before .before .before .before .before .before .before .before .before .pre in
     let n = p .1 .1 .1 .1 .1 .1 .0 in
-    (p .0, (p .1 .1 .1 .1 .0, (p .1 .1 .1 .1 .1 .0, (omega (arith, n .0, n .1), (omega (arith, p .0 .limits .badrows .1, c .before .before .before .words16-258 .ensures .room), omega (arith, p .0 .limits .badrows .1, c .before .before .words16-2582 .ensures .room))))))
+    (record { ready = p .0; class-letters = p .1 .1 .1 .1 .0; letter-sets = p .1 .1 .1 .1 .1 .0 }, record { few = omega (arith, n .0, n .1); from-room = omega (arith, p .0 .limits .badrows .1, c .before .before .before .words16-258 .ensures .room); to-room = omega (arith, p .0 .limits .badrows .1, c .before .before .words16-2582 .ensures .room) })
 
 slice-aggregate-light-check : tie.Need-slice-aggregate-light-check
 slice-aggregate-light-check c = search needs

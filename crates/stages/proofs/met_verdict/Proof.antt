@@ -17,7 +17,10 @@ slice-aggregate-fill-items-2 : tie.Need-slice-aggregate-fill-items-2
 slice-aggregate-fill-items-2 c = search needs
 
 fill-items-requires : tie.Need-fill-items-requires
-fill-items-requires c κs = let n = c .before .before .before .before .before .before .before .before .before .pre .1 .1 .1 .1 .0 in (c .before .before .before .before .before .before .before .before .before .pre .0, (c .before .before .before .before .before .before .before .before .before .pre .1 .1 .0, (c .before .before .before .before .before .before .before .before .before .pre .1 .1 .1 .0, (omega (arith, n .0, n .1), (omega (arith, c .before .before .before .before .before .before .before .before .before .pre .0 .limits .badrows .1, c .before .before .before .words16-258 .ensures .room), omega (arith, c .before .before .before .before .before .before .before .before .before .pre .0 .limits .badrows .1, c .before .before .words16-2582 .ensures .room))))))
+fill-items-requires c κs =
+    let p = c .before .before .before .before .before .before .before .before .before .pre in
+    let n = p .1 .1 .1 .1 .0 in
+    (record { ready = p .0; class-letters = p .1 .1 .0; letter-sets = p .1 .1 .1 .0 }, record { few = omega (arith, n .0, n .1); from-room = omega (arith, p .0 .limits .badrows .1, c .before .before .before .words16-258 .ensures .room); to-room = omega (arith, p .0 .limits .badrows .1, c .before .before .words16-2582 .ensures .room) })
 
 slice-aggregate-met-check : tie.Need-slice-aggregate-met-check
 slice-aggregate-met-check c = search needs

@@ -69,7 +69,7 @@ extend-extend-requires : (t : ℕ) → extend-lts.Need-extend-requires (extend-c
 extend-extend-requires t c κs =
     let q = c .before .before .before .before .before .before .before .pre .1 .1 in
     let w = within t (c .before .before) in
-    (omega (arith, c .before .before .before .before .before .before .before .pre .0), (c .before .before .before .before .before .before .before .pre .1 .0, record { value = q .value; digit = omega arith; short = longer-none _ _ (q .short); room = q .room }))
+    (omega (arith, c .before .before .before .before .before .before .before .pre .0), (c .before .before .before .before .before .before .before .pre .1 .0, record { value = q .value; digit = omega arith; short = omega (arith, longer-none _ _ (q .short)); room = q .room }))
 
 extend-same-length-2 : (t : ℕ) → extend-lts.Need-same-length-2 (extend-claims t) (extend-at t) extend.Post extend-Inv-loop extend-μ-loop
 extend-same-length-2 t c = search needs
