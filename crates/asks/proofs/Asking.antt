@@ -1,27 +1,31 @@
 -- The codes of one value, from what the code reads.
-use Prim.Native.Nat.{ℕ, zero, suc, _+_, _*_, _≤_, _<_}
+use Prim.Native.Nat.{ℕ, _+_, _*_, _≤_, _<_}
 use native.Mathlib.Omega.{arith}
 use mathlib.Core.Path.{_≡_, refl, sym, _∙_, ap}
 use mathlib.Core.Bool.{Bool, true, false, not, _&&_}
 use mathlib.Core.List.{List}
 use lib.Dec.{eqb, ltb}
 use lib.ListN.{getD}
-use borrow.Author.Tests.{eq-eqb, ne-eqb, not-true, not-false, lt-ltb, le-ltb}
+use borrow.Author.Tests.{eq-eqb, ne-eqb, not-true, not-false}
 use Rattle.model.specs.declared.Sizes.{Sizes}
 use Rattle.model.specs.Index.{implies, any, all}
 use Rattle.model.specs.Words.{Columns, columns}
 use Rattle.model.specs.Rows.{Program, program, size, tag, num}
 use Rattle.model.specs.Heads.{call-at, is-class, parameters, body, takes}
-use Rattle.model.specs.Tables.{Tables, tables, entries, has, each, some-of, state, state-index, has-state}
+use Rattle.model.specs.Tables.{Tables, tables, has, each, some-of, state, state-index, has-state}
 use Rattle.model.specs.Closed.{passes}
 use Rattle.model.proofs.Index.{all-hit, all-miss, all-end}
 use Rattle.model.proofs.Parse.Lengths.{nums-at}
 use Rattle.bits.specs.Bits.{member}
-use Rattle.values.specs.Values.{width, mail-set, Flow-sets, Mail-sets}
+use Rattle.values.specs.Values.{width, mail-set, Flow-sets, Mail-sets, Flow-ready}
 use Rattle.values.proofs.Members.{each-within, some-meets}
 use Rattle.values.proofs.Gathered.{width-above}
-use Rattle.asks.specs.Asks.{there-code, call-asks, send-asks, spawn-asks, asks}
+use Rattle.asks.specs.Asks.{Mail-ready, there-code, call-asks, send-asks, spawn-asks, asks}
 use Rattle.asks.proofs.Rows.{takes-count}
+
+-- where sends are settled, the values of names are told
+pub mail-flow : {ws : List ℕ} {s : Sizes} {flow mail : List ℕ} → Mail-ready ws s flow mail → Flow-ready ws s flow
+mail-flow h = record { ready = h .ready; names = h .names }
 
 -- inclusion of names
 module _ (ws : List ℕ) (s : Sizes) {flow : List ℕ} (sets : Flow-sets (program ws s) (tables ws s) flow) where

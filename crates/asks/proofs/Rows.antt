@@ -11,7 +11,7 @@ use borrow.Author.Tests.{eqb-true, le-leb, not-false}
 use Rattle.model.specs.Limits.{maxRows}
 use Rattle.model.specs.declared.Sizes.{Sizes}
 use Rattle.model.specs.Words.{columns}
-use Rattle.model.specs.Rows.{Program, program, size, tag, num, kind, call, send, spawn, is-head}
+use Rattle.model.specs.Rows.{Program, program, tag, num, kind, call, send, spawn, is-head}
 use Rattle.model.specs.Heads.{is-function, takes}
 use Rattle.model.proofs.Logic.{and-left, and-right, and-intro}
 use Rattle.model.proofs.Parse.Locations.{Location}

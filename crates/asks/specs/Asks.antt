@@ -1,13 +1,29 @@
 -- What a call, a send and a spawn ask because of one value of the name that they read, whatever the state: as a code.
 use Prim.Native.Nat.{ℕ, _+_}
+use mathlib.Core.List.{List}
 use mathlib.Core.Path.{_≡_}
 use mathlib.Core.Bool.{Bool, true, false, _&&_}
 use lib.Dec.{eqb}
-use Rattle.model.specs.Rows.{Program, size, tag, num}
+use Rattle.model.specs.declared.Sizes.{Sizes}
+use Rattle.model.specs.Rows.{Program, program, size, tag, num}
 use Rattle.model.specs.Heads.{call-at, is-class, parameters, body, takes}
-use Rattle.model.specs.Tables.{Tables, has, each, some-of, state, has-state}
+use Rattle.model.specs.Tables.{Tables, tables, has, each, some-of, state, has-state}
 use Rattle.model.specs.Closed.{passes}
+use Rattle.lists.specs.Lists.{Starts}
+use Rattle.lists.specs.Ready.{Ready}
+use Rattle.values.specs.Values.{Flow-sets, Mail-sets}
 use Rattle.branches.specs.Taken.{code-closed}
+
+-- what a send is settled by: the checks before refusal 8 found nothing, and the sets of names and of mail are filled
+pub record Mail-ready (ws : List ℕ) (s : Sizes) (flow mail : List ℕ) : Type 0 where
+  pub ready : Ready ws s
+  pub names : Flow-sets (program ws s) (tables ws s) flow
+  pub classes : Mail-sets (program ws s) (tables ws s) mail
+
+-- what the values of a name are found by one after the other: the same checks, and where each name's entries begin
+pub record Starts-ready (ws : List ℕ) (s : Sizes) (starts : List ℕ) : Type 0 where
+  pub ready : Ready ws s
+  pub begins : Starts (tables ws s .flow) (s .names) starts
 
 -- 1 where it is there, 2 where it lacks
 unfoldable pub there-code : Bool → ℕ

@@ -25,9 +25,8 @@ ghost use Rattle.model.specs.Heads.{call-at, parameters, takes};
 ghost use Rattle.model.specs.Tables.{tables, has, each};
 ghost use Rattle.model.specs.Closed.{passes};
 ghost use Rattle.lists.specs.Lists.{Starts};
-ghost use Rattle.lists.specs.Ready.{Ready};
-ghost use Rattle.values.specs.Values.{Flow-sets, Mail-sets};
-ghost use Rattle.asks.specs.Asks.{call-asks, send-asks, spawn-asks, asks, Asked};
+ghost use Rattle.values.specs.Values.{Flow-sets, Flow-ready};
+ghost use Rattle.asks.specs.Asks.{Mail-ready, call-asks, send-asks, spawn-asks, asks, Asked};
 
 // Whether all values of the name a are among those of the name b.
 pub fn includes(ws: &[u16], s: Sizes, flow: &[u64], a: usize, b: usize) -> bool
@@ -40,10 +39,9 @@ pub fn includes(ws: &[u16], s: Sizes, flow: &[u64], a: usize, b: usize) -> bool
 
 // Whether the parameters of f hold the values of the arguments of the call at row r.
 fn passes(ws: &[u16], s: Sizes, flow: &[u64], r: usize, f: usize) -> bool
-    requires { ⌜ Ready (now ws) s ⌝ }
-    requires { ⌜ Flow-sets (program (now ws) s) (tables (now ws) s) (now flow) ⌝ }
-    requires { ⌜ tag (program (now ws) s) r ≡ 4 ⌝ }
-    requires { ⌜ takes (program (now ws) s) f (num (program (now ws) s) (r + 2)) ≡ true ⌝ }
+    requires { ⌜ Flow-ready (now ws) s (now flow) ⌝ }
+    requires { ⌜ (tag (program (now ws) s) r ≡ 4)
+        × (takes (program (now ws) s) f (num (program (now ws) s) (r + 2)) ≡ true) ⌝ }
     ensures { λ b. ⌜ b ≡
         passes (tables (now (ws .entry)) s) (call-at (program (now (ws .entry)) s) r)
         (parameters (program (now (ws .entry)) s) f) ⌝ }
@@ -63,8 +61,7 @@ fn passes(ws: &[u16], s: Sizes, flow: &[u64], r: usize, f: usize) -> bool
 
 // What the call at row r asks where the callee may be f.
 fn call_asks(ws: &[u16], s: Sizes, flow: &[u64], r: usize, f: usize) -> usize
-    requires { ⌜ Ready (now ws) s ⌝ }
-    requires { ⌜ Flow-sets (program (now ws) s) (tables (now ws) s) (now flow) ⌝ }
+    requires { ⌜ Flow-ready (now ws) s (now flow) ⌝ }
     requires { ⌜ tag (program (now ws) s) r ≡ 4 ⌝ }
     ensures { λ k. ⌜ k ≡ call-asks (program (now (ws .entry)) s) (tables (now (ws .entry)) s) r f ⌝ }
 {
@@ -77,9 +74,7 @@ fn call_asks(ws: &[u16], s: Sizes, flow: &[u64], r: usize, f: usize) -> usize
 
 // What the send at row r asks where the target may be d.
 fn send_asks(ws: &[u16], s: Sizes, flow: &[u64], mail: &[u64], r: usize, d: usize) -> usize
-    requires { ⌜ Ready (now ws) s ⌝ }
-    requires { ⌜ Flow-sets (program (now ws) s) (tables (now ws) s) (now flow) ⌝ }
-    requires { ⌜ Mail-sets (program (now ws) s) (tables (now ws) s) (now mail) ⌝ }
+    requires { ⌜ Mail-ready (now ws) s (now flow) (now mail) ⌝ }
     requires { ⌜ tag (program (now ws) s) r ≡ 5 ⌝ }
     ensures { λ k. ⌜ k ≡ send-asks (program (now (ws .entry)) s) (tables (now (ws .entry)) s) r d ⌝ }
 {
@@ -105,8 +100,7 @@ fn send_asks(ws: &[u16], s: Sizes, flow: &[u64], mail: &[u64], r: usize, d: usiz
 
 // What the spawn at row r asks where the function may be f.
 fn spawn_asks(ws: &[u16], s: Sizes, flow: &[u64], r: usize, f: usize) -> usize
-    requires { ⌜ Ready (now ws) s ⌝ }
-    requires { ⌜ Flow-sets (program (now ws) s) (tables (now ws) s) (now flow) ⌝ }
+    requires { ⌜ Flow-ready (now ws) s (now flow) ⌝ }
     requires { ⌜ tag (program (now ws) s) r ≡ 6 ⌝ }
     ensures { λ k. ⌜ k ≡ spawn-asks (program (now (ws .entry)) s) (tables (now (ws .entry)) s) r f ⌝ }
 {
@@ -128,9 +122,7 @@ fn spawn_asks(ws: &[u16], s: Sizes, flow: &[u64], r: usize, f: usize) -> usize
 
 // What the call, send or spawn at row r asks with the value x of the name that it reads first.
 fn asks(ws: &[u16], s: Sizes, flow: &[u64], mail: &[u64], r: usize, x: usize) -> usize
-    requires { ⌜ Ready (now ws) s ⌝ }
-    requires { ⌜ Flow-sets (program (now ws) s) (tables (now ws) s) (now flow) ⌝ }
-    requires { ⌜ Mail-sets (program (now ws) s) (tables (now ws) s) (now mail) ⌝ }
+    requires { ⌜ Mail-ready (now ws) s (now flow) (now mail) ⌝ }
     requires { ⌜ (4 ≤ tag (program (now ws) s) r) × (tag (program (now ws) s) r ≤ 6) ⌝ }
     ensures { λ k. ⌜ k ≡ asks (program (now (ws .entry)) s) (tables (now (ws .entry)) s) r x ⌝ }
 {
@@ -143,11 +135,9 @@ fn asks(ws: &[u16], s: Sizes, flow: &[u64], mail: &[u64], r: usize, x: usize) ->
 
 // What it asks with all values of that name.
 pub fn asked(ws: &[u16], s: Sizes, starts: &[u16], flow: &[u64], mail: &[u64], r: usize) -> usize
-    requires { ⌜ Ready (now ws) s ⌝ }
-    requires { ⌜ Starts (tables (now ws) s .flow) (s .names) (now starts) ⌝ }
-    requires { ⌜ Flow-sets (program (now ws) s) (tables (now ws) s) (now flow) ⌝ }
-    requires { ⌜ Mail-sets (program (now ws) s) (tables (now ws) s) (now mail) ⌝ }
-    requires { ⌜ (4 ≤ tag (program (now ws) s) r) × (tag (program (now ws) s) r ≤ 6) ⌝ }
+    requires { ⌜ Mail-ready (now ws) s (now flow) (now mail) ⌝ }
+    requires { ⌜ Starts (tables (now ws) s .flow) (s .names) (now starts)
+        × ((4 ≤ tag (program (now ws) s) r) × (tag (program (now ws) s) r ≤ 6)) ⌝ }
     ensures { λ k. ⌜ Asked (program (now (ws .entry)) s) (tables (now (ws .entry)) s) r k × (k ≤ 2) ⌝ }
 {
     let name = num(ws, s, r + 1);

@@ -1,14 +1,15 @@
 -- Items and bads one after the other, by the code's values; the counters of the item at a row.
-use Prim.Native.Nat.{ℕ, _+_, _≤_, _<_}
+use Prim.Native.Nat.{ℕ, _+_, _-_, _≤_, _<_}
 use native.Mathlib.Omega.{arith}
 use mathlib.Core.Path.{_≡_, refl, sym}
-use mathlib.Core.List.{List}
+use mathlib.Core.List.{List, []}
 use lib.ListN.{length, getD}
 use Rattle.model.specs.declared.Sizes.{Sizes}
 use Rattle.model.specs.Words.{Columns, left, columns}
 use Rattle.model.specs.Rows.{program}
 use Rattle.model.specs.Tables.{tables}
 use Rattle.model.specs.Bads.{bad, bad-step, bad-rows, bad-row, past-heads}
+use Rattle.model.proofs.Reader.{read-takes}
 use Rattle.ceilings_form.proofs.Repeated.{Walked, walked-start, walked-row, walked-inside, walked-stands, walked-next}
 use Rattle.bads_rows.specs.Items.{Range, Items-counted, Bads-in-form, Bad-stands, bad-end, subject-from}
 use Rattle.bads_rows.proofs.BadRows.{heads-bounds, bad-inside}
@@ -47,6 +48,10 @@ module _ (ws : List ℕ) (s : Sizes) where
   pub bads-stand : (j r : ℕ) → Bads-walked j r → j < s .bads → Bad-stands (program ws s) rows r
   unfolding bad-end
   bads-stand j r w h = walked-stands (bad-step (program ws s)) rows bad (s .bads) j r w h
+
+  -- a bad takes a row at least
+  pub stands-inside : (r : ℕ) → Bad-stands (program ws s) rows r → r ≤ s .badrows
+  stands-inside r h = let e = size-is in omega (arith, read-takes (bad-step (program ws s)) rows (rows .size - r) r (bad-end (program ws s) rows r) bad [] h)
 
   pub bads-next : (j r q : ℕ) → Bads-walked j r → j < s .bads → q ≡ bad-end (program ws s) rows r → Bads-walked (j + 1) q
   unfolding bad-end

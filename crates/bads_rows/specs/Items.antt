@@ -40,6 +40,11 @@ pub record Items-counted (p : Program) (t : Tables) (rows : Columns) (froms tos 
 abbrev pub Bads-in-form : List ℕ → Sizes → Type 0
 Bads-in-form ws s = first-wrong (bad-step (program ws s)) (bad-rows ws s) (replicate (s .bads) bad) ≡ none
 
+-- ... and there are j of them or more
+pub record Bads-upto (ws : List ℕ) (s : Sizes) (j : ℕ) : Type 0 where
+  pub in-form : Bads-in-form ws s
+  pub upto : j ≤ s .bads
+
 -- the row after the bad that stands at row r
 unfoldable pub bad-end : Program → Columns → ℕ → ℕ
 bad-end p rows r = after (bad-step p) rows (bad ∷ []) r

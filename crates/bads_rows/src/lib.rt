@@ -8,7 +8,7 @@ ghost use Prim.Native.Nat.{_+_, _≤_, _<_};
 ghost use Rattle.model.specs.Words.{left, right};
 ghost use Rattle.model.specs.Rows.{program};
 ghost use Rattle.model.specs.Bads.{bad-rows, bad-row, past-heads};
-ghost use Rattle.bads_rows.specs.Items.{Bads-in-form, Bad-stands, bad-end};
+ghost use Rattle.bads_rows.specs.Items.{Bads-upto, Bad-stands, bad-end};
 ghost use Rattle.ceilings_form.specs.Parts.{Whole};
 
 // The tag of a row of the bads, and 0 past the last row.
@@ -54,7 +54,6 @@ pub fn next_item(ws: &[u16], s: Sizes, r: usize) -> usize
 // The row after the bad that stands at row r: after its items and its last row.
 pub fn next_bad(ws: &[u16], s: Sizes, r: usize) -> usize
     requires { ⌜ Whole (now ws) s ⌝ }
-    requires { ⌜ r ≤ s .badrows ⌝ }
     requires { ⌜ Bad-stands (program (now ws) s) (bad-rows (now ws) s) r ⌝ }
     ensures { λ q. ⌜ q ≡ bad-end (program (now (ws .entry)) s) (bad-rows (now (ws .entry)) s) r ⌝ }
 {
@@ -70,8 +69,7 @@ pub fn next_bad(ws: &[u16], s: Sizes, r: usize) -> usize
 // The first row of bad number j.
 pub fn bad_row(ws: &[u16], s: Sizes, j: usize) -> usize
     requires { ⌜ Whole (now ws) s ⌝ }
-    requires { ⌜ Bads-in-form (now ws) s ⌝ }
-    requires { ⌜ j ≤ s .bads ⌝ }
+    requires { ⌜ Bads-upto (now ws) s j ⌝ }
     ensures { λ r. ⌜ (r ≡ bad-row (program (now (ws .entry)) s) (bad-rows (now (ws .entry)) s) j) ×
         (r ≤ s .badrows) ⌝ }
 {

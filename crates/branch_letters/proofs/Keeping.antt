@@ -19,10 +19,10 @@ use Rattle.model.specs.Letters.{head-count}
 use Rattle.model.specs.Tables.{Tables, tables, entries}
 use Rattle.model.specs.Counters.{letter-count}
 use Rattle.model.specs.Rules.{from-each, letters-read}
-use Rattle.bits.proofs.Rows.{filled-to}
 use Rattle.system_letters.specs.Letters.{digits, class-at, letter-at, letter-width, digit-set, allowed-set, Letter-sets, Found}
 use Rattle.rules.specs.Derived.{read-set, owner-at, Reads}
-use Rattle.branch_letters.specs.Kept.{Owners-room, Kept-for}
+use Rattle.pattern_letters.specs.Tables.{Pattern-tables}
+use Rattle.branch_letters.specs.Kept.{Owners-room, Kept-for, Kept-tables, Read-tables}
 use Rattle.sent_letters.proofs.Found.{letter-inside, row-kept}
 
 -- the numbers of sets and words, as the code has them
@@ -205,3 +205,21 @@ module _ (p : Program) (t : Tables) where
 
   pub forgotten-all : (u₀ letters : List ℕ) (x : ℕ) → x ≡ t .states .size → Forgotten u₀ x letters → Letter-sets p t letters × Reads p t letters
   forgotten-all u₀ letters x e f = (f .sets, record { room = f .owners .room; has = λ k q y l a o. absurd (let z = f .none k (omega arith) in omega arith) })
+
+-- what is kept, as a part of what branches read
+module _ {ws : List ℕ} {s : Sizes} {afters : List ℕ} {w : ℕ} {fitting names letter-at letters : List ℕ} where
+  pub kept-tables : Read-tables ws s afters w fitting names letter-at letters → Kept-tables ws s letter-at letters
+  kept-tables h = record { letter-tables = h .pattern-tables .letter-tables; reads = h .reads }
+
+  -- the tables once the sets of letters are others
+  pub read-tables : Pattern-tables ws s afters w fitting names letter-at letters → {letters′ : List ℕ} → Letter-sets (program ws s) (tables ws s) letters′ → Reads (program ws s) (tables ws s) letters′ → Read-tables ws s afters w fitting names letter-at letters′
+  read-tables h sets reads =
+      let l = h .letter-tables in
+      record {
+        pattern-tables = record {
+          match-tables = h .match-tables;
+          ends = h .ends;
+          letter-tables = record { ready = l .ready; few = l .few; class-letters = l .class-letters; letter-sets = sets };
+        };
+        reads = reads;
+      }

@@ -11,20 +11,18 @@ ghost use mathlib.Core.Path.{_≡_};
 ghost use mathlib.Core.Bool.{true};
 ghost use Prim.Native.Nat.{_+_, _*_, _≤_, _<_};
 ghost use lib.ListN.{length, getD, set};
-ghost use Rattle.bits.specs.Bits.{Row, Filled};
+ghost use Rattle.bits.specs.Bits.{Filled};
 ghost use Rattle.model.specs.Words.{left};
 ghost use Rattle.model.specs.Demands.{Within-limits};
-ghost use Rattle.model.specs.Limits.{present, maxDepth};
+ghost use Rattle.model.specs.Limits.{present};
 ghost use Rattle.model.specs.Rows.{program};
 ghost use Rattle.model.specs.Tables.{tables};
 ghost use Rattle.model.specs.Rules.{from-each, letters-read};
 ghost use Rattle.lists.specs.Ready.{Ready};
-ghost use Rattle.layout.specs.Tables.{Ends};
-ghost use Rattle.matching.specs.Patterns.{Pattern};
-ghost use Rattle.system_letters.specs.Letters.{Class-letters, letter-width, digits, Letter-sets, Found};
-ghost use Rattle.pattern_heads.specs.Fitting.{Match-tables};
-ghost use Rattle.branch_letters.specs.Kept.{Owners-room, Kept-for};
-ghost use Rattle.rules.specs.Derived.{owner-at, Reads};
+ghost use Rattle.system_letters.specs.Letters.{letter-width, digits, Letter-sets, Found};
+ghost use Rattle.rules.specs.Derived.{owner-at, Reads, Letter-tables};
+ghost use Rattle.pattern_letters.specs.Tables.{Read-room};
+ghost use Rattle.branch_letters.specs.Kept.{Owners-room, Kept-for, Kept-tables, Read-tables};
 
 // The set of letters that is kept for state x, behind those of all digits and mail entries.
 fn read_set(s: Sizes, x: usize) -> usize
@@ -58,9 +56,7 @@ fn is_kept(
     q: usize,
     x: usize,
 ) -> bool
-    requires { ⌜ Ready (now ws) s ⌝ }
-    requires { ⌜ Class-letters (program (now ws) s) (tables (now ws) s) (now «letter_at») ⌝ }
-    requires { ⌜ Reads (program (now ws) s) (tables (now ws) s) (now letters) ⌝ }
+    requires { ⌜ Kept-tables (now ws) s (now «letter_at») (now letters) ⌝ }
     requires { ⌜ q < s .rows ⌝ }
     ensures { λ b. ⌜ (b ≡ true → Kept-for (program (now (ws .entry)) s) (tables (now (ws .entry)) s)
         (now (letters .entry)) c q x) ⌝ }
@@ -94,15 +90,8 @@ pub fn branch_letters(
     part: &mut [u64],
     found: &mut [u64],
 )
-    requires { ⌜ Match-tables (now ws) s w (now fitting) (now names) ⌝ }
-    requires { ⌜ Ends (program (now ws) s) (now afters) ⌝ }
-    requires { ⌜ Class-letters (program (now ws) s) (tables (now ws) s) (now «letter_at») ⌝ }
-    requires { ⌜ Letter-sets (program (now ws) s) (tables (now ws) s) (now letters) ⌝ }
-    requires { ⌜ Reads (program (now ws) s) (tables (now ws) s) (now letters) ⌝ }
-    requires { ⌜ c ≤ s .rows ⌝ }
-    requires { ⌜ Pattern (program (now ws) s) maxDepth q ⌝ }
-    requires { ⌜ Row (now part) (letter-width (program (now ws) s) (tables (now ws) s)) 0 ⌝ }
-    requires { ⌜ Row (now found) (letter-width (program (now ws) s) (tables (now ws) s)) 0 ⌝ }
+    requires { ⌜ Read-tables (now ws) s (now afters) w (now fitting) (now names) (now «letter_at») (now letters) ⌝ }
+    requires { ⌜ Read-room (now ws) s c q (now part) (now found) ⌝ }
     ensures { λ _. ⌜ Found (program (now (ws .entry)) s) (tables (now (ws .entry)) s) c
         (from-each (tables (now (ws .entry)) s .mail) c
         (letters-read (program (now (ws .entry)) s) (tables (now (ws .entry)) s) q))
@@ -162,10 +151,7 @@ pub fn keep_letters(
     found: &[u64],
     letters: &mut [u64],
 )
-    requires { ⌜ Ready (now ws) s ⌝ }
-    requires { ⌜ Class-letters (program (now ws) s) (tables (now ws) s) (now «letter_at») ⌝ }
-    requires { ⌜ Letter-sets (program (now ws) s) (tables (now ws) s) (now letters) ⌝ }
-    requires { ⌜ Reads (program (now ws) s) (tables (now ws) s) (now letters) ⌝ }
+    requires { ⌜ Kept-tables (now ws) s (now «letter_at») (now letters) ⌝ }
     requires { ⌜ (x < s .states) × (left (tables (now ws) s .states) x ≡ c) × (q < s .rows) ⌝ }
     requires { ⌜ Found (program (now ws) s) (tables (now ws) s) c
         (from-each (tables (now ws) s .mail) c (letters-read (program (now ws) s) (tables (now ws) s) q))
@@ -182,9 +168,7 @@ pub fn keep_letters(
 
 // Says of each state that nothing is kept for it.
 pub fn forget_letters(ws: &[u16], s: Sizes, letter_at: &[u16], letters: &mut [u64])
-    requires { ⌜ Ready (now ws) s ⌝ }
-    requires { ⌜ Class-letters (program (now ws) s) (tables (now ws) s) (now «letter_at») ⌝ }
-    requires { ⌜ Letter-sets (program (now ws) s) (tables (now ws) s) (now letters) ⌝ }
+    requires { ⌜ Letter-tables (now ws) s (now «letter_at») (now letters) ⌝ }
     requires { ⌜ Owners-room (program (now ws) s) (tables (now ws) s) (now letters) ⌝ }
     ensures { λ _. ⌜ Letter-sets (program (now (ws .entry)) s) (tables (now (ws .entry)) s) (now (letters .exit)) ⌝ }
     ensures { λ _. ⌜ Reads (program (now (ws .entry)) s) (tables (now (ws .entry)) s) (now (letters .exit)) ⌝ }

@@ -1,17 +1,16 @@
 -- The branches by their codes with all values together.
 use Prim.Native.Nat.{ℕ}
-use mathlib.Core.Path.{_≡_, refl, sym, _∙_, ap₂}
+use mathlib.Core.Path.{_≡_, refl, _∙_, ap₂}
 use mathlib.Core.Bool.{Bool, true, false, _&&_, _||_}
 use mathlib.Core.List.{List, [], _∷_}
 use mathlib.Core.Logic.{Iff·rfl}
-use lib.Dec.{eqb}
 use Rattle.model.specs.Index.{implies}
 use Rattle.model.specs.Words.{Columns}
 use Rattle.model.specs.Rows.{Program}
 use Rattle.model.specs.Limits.{maxDepth}
 use Rattle.model.specs.Heads.{branch-body}
 use Rattle.model.specs.Tables.{Tables, each, some-of, State, onward, has-state}
-use Rattle.model.specs.Closed.{may-match, may-take, names-hold, branches-closed}
+use Rattle.model.specs.Closed.{may-take, names-hold, branches-closed}
 use Rattle.model.proofs.Logic.{test, true-false, and-left, and-right, and-intro, implies-elim, implies-intro, both}
 use Rattle.model.proofs.Exact.Members.{some-of-iff}
 use Rattle.values.proofs.Members.{each-at, at-each, each-none}

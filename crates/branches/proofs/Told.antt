@@ -9,18 +9,16 @@ use lib.ListN.{length, getD}
 use borrow.Author.Tests.{eqb-true, eqb-false, eq-eqb, ne-eqb}
 use Rattle.model.specs.Index.{implies}
 use Rattle.model.specs.Words.{Columns}
-use Rattle.model.specs.Rows.{Program, size}
-use Rattle.model.specs.Limits.{maxDepth}
-use Rattle.model.specs.Heads.{branch-body, branch-rows}
+use Rattle.model.specs.Rows.{Program}
+use Rattle.model.specs.Heads.{branch-body}
 use Rattle.model.specs.Tables.{Tables, each, some-of, State, onward, has-state}
-use Rattle.model.specs.Closed.{may-match, may-take, names-hold, branches-closed}
+use Rattle.model.specs.Closed.{may-take}
 use Rattle.model.proofs.Logic.{true-false, test, or-false-left, or-false-right, and-none}
 use Rattle.bits.specs.Bits.{odd, bit}
 use Rattle.bits.proofs.Bits.{bit-suc}
-use Rattle.values.specs.Values.{width, Values}
 use Rattle.matching.specs.Patterns.{code, values-code}
 use Rattle.matching.proofs.Coding.{code-some, code-most}
-use Rattle.branches.specs.Taken.{branch-code, code-closed, codes-closed, lacking, code-bits, lacks, taken-bits, bodies-closed, Is-taken, Bits-told}
+use Rattle.branches.specs.Taken.{branch-code, code-closed, codes-closed, lacking, code-bits, lacks, taken-bits, bodies-closed, Bits-told}
 use Rattle.branches.proofs.Codes.{codes-each}
 
 double : (n : ℕ) → 2 ^ suc n ≡ 2 * 2 ^ n

@@ -2,15 +2,15 @@
 use Prim.Native.Nat.{ℕ, zero, suc, _+_, _-_, _*_, _/_, _%_, _^_, _≤_, _<_}
 use native.Mathlib.Omega.{arith}
 use mathlib.Core.Path.{_≡_, refl, sym, _∙_, ap}
-use mathlib.Core.Bool.{Bool, true, false, not, _&&_, _||_}
+use mathlib.Core.Bool.{Bool, true, false, _&&_, _||_}
 use mathlib.Core.List.{List, [], _∷_, _++_}
 use lib.Dec.{eqb, ltb}
-use lib.ListN.{length, getD}
+use lib.ListN.{getD}
 use borrow.Author.Tests.{eq-eqb, ne-eqb}
 use Rattle.model.specs.declared.Sizes.{Sizes}
 use Rattle.model.specs.Index.{implies}
 use Rattle.model.specs.Words.{Columns, columns}
-use Rattle.model.specs.Rows.{Program, program, size, expression, pattern, branch, branch-items, past-items}
+use Rattle.model.specs.Rows.{Program, size, expression, pattern, branch, branch-items, past-items}
 use Rattle.model.specs.Limits.{maxDepth, maxBranches}
 use Rattle.model.specs.Heads.{branch-body, branch-rows}
 use Rattle.model.specs.Tables.{Tables, tables, entries, State, onward, state-index, has-state}
@@ -19,7 +19,7 @@ use Rattle.bits.specs.Bits.{odd}
 use Rattle.layout.specs.Tables.{Ends}
 use Rattle.positions.specs.Positions.{Run}
 use Rattle.values.specs.Values.{width, Values}
-use Rattle.matching.specs.Patterns.{values-code, Pattern, Standing, Is-values-code}
+use Rattle.matching.specs.Patterns.{values-code, Pattern, Is-values-code}
 use Rattle.matching.proofs.Coding.{code-most}
 use Rattle.branches.specs.Taken.{branch-code, lacking, code-bits, lacks, taken-bits, bodies-closed, Is-taken}
 

@@ -1,19 +1,23 @@
 -- The branches of a case or receive by their codes: which of them may match, as bits, and what is asked of their
 -- expressions.
-use Prim.Native.Nat.{ℕ, _+_, _*_, _/_, _^_, _<_}
+use Prim.Native.Nat.{ℕ, _+_, _*_, _/_, _^_, _≤_, _<_}
 use mathlib.Core.Path.{_≡_}
 use mathlib.Core.Bool.{Bool, true, false, _&&_, _||_}
 use mathlib.Core.List.{List, [], _∷_}
 use lib.Dec.{eqb}
 use lib.ListN.{length, getD}
-use Rattle.model.specs.Limits.{maxDepth}
+use Rattle.model.specs.Limits.{maxDepth, maxBranches}
+use Rattle.model.specs.declared.Sizes.{Sizes}
 use Rattle.model.specs.Index.{implies}
 use Rattle.model.specs.Words.{Columns}
-use Rattle.model.specs.Rows.{Program, size}
+use Rattle.model.specs.Rows.{Program, program, size}
 use Rattle.model.specs.Heads.{branch-body, branch-rows}
 use Rattle.model.specs.Tables.{Tables, each, some-of, State, onward, has-state}
 use Rattle.model.specs.Closed.{may-take, branches-closed}
-use Rattle.bits.specs.Bits.{odd, bit}
+use Rattle.layout.specs.Tables.{Ends}
+use Rattle.bits.specs.Bits.{odd, bit, Row}
+use Rattle.lists.specs.Ready.{Ready}
+use Rattle.positions.specs.Positions.{Run}
 use Rattle.values.specs.Values.{width, Values}
 use Rattle.matching.specs.Patterns.{values-code}
 
@@ -52,6 +56,17 @@ unfoldable pub bodies-closed : Program → Tables → State → ℕ → List ℕ
 bodies-closed p t s k [] = true
 bodies-closed p t s k (q ∷ qs) = implies (odd k) (has-state t (onward s (branch-body p q))) &&
     bodies-closed p t s (k / 2) qs
+
+-- what the parts of a head are found by: the checks before refusal 8 found nothing, and the layout is filled
+pub record Layout-ready (ws : List ℕ) (s : Sizes) (afters : List ℕ) : Type 0 where
+  pub ready : Ready ws s
+  pub layout : Ends (program ws s) afters
+
+-- the values of set n may be asked of the branches from row q on: the set is there, and so many branches
+pub record Branches-asked (ws : List ℕ) (s : Sizes) (sets : List ℕ) (n q count : ℕ) : Type 0 where
+  pub row : Row sets (width (s .rows)) n
+  pub run : Run (program ws s) q count
+  pub few : count ≤ maxBranches
 
 -- k has the bits of the branches with the values of set n, whatever list they are of
 pub record Is-taken (p : Program) (t : Tables) (sets : List ℕ) (n q count k : ℕ) : Type 0 where

@@ -4,19 +4,16 @@ use matching::codes::values_code;
 use model::Sizes;
 use onward::onward;
 ghost use mathlib.Core.Path.{_≡_};
-ghost use Prim.Native.Nat.{_≤_, _<_};
-ghost use Rattle.model.specs.Limits.{maxBranches};
+ghost use Prim.Native.Nat.{_<_};
 ghost use Rattle.model.specs.Index.{implies};
 ghost use Rattle.model.specs.Rows.{program};
 ghost use Rattle.model.specs.Heads.{branch-rows};
 ghost use Rattle.model.specs.Tables.{tables, onward, state-at, has-state};
-ghost use Rattle.bits.specs.Bits.{odd, Row};
+ghost use Rattle.bits.specs.Bits.{odd};
 ghost use Rattle.lists.specs.Ready.{Ready};
-ghost use Rattle.layout.specs.Tables.{Ends};
 ghost use Rattle.positions.specs.Positions.{Run};
-ghost use Rattle.values.specs.Values.{width, Flow-sets};
-ghost use Rattle.matching.specs.Patterns.{Matches};
-ghost use Rattle.branches.specs.Taken.{Is-taken, bodies-closed};
+ghost use Rattle.matching.specs.Patterns.{Match-ready};
+ghost use Rattle.branches.specs.Taken.{Is-taken, bodies-closed, Layout-ready, Branches-asked};
 
 // More than any bits of 16 branches: something lacks.
 pub const LACKS: usize = 65536;
@@ -35,12 +32,8 @@ pub fn taken_bits(
     q: usize,
     count: usize,
 ) -> usize
-    requires { ⌜ Ready (now ws) s ⌝ }
-    requires { ⌜ Ends (program (now ws) s) (now afters) ⌝ }
-    requires { ⌜ Flow-sets (program (now ws) s) (tables (now ws) s) (now flow) ⌝ }
-    requires { ⌜ Matches (program (now ws) s) (tables (now ws) s) (now may) (now held) 0 ⌝ }
-    requires { ⌜ Row (now sets) (width (s .rows)) n ⌝ }
-    requires { ⌜ Run (program (now ws) s) q count × (count ≤ maxBranches) ⌝ }
+    requires { ⌜ Match-ready (now ws) s (now afters) (now flow) (now may) (now held) 0 ⌝ }
+    requires { ⌜ Branches-asked (now ws) s (now sets) n q count ⌝ }
     ensures { λ k. ⌜ Is-taken (program (now (ws .entry)) s) (tables (now (ws .entry)) s)
         (now (sets .entry)) n q count k ⌝ }
 {
@@ -88,10 +81,8 @@ pub fn bodies_closed(
     count: usize,
     bits: usize,
 ) -> bool
-    requires { ⌜ Ready (now ws) s ⌝ }
-    requires { ⌜ Ends (program (now ws) s) (now afters) ⌝ }
-    requires { ⌜ i < s .states ⌝ }
-    requires { ⌜ Run (program (now ws) s) q count ⌝ }
+    requires { ⌜ Layout-ready (now ws) s (now afters) ⌝ }
+    requires { ⌜ (i < s .states) × Run (program (now ws) s) q count ⌝ }
     ensures { λ b. ⌜ b ≡
         bodies-closed (program (now (ws .entry)) s) (tables (now (ws .entry)) s)
         (state-at (tables (now (ws .entry)) s) i) bits (branch-rows (program (now (ws .entry)) s) count q) ⌝ }

@@ -29,9 +29,21 @@ pub record Bounds-table (n : ℕ) (entries : Columns) (count : ℕ) (limits : Li
 abbrev pub Blank : List ℕ → ℕ → Type 0
 Blank limits cells = (z : ℕ) → z < cells → getD limits z 0 ≡ 0
 
+-- room for so many ceilings of n counters, or lines, none of which stands there yet, and for where each begins
+pub record Bounds-room (n count : ℕ) (limits starts : List ℕ) : Type 0 where
+  pub cells : n * count ≤ length limits
+  pub blank : Blank limits (n * count)
+  pub firsts : count ≤ length starts
+
 -- nothing stands yet for ceiling k of so many, under n counters
 abbrev pub Unfilled : ℕ → ℕ → List ℕ → ℕ → Type 0
 Unfilled n ceilings limits k = (x : ℕ) → x < n → held limits ceilings k x ≡ 0
+
+-- it is one of so many, and has room
+pub record Ceiling-room (n ceilings : ℕ) (limits : List ℕ) (k : ℕ) : Type 0 where
+  pub below : k < ceilings
+  pub unfilled : Unfilled n ceilings limits k
+  pub cells : n * ceilings ≤ length limits
 
 -- ceiling k, whose entries stand from e on, has its limits, and the others are as before
 pub record Ceiling-filled (n : ℕ) (entries : Columns) (ceilings k e : ℕ) (before limits : List ℕ) : Type 0 where

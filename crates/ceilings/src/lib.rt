@@ -7,14 +7,14 @@ use ceilings_form::entries::entry_number;
 use model::OMEGA;
 use model::Sizes;
 ghost use mathlib.Core.Path.{_≡_};
-ghost use Prim.Native.Nat.{_+_, _*_, _≤_, _<_};
-ghost use lib.ListN.{length};
-ghost use Rattle.model.specs.Limits.{maxCounters, omega-limit};
+ghost use Prim.Native.Nat.{_+_, _≤_, _<_};
+ghost use Rattle.model.specs.Limits.{omega-limit};
 ghost use Rattle.model.specs.Ceilings.{ceiling-entries, ceilings-of, highest};
 ghost use Rattle.bits.specs.Bits.{Row};
 ghost use Rattle.ceilings_form.specs.Limits.{Form-of, In-form, Starts-table, ceiling-end, Stands};
 ghost use Rattle.ceilings_form.specs.Parts.{Whole, Part-held, part-entries};
-ghost use Rattle.ceilings.specs.Table.{held, Bounds-table, Limits-table, Blank, Unfilled, Ceiling-filled};
+ghost use Rattle.ceilings.specs.Table.{held, Bounds-table, Limits-table, Bounds-room};
+ghost use Rattle.ceilings.specs.Table.{Ceiling-room, Ceiling-filled};
 
 // The numbers of ceiling k of so many, whose entries stand from e on, into the table; gives the entry after them.
 fn fill_ceiling(
@@ -26,11 +26,8 @@ fn fill_ceiling(
     e: usize,
     limits: &mut [u16],
 ) -> usize
-    requires { ⌜ Part-held (now ws) part ⌝ }
-    requires { ⌜ k < count ⌝ }
-    requires { ⌜ Stands n (part-entries (now ws) part) e ⌝ }
-    requires { ⌜ Unfilled n count (now limits) k ⌝ }
-    requires { ⌜ n * count ≤ length (now limits) ⌝ }
+    requires { ⌜ Part-held (now ws) part × Stands n (part-entries (now ws) part) e ⌝ }
+    requires { ⌜ Ceiling-room n count (now limits) k ⌝ }
     ensures { λ r. ⌜ r ≡ ceiling-end n (part-entries (now (ws .entry)) part) e ⌝ }
     ensures { λ r. ⌜ Ceiling-filled n (part-entries (now (ws .entry)) part) count k e (now (limits .entry))
         (now (limits .exit)) ⌝ }
@@ -57,10 +54,8 @@ pub fn fill_bounds(
     limits: &mut [u16],
     starts: &mut [u16],
 )
-    requires { ⌜ Part-held (now ws) part ⌝ }
-    requires { ⌜ Form-of n (part-entries (now ws) part) count ⌝ }
-    requires { ⌜ Blank (now limits) (n * count) ⌝ }
-    requires { ⌜ (n * count ≤ length (now limits)) × (count ≤ length (now starts)) ⌝ }
+    requires { ⌜ Part-held (now ws) part × Form-of n (part-entries (now ws) part) count ⌝ }
+    requires { ⌜ Bounds-room n count (now limits) (now starts) ⌝ }
     ensures { λ _. ⌜ Bounds-table n (part-entries (now (ws .entry)) part) count (now (limits .exit)) ⌝ }
     ensures { λ _. ⌜ Starts-table n (part-entries (now (ws .entry)) part) count (now (starts .exit)) ⌝ }
 {
@@ -73,11 +68,8 @@ pub fn fill_bounds(
 
 // The limits of all ceilings, and where each begins.
 pub fn fill_limits(ws: &[u16], s: Sizes, n: usize, limits: &mut [u16], starts: &mut [u16])
-    requires { ⌜ Whole (now ws) s ⌝ }
-    requires { ⌜ n ≤ maxCounters ⌝ }
-    requires { ⌜ In-form (now ws) s n ⌝ }
-    requires { ⌜ Blank (now limits) (n * s .ceilings) ⌝ }
-    requires { ⌜ (n * s .ceilings ≤ length (now limits)) × (s .ceilings ≤ length (now starts)) ⌝ }
+    requires { ⌜ Whole (now ws) s × In-form (now ws) s n ⌝ }
+    requires { ⌜ Bounds-room n (s .ceilings) (now limits) (now starts) ⌝ }
     ensures { λ _. ⌜ Limits-table (ceilings-of (now (ws .entry)) s n) (now (limits .exit)) ⌝ }
     ensures { λ _. ⌜ Starts-table n (ceiling-entries (now (ws .entry)) s) (s .ceilings) (now (starts .exit)) ⌝ }
 {

@@ -5,7 +5,7 @@ use mathlib.Core.Bool.{Bool, true, false, _||_}
 use borrow.Author.Tests.{eq-eqb, ne-eqb}
 use Rattle.model.specs.Limits.{omega-limit}
 use Rattle.model.specs.Ceilings.{Ceiling-limits, highest}
-use Rattle.model.proofs.Logic.{true-false, or-first, or-second}
+use Rattle.model.proofs.Logic.{true-false}
 
 pub highest-omega : (b : Ceiling-limits) (x l : ℕ) → l ≡ b x → l ≡ omega-limit → omega-limit + 1 ≡ highest b x
 unfolding highest

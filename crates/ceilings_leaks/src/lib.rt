@@ -38,10 +38,9 @@ use system_totals::Totals;
 use system_totals::row_total;
 use system_totals::state_head;
 ghost use mathlib.Core.Path.{_≡_};
-ghost use mathlib.Core.Bool.{true, not};
+ghost use mathlib.Core.Bool.{not};
 ghost use Prim.Native.Nat.{_*_, _≤_, _<_};
 ghost use lib.ListN.{length, drop};
-ghost use Rattle.bits.specs.Bits.{Row};
 ghost use Rattle.model.specs.Words.{right};
 ghost use Rattle.model.specs.Rows.{program, tag};
 ghost use Rattle.model.specs.Tables.{tables};
@@ -49,14 +48,12 @@ ghost use Rattle.model.specs.Rules.{rules};
 ghost use Rattle.model.specs.Ceilings.{ceilings-of, leak-check};
 ghost use Rattle.model.specs.Verify.{answer};
 ghost use Rattle.lists.specs.Ready.{Ready};
-ghost use Rattle.model.specs.Counters.{counter-count};
 ghost use Rattle.system_letters.specs.Letters.{Class-letters, letter-width};
 ghost use Rattle.rules.specs.Derived.{Rule-room};
 ghost use Rattle.rule_tables.specs.Joined.{letter-from, Joined-tables};
 ghost use Rattle.kept_rules.specs.Kept.{Room-from, Kept-rules};
 ghost use Rattle.steps.specs.Steps.{effect-kind};
-ghost use Rattle.ceilings_covers.specs.Covers.{Beside, Left};
-ghost use Rattle.ceilings_letters.specs.Letters.{Held-set};
+ghost use Rattle.ceilings_letters.specs.Letters.{Under};
 ghost use Rattle.system_totals.specs.Lines.{Totalled};
 ghost use Rattle.ceilings_groups.specs.Groups.{Groups-upto};
 ghost use Rattle.ceilings_leaks.specs.Leaks.{Ceilings-ready, Rooms, Rules-seen};
@@ -189,16 +186,10 @@ fn rules_under(
     others: &mut [u16],
 ) -> Found
     requires { ⌜ Joined-tables (now ws) s (now narrow) (now fitting) (now names) (now letters) ⌝ }
-    requires { ⌜ (n ≡ counter-count (program (now ws) s) (tables (now ws) s)) × (i < s .states) ⌝ }
-    requires { ⌜ words ≡ letter-width (program (now ws) s) (tables (now ws) s) ⌝ }
-    requires { ⌜ Beside (now limits) (s .ceilings) n k (now holders) over (now near) ⌝ }
-    requires { ⌜ Left (now limits) (s .ceilings) n k i left ⌝ }
-    requires { ⌜ Row (now within) words 0 ⌝ }
-    requires { ⌜ (not (kept .all) ≡ true →
-        Held-set (now limits) (s .ceilings) n k (s .states) words (now within)) ⌝ }
-    requires { ⌜ Kept-rules (program (now ws) s) (tables (now ws) s) (s .states) kept (now «first_at») (now tos)
-        (now others) ⌝ }
-    requires { ⌜ Rule-room (now ws) s (now tos) (now others) ⌝ }
+    requires { ⌜ Under (now ws) s n k i words (now limits) (now holders) over (now near) left (not (kept .all))
+        (now within) ⌝ }
+    requires { ⌜ Rule-room (now ws) s (now tos) (now others) × Kept-rules (program (now ws) s) (tables (now ws) s)
+        (s .states) kept (now «first_at») (now tos) (now others) ⌝ }
     ensures { λ r. ⌜ Rules-seen (program (now (ws .entry)) s) (tables (now (ws .entry)) s) (now (limits .entry))
         (s .ceilings) n k i (now (tos .exit)) (now (others .exit)) (r .first) (r .end) ⌝ }
     ensures { λ _. ⌜ Kept-rules (program (now (ws .entry)) s) (tables (now (ws .entry)) s) (s .states) kept

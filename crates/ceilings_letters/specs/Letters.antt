@@ -11,13 +11,17 @@ use Rattle.masks.specs.Masks.{has}
 use Rattle.model.specs.Limits.{maxCounters}
 use Rattle.model.specs.declared.Sizes.{Sizes}
 use Rattle.model.specs.Index.{any}
-use Rattle.model.specs.Rows.{Program}
-use Rattle.model.specs.Tables.{Tables, state-at}
+use Rattle.model.specs.Rows.{Program, program}
+use Rattle.model.specs.Tables.{Tables, tables, state-at}
+use Rattle.model.specs.Counters.{counter-count}
+use Rattle.system_letters.specs.Letters.{letter-width}
 use Rattle.model.specs.Rules.{Rule, state-rules}
 use Rattle.model.specs.Ceilings.{highest}
 use Rattle.state_rules.specs.Within.{letter-passes, Asked-letters}
 use Rattle.ceilings.specs.Table.{held}
+use Rattle.ceilings_masks.specs.declared.Over.{Over}
 use Rattle.ceilings_masks.specs.Compared.{takes-more}
+use Rattle.ceilings_covers.specs.Covers.{Beside, Left}
 use Rattle.ceilings_groups.specs.Groups.{table-ceilings, escapes}
 
 -- what the letters of ceiling k are looked up in, and the set for them: a bit for each counter behind the states
@@ -36,6 +40,18 @@ is-held limits ceilings k x = not (eqb (held limits ceilings k x) 0)
 abbrev pub Held-set : List ℕ → ℕ → ℕ → ℕ → ℕ → ℕ → List ℕ → Type 0
 Held-set limits ceilings n k states words within =
     (y : ℕ) → states + y < n → member within words 0 y ≡ is-held limits ceilings k (states + y)
+
+-- state i under ceiling k of the n counters: what is known of ceiling k beside the others, which are left after one less
+-- at i, and, where it is wanted, the letters that ceiling k holds
+pub record Under (ws : List ℕ) (s : Sizes) (n k i words : ℕ) (limits holders : List ℕ) (over : Over) (near : List ℕ)
+    (left : Mask) (wanted : Bool) (within : List ℕ) : Type 0 where
+  pub counted : n ≡ counter-count (program ws s) (tables ws s)
+  pub state : i < s .states
+  pub width : words ≡ letter-width (program ws s) (tables ws s)
+  pub beside : Beside limits (s .ceilings) n k holders over near
+  pub remains : Left limits (s .ceilings) n k i left
+  pub row : Row within words 0
+  pub holds : wanted ≡ true → Held-set limits (s .ceilings) n k (s .states) words within
 
 -- the ceilings that hold one more than ceiling k at each of n counters stand in two tables, by whether it holds the
 -- counter

@@ -21,19 +21,15 @@ use sets::put;
 ghost use mathlib.Core.Path.{_≡_};
 ghost use mathlib.Core.Bool.{true};
 ghost use Prim.Native.Nat.{ℕ, _*_, _≤_, _<_};
-ghost use lib.ListN.{length};
 ghost use Rattle.bits.specs.Bits.{Row};
 ghost use Rattle.masks.specs.Masks.{has};
 ghost use Rattle.model.specs.Limits.{maxCounters};
 ghost use Rattle.model.specs.Rows.{program};
 ghost use Rattle.model.specs.Tables.{tables};
-ghost use Rattle.model.specs.Counters.{counter-count};
 ghost use Rattle.lists.specs.Ready.{Ready};
 ghost use Rattle.layout.specs.Tables.{Ends};
-ghost use Rattle.system_letters.specs.Letters.{letter-width};
 ghost use Rattle.ceilings_masks.specs.Compared.{takes-more};
-ghost use Rattle.ceilings_covers.specs.Covers.{Beside, Left};
-ghost use Rattle.ceilings_letters.specs.Letters.{Letters-room, is-held, Held-set, One-more, Open-set, Narrowed};
+ghost use Rattle.ceilings_letters.specs.Letters.{Under, Letters-room, is-held, Held-set, One-more, Open-set, Narrowed};
 
 // The letters that ceiling k holds, as a set, where they are asked for. Else nothing is promised of the set, nor ever
 // of bits behind the last letter: no one reads them.
@@ -139,15 +135,9 @@ pub fn asked_letters(
     within: &[u64],
     asked: &mut [u64],
 )
-    requires { ⌜ Ready (now ws) s ⌝ }
-    requires { ⌜ Ends (program (now ws) s) (now afters) ⌝ }
-    requires { ⌜ (n ≡ counter-count (program (now ws) s) (tables (now ws) s)) × (i < s .states) ⌝ }
-    requires { ⌜ words ≡ letter-width (program (now ws) s) (tables (now ws) s) ⌝ }
-    requires { ⌜ Beside (now limits) (s .ceilings) n k (now holders) over (now near) ⌝ }
-    requires { ⌜ Left (now limits) (s .ceilings) n k i left ⌝ }
+    requires { ⌜ Ready (now ws) s × Ends (program (now ws) s) (now afters) ⌝ }
+    requires { ⌜ Under (now ws) s n k i words (now limits) (now holders) over (now near) left wanted (now within) ⌝ }
     requires { ⌜ Letters-room s n k words (now limits) (now asked) ⌝ }
-    requires { ⌜ Row (now within) words 0 ⌝ }
-    requires { ⌜ (wanted ≡ true → Held-set (now limits) (s .ceilings) n k (s .states) words (now within)) ⌝ }
     ensures { λ _. ⌜ Narrowed (program (now (ws .entry)) s) (tables (now (ws .entry)) s) (now (limits .entry))
         (s .ceilings) n k i wanted (now (asked .exit)) ⌝ }
 {

@@ -14,7 +14,8 @@ use Rattle.model.specs.Counters.{counter-count}
 use Rattle.model.specs.Demands.{Within-limits}
 use Rattle.closure_sized.proofs.Opening.{product-most}
 use Rattle.rules.specs.Derived.{Rule-room}
-use Rattle.stages.specs.Scratch.{Bounds-room, Mask-room}
+use Rattle.ceilings.specs.Table.{Bounds-room}
+use Rattle.stages.specs.Scratch.{Mask-room}
 use Rattle.stages.proofs.Laying.{rule-room, bounds-room}
 
 -- no message has more limits

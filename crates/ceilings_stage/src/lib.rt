@@ -17,7 +17,8 @@ ghost use Rattle.rules.specs.Derived.{Rule-room};
 ghost use Rattle.rule_tables.specs.Joined.{Joined-tables};
 ghost use Rattle.system_space.specs.Space.{words-after};
 ghost use Rattle.stages.specs.Order.{below-ceilings};
-ghost use Rattle.stages.specs.Scratch.{Numbered, Bounds-room, Mask-room};
+ghost use Rattle.ceilings.specs.Table.{Bounds-room};
+ghost use Rattle.stages.specs.Scratch.{Numbered, Mask-room};
 
 // Refusals 11 to 14 over lent limits, sets of ceilings and lists of rules.
 pub fn ceilings_on(

@@ -47,6 +47,10 @@ module _ (s : Sizes) (i : ℕ) where
   pub safe-all : states-verdict s i ≡ Safe → i ≡ s .states
   safe-all h = elim (ℕ-discrete i (s .states)) [ yes z ↦ z | no z ↦ open-refuses _ (verdict-open (tables-at s) refl z ∙ h) ]
 
+-- a state that lacks something is not safe
+pub state-refuses : {A : Type 0} (s : Sizes) (i : ℕ) {v : Verdict} → v ≡ states-verdict s i → i < s .states → v ≡ Safe → A
+state-refuses s i e l z = let all = safe-all s i (sym e ∙ z) in absurd (omega arith)
+
 -- an opening entry is missing, or not
 module _ (ws : List ℕ) (s : Sizes) (x : Bool) (opened : x ≡ opening-closed (program ws s) (tables ws s)) where
   pub opening-missing : (b : ℕ) → b ≡ tables-at s → x ≡ false → Open b ≡ answer (open-check s (program ws s) (tables ws s))

@@ -15,11 +15,11 @@ use Rattle.lists.specs.Ready.{Ready}
 use Rattle.layout.specs.Tables.{Ends}
 use Rattle.positions.specs.Branches.{Branch-bits}
 use Rattle.values.specs.Values.{width, Empty, Room}
+use Rattle.matching_sets.specs.Sets.{Unfilled}
 use Rattle.matching_names.specs.Names.{Unfitted, Fitting-sets}
 
--- a word for each name and one behind, for each constructor, and for each row
-pub record Indexed (s : Sizes) (starts firsts nexts : List ℕ) : Type 0 where
-  pub names : s .names < length starts
+-- a word for each constructor, and for each row
+pub record Indexed (s : Sizes) (firsts nexts : List ℕ) : Type 0 where
   pub constructors : s .constructors ≤ length firsts
   pub rows : s .rows ≤ length nexts
 
@@ -29,26 +29,31 @@ pub record Cleared (s : Sizes) (flow mail may held : List ℕ) : Type 0 where
   pub flow-room : Room (width (s .rows)) (s .names) flow
   pub mail-empty : Empty (width (s .rows)) mail
   pub mail-room : Room (width (s .rows)) (s .names + 1) mail
-  pub may-empty : Empty (width (s .rows)) may
-  pub may-room : Room (width (s .rows)) (s .rows) may
-  pub held-empty : Empty (width (s .rows)) held
-  pub held-room : Room (width (s .rows)) (s .rows) held
+  pub patterns : Unfilled s may held
 
 -- a word for each row, all of them 0
 pub record Unsettled (s : Sizes) (codes : List ℕ) : Type 0 where
   pub room : s .rows ≤ length codes
   pub none : (r : ℕ) → getD codes r 0 ≡ 0
 
--- what refusal 8 asks of the tables that later checks read, where it makes its own; room is that for branches
-abbrev pub Openable : List ℕ → Sizes → List ℕ → List ℕ → List ℕ → ℕ → Type 0
-Openable ws s afters starts fitting room =
-    Ready ws s × (Ends (program ws s) afters × (Unfitted (s .names) (s .rows) fitting
-    × ((s .names < length starts) × (s .states ≤ room))))
+-- the tables that refusal 8 alone needs
+pub record Open-scratch (s : Sizes) (flow mail firsts nexts may held codes : List ℕ) : Type 0 where
+  pub indexed : Indexed s firsts nexts
+  pub cleared : Cleared s flow mail may held
+  pub unsettled : Unsettled s codes
+
+-- what refusal 8 asks of the message and of the tables that later checks read, where it makes its own; room is that for
+-- branches
+pub record Openable (ws : List ℕ) (s : Sizes) (afters starts fitting : List ℕ) (room : ℕ) : Type 0 where
+  pub ready : Ready ws s
+  pub layout : Ends (program ws s) afters
+  pub unfitted : Unfitted (s .names) (s .rows) fitting
+  pub names : s .names < length starts
+  pub states : s .states ≤ room
 
 -- what it answers, and that after none these tables are filled
-abbrev pub Opened : List ℕ → Sizes → List ℕ → List ℕ → List ℕ → Verdict → Type 0
-Opened ws s starts fitting branches v =
-    (v ≡ answer (open-check s (program ws s) (tables ws s)))
-    × ((v ≡ Safe → Starts (tables ws s .flow) (s .names) starts)
-    × ((v ≡ Safe → Fitting-sets (program ws s) (tables ws s) fitting)
-    × (v ≡ Safe → Branch-bits (program ws s) (tables ws s) branches)))
+pub record Opened (ws : List ℕ) (s : Sizes) (starts fitting branches : List ℕ) (v : Verdict) : Type 0 where
+  pub says : v ≡ answer (open-check s (program ws s) (tables ws s))
+  pub begins : v ≡ Safe → Starts (tables ws s .flow) (s .names) starts
+  pub fits : v ≡ Safe → Fitting-sets (program ws s) (tables ws s) fitting
+  pub bits : v ≡ Safe → Branch-bits (program ws s) (tables ws s) branches

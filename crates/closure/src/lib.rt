@@ -20,21 +20,13 @@ ghost use lib.ListN.{length};
 ghost use Rattle.model.specs.Limits.{present};
 ghost use Rattle.model.specs.Rows.{program};
 ghost use Rattle.model.specs.Tables.{tables, state-at};
-ghost use Rattle.model.specs.declared.Verdict.the-variants.{Safe};
-ghost use Rattle.model.specs.Closed.{open-check};
-ghost use Rattle.model.specs.Verify.{answer};
 ghost use Rattle.model.specs.Demands.{Within-limits};
-ghost use Rattle.lists.specs.Lists.{Starts};
-ghost use Rattle.lists.specs.Ready.{Ready};
-ghost use Rattle.layout.specs.Tables.{Ends};
-ghost use Rattle.positions.specs.Branches.{Branch-bits};
-ghost use Rattle.values.specs.Values.{Flow-sets, Mail-sets};
-ghost use Rattle.matching.specs.Patterns.{Matches};
-ghost use Rattle.matching_names.specs.Names.{Unfitted, Fitting-sets};
+ghost use Rattle.branches.specs.Taken.{Layout-ready};
+ghost use Rattle.settled.specs.Settled.{Closure-ready};
 ghost use Rattle.codes.specs.Codes.{Codes};
 ghost use Rattle.stated.specs.Stated.{Stated};
 ghost use Rattle.closure.specs.Told.{first-open, Told, states-verdict};
-ghost use Rattle.closure.specs.Lent.{Indexed, Cleared, Unsettled, Opened};
+ghost use Rattle.closure.specs.Lent.{Indexed, Cleared, Open-scratch, Openable, Opened};
 
 // The tables that the states are told by: where each name's entries begin, the sets of names and classes, the sets of
 // constructor patterns.
@@ -50,15 +42,10 @@ fn fill_tables(
     may: &mut [u64],
     held: &mut [u64],
 )
-    requires { ⌜ Ready (now ws) s ⌝ }
-    requires { ⌜ Ends (program (now ws) s) (now afters) ⌝ }
-    requires { ⌜ Indexed s (now starts) (now firsts) (now nexts) ⌝ }
-    requires { ⌜ Cleared s (now flow) (now mail) (now may) (now held) ⌝ }
-    ensures { λ _. ⌜ Starts (tables (now (ws .entry)) s .flow) (s .names) (now (starts .exit)) ⌝ }
-    ensures { λ _. ⌜ Flow-sets (program (now (ws .entry)) s) (tables (now (ws .entry)) s) (now (flow .exit)) ⌝ }
-    ensures { λ _. ⌜ Mail-sets (program (now (ws .entry)) s) (tables (now (ws .entry)) s) (now (mail .exit)) ⌝ }
-    ensures { λ _. ⌜ Matches (program (now (ws .entry)) s) (tables (now (ws .entry)) s)
-        (now (may .exit)) (now (held .exit)) 0 ⌝ }
+    requires { ⌜ Layout-ready (now ws) s (now afters) × (s .names < length (now starts)) ⌝ }
+    requires { ⌜ Indexed s (now firsts) (now nexts) × Cleared s (now flow) (now mail) (now may) (now held) ⌝ }
+    ensures { λ _. ⌜ Closure-ready (now (ws .entry)) s (now (afters .entry)) (now (starts .exit)) (now (flow .exit))
+        (now (mail .exit)) (now (may .exit)) (now (held .exit)) ⌝ }
 {
     fill_starts(ws, s, starts);
     fill_flow(ws, s, flow);
@@ -81,14 +68,8 @@ fn settled_bits(
     at: &[u16],
     i: usize,
 ) -> usize
-    requires { ⌜ Ready (now ws) s ⌝ }
-    requires { ⌜ Ends (program (now ws) s) (now afters) ⌝ }
-    requires { ⌜ Starts (tables (now ws) s .flow) (s .names) (now starts) ⌝ }
-    requires { ⌜ Flow-sets (program (now ws) s) (tables (now ws) s) (now flow) ⌝ }
-    requires { ⌜ Mail-sets (program (now ws) s) (tables (now ws) s) (now mail) ⌝ }
-    requires { ⌜ Matches (program (now ws) s) (tables (now ws) s) (now may) (now held) 0 ⌝ }
-    requires { ⌜ Codes (program (now ws) s) (tables (now ws) s) (now codes) ⌝ }
-    requires { ⌜ i < s .states ⌝ }
+    requires { ⌜ Closure-ready (now ws) s (now afters) (now starts) (now flow) (now mail) (now may) (now held) ⌝ }
+    requires { ⌜ Codes (program (now ws) s) (tables (now ws) s) (now codes) × (i < s .states) ⌝ }
     ensures { λ x. ⌜ Stated (program (now (ws .entry)) s) (tables (now (ws .entry)) s)
         (state-at (tables (now (ws .entry)) s) i) x ⌝ }
     ensures { λ x. ⌜ Codes (program (now (ws .entry)) s) (tables (now (ws .entry)) s) (now (codes .exit)) ⌝ }
@@ -112,14 +93,9 @@ fn first_open(
     at: &mut [u16],
     branches: &mut [u16],
 ) -> usize
-    requires { ⌜ Ready (now ws) s ⌝ }
-    requires { ⌜ Ends (program (now ws) s) (now afters) ⌝ }
-    requires { ⌜ Starts (tables (now ws) s .flow) (s .names) (now starts) ⌝ }
-    requires { ⌜ Flow-sets (program (now ws) s) (tables (now ws) s) (now flow) ⌝ }
-    requires { ⌜ Mail-sets (program (now ws) s) (tables (now ws) s) (now mail) ⌝ }
-    requires { ⌜ Matches (program (now ws) s) (tables (now ws) s) (now may) (now held) 0 ⌝ }
-    requires { ⌜ s .states ≤ length (now branches) ⌝ }
-    requires { ⌜ Codes (program (now ws) s) (tables (now ws) s) (now codes) ⌝ }
+    requires { ⌜ Closure-ready (now ws) s (now afters) (now starts) (now flow) (now mail) (now may) (now held) ⌝ }
+    requires { ⌜ (s .states ≤ length (now branches))
+        × Codes (program (now ws) s) (tables (now ws) s) (now codes) ⌝ }
     ensures { λ i. ⌜ (i ≡ first-open (program (now (ws .entry)) s) (tables (now (ws .entry)) s)) × (i ≤ s .states) ⌝ }
     ensures { λ i. ⌜ Told (program (now (ws .entry)) s) (tables (now (ws .entry)) s) (now (branches .exit)) i ⌝ }
 {
@@ -164,13 +140,8 @@ pub fn open_check(
     codes: &mut [u32],
     branches: &mut [u16],
 ) -> Verdict
-    requires { ⌜ Ready (now ws) s ⌝ }
-    requires { ⌜ Ends (program (now ws) s) (now afters) ⌝ }
-    requires { ⌜ Indexed s (now starts) (now firsts) (now nexts) ⌝ }
-    requires { ⌜ Cleared s (now flow) (now mail) (now may) (now held) ⌝ }
-    requires { ⌜ Unfitted (s .names) (s .rows) (now fitting) ⌝ }
-    requires { ⌜ s .states ≤ length (now branches) ⌝ }
-    requires { ⌜ Unsettled s (now codes) ⌝ }
+    requires { ⌜ Openable (now ws) s (now afters) (now starts) (now fitting) (length (now branches)) ⌝ }
+    requires { ⌜ Open-scratch s (now flow) (now mail) (now firsts) (now nexts) (now may) (now held) (now codes) ⌝ }
     ensures { λ v. ⌜ Opened (now (ws .entry)) s (now (starts .exit)) (now (fitting .exit)) (now (branches .exit)) v ⌝ }
 {
     if !opening_closed(ws, s, afters) {

@@ -4,19 +4,14 @@ use native.Mathlib.Nat.{mul-le-mul-left, mul-le-mul-right}
 use native.Mathlib.Omega.{arith}
 use mathlib.Core.Path.{ap, _∙_}
 use mathlib.Core.List.{List}
-use lib.ListN.{length}
 use Rattle.model.specs.declared.Sizes.{Sizes}
-use Rattle.model.specs.Limits.{maxConstructors}
-use Rattle.model.specs.Rows.{program}
-use Rattle.lists.specs.Ready.{Ready}
-use Rattle.layout.specs.Tables.{Ends}
+use Rattle.model.specs.Limits.{maxConstructors, present}
+use Rattle.model.specs.Demands.{Within-limits}
 use Rattle.bits.specs.Bits.{bit, member}
 use Rattle.bits.proofs.Bits.{bit-zero}
 use Rattle.rooms.specs.Cleared.{Cleared}
 use Rattle.values.specs.Values.{width, Empty, Room}
-use Rattle.closure.specs.Lent as lent
-use Rattle.closure.specs.Lent.{Indexed, Unsettled, Openable}
-use Rattle.matching_names.specs.Names.{Unfitted}
+use Rattle.closure.specs.Lent.{Open-scratch}
 
 -- a cleared table holds empty sets
 pub empty-sets : (n w : ℕ) (t : List ℕ) → Cleared n t → Empty w t
@@ -38,31 +33,24 @@ unfolding width
 width-most r R h = omega arith
 
 -- what refusal 8 asks of cleared tables: room for a message of no more than R rows and N names
-pub lends : (ws : List ℕ) (s : Sizes) (afters starts fitting : List ℕ) (room R N a b d e : ℕ) (flow mail firsts nexts may held codes : List ℕ) → Openable ws s afters starts fitting room → s .rows ≤ R → s .names ≤ N → Cleared a flow → Cleared a mail → Cleared b firsts → Cleared d nexts → Cleared e may → Cleared e held → Cleared d codes → (N + 1) * width R ≤ a → maxConstructors ≤ b → R * width R ≤ e → R ≤ d → Ready ws s × (Ends (program ws s) afters × (Indexed s starts firsts nexts × (lent.Cleared s flow mail may held × (Unfitted (s .names) (s .rows) fitting × ((s .states ≤ room) × Unsettled s codes)))))
-lends ws s afters starts fitting room R N a b d e flow mail firsts nexts may held codes (ready, (ends, (fits, tables))) r n l m f x y z o am bc er rd =
-    let w = width-most (s .rows) R r in (
-      ready,
-      (
-        ends,
-        (
-          record {
-            names = tables .0;
-            constructors = let q = f .room in omega (arith, ready .limits .constructors);
-            rows = let q = x .room in omega arith;
-          },
-          (
-            record {
-              flow-empty = empty-sets a _ flow l;
-              flow-room = sets-fit (s .names) _ (N + 1) (width R) a flow l (omega arith) w am;
-              mail-empty = empty-sets a _ mail m;
-              mail-room = sets-fit (s .names + 1) _ (N + 1) (width R) a mail m (omega arith) w am;
-              may-empty = empty-sets e _ may y;
-              may-room = sets-fit (s .rows) _ R (width R) e may y r w er;
-              held-empty = empty-sets e _ held z;
-              held-room = sets-fit (s .rows) _ R (width R) e held z r w er;
-            },
-            (fits, (tables .1, record { room = let q = o .room in omega arith; none = o .zero })),
-          ),
-        ),
-      ),
-    )
+pub lends : (s : Sizes) (R N a b d e : ℕ) (flow mail firsts nexts may held codes : List ℕ) → Within-limits present s → s .rows ≤ R → s .names ≤ N → Cleared a flow → Cleared a mail → Cleared b firsts → Cleared d nexts → Cleared e may → Cleared e held → Cleared d codes → (N + 1) * width R ≤ a → maxConstructors ≤ b → R * width R ≤ e → R ≤ d → Open-scratch s flow mail firsts nexts may held codes
+lends s R N a b d e flow mail firsts nexts may held codes limits r n l m f x y z o am bc er rd =
+    let w = width-most (s .rows) R r in record {
+      indexed = record {
+        constructors = let q = f .room in omega (arith, limits .constructors);
+        rows = let q = x .room in omega arith;
+      };
+      cleared = record {
+        flow-empty = empty-sets a _ flow l;
+        flow-room = sets-fit (s .names) _ (N + 1) (width R) a flow l (omega arith) w am;
+        mail-empty = empty-sets a _ mail m;
+        mail-room = sets-fit (s .names + 1) _ (N + 1) (width R) a mail m (omega arith) w am;
+        patterns = record {
+          may-room = sets-fit (s .rows) _ R (width R) e may y r w er;
+          held-room = sets-fit (s .rows) _ R (width R) e held z r w er;
+          may-empty = empty-sets e _ may y;
+          held-empty = empty-sets e _ held z;
+        };
+      };
+      unsettled = record { room = let q = o .room in omega arith; none = o .zero };
+    }

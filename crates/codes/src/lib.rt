@@ -5,12 +5,7 @@ ghost use mathlib.Core.Path.{_≡_};
 ghost use Prim.Native.Nat.{_<_};
 ghost use Rattle.model.specs.Rows.{program};
 ghost use Rattle.model.specs.Tables.{tables};
-ghost use Rattle.lists.specs.Lists.{Starts};
-ghost use Rattle.lists.specs.Ready.{Ready};
-ghost use Rattle.layout.specs.Tables.{Ends};
-ghost use Rattle.values.specs.Values.{Flow-sets, Mail-sets};
-ghost use Rattle.matching.specs.Patterns.{Matches};
-ghost use Rattle.settled.specs.Settled.{Settled};
+ghost use Rattle.settled.specs.Settled.{Closure-ready, Settled};
 ghost use Rattle.codes.specs.Codes.{Codes};
 
 // What the head at row r asks: as it is kept, else settled and kept.
@@ -26,14 +21,8 @@ pub fn code_at(
     codes: &mut [u32],
     r: usize,
 ) -> usize
-    requires { ⌜ Ready (now ws) s ⌝ }
-    requires { ⌜ Ends (program (now ws) s) (now afters) ⌝ }
-    requires { ⌜ Starts (tables (now ws) s .flow) (s .names) (now starts) ⌝ }
-    requires { ⌜ Flow-sets (program (now ws) s) (tables (now ws) s) (now flow) ⌝ }
-    requires { ⌜ Mail-sets (program (now ws) s) (tables (now ws) s) (now mail) ⌝ }
-    requires { ⌜ Matches (program (now ws) s) (tables (now ws) s) (now may) (now held) 0 ⌝ }
-    requires { ⌜ Codes (program (now ws) s) (tables (now ws) s) (now codes) ⌝ }
-    requires { ⌜ r < s .rows ⌝ }
+    requires { ⌜ Closure-ready (now ws) s (now afters) (now starts) (now flow) (now mail) (now may) (now held) ⌝ }
+    requires { ⌜ Codes (program (now ws) s) (tables (now ws) s) (now codes) × (r < s .rows) ⌝ }
     ensures { λ k. ⌜ Settled (program (now (ws .entry)) s) (tables (now (ws .entry)) s) r k ⌝ }
     ensures { λ k. ⌜ Codes (program (now (ws .entry)) s) (tables (now (ws .entry)) s) (now (codes .exit)) ⌝ }
 {

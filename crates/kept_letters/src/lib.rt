@@ -17,16 +17,14 @@ use program::rows::tag;
 use system_letters::LETTER_WORDS;
 ghost use mathlib.Core.Path.{_≡_};
 ghost use Prim.Native.Nat.{_+_, _-_, _≤_, _<_};
-ghost use Rattle.model.specs.Limits.{maxCounters, maxDepth};
+ghost use Rattle.model.specs.Limits.{maxDepth};
 ghost use Rattle.model.specs.Rows.{program, tag};
 ghost use Rattle.model.specs.Tables.{tables};
-ghost use Rattle.model.specs.Counters.{counter-count};
-ghost use Rattle.layout.specs.Tables.{Ends};
 ghost use Rattle.matching.specs.Patterns.{Pattern};
-ghost use Rattle.system_letters.specs.Letters.{Class-letters, Letter-sets};
+ghost use Rattle.system_letters.specs.Letters.{Letter-sets};
 ghost use Rattle.rules.specs.Derived.{Reads};
-ghost use Rattle.pattern_heads.specs.Fitting.{Match-tables};
-ghost use Rattle.branch_letters.specs.Kept.{Owners-room};
+ghost use Rattle.pattern_letters.specs.Tables.{Pattern-tables};
+ghost use Rattle.branch_letters.specs.Kept.{Owners-room, Read-tables};
 
 // The state before x, 0 where there is none.
 fn before(x: usize) -> usize
@@ -49,14 +47,8 @@ fn keep_branch(
     x: usize,
     letters: &mut [u64],
 )
-    requires { ⌜ Match-tables (now ws) s w (now fitting) (now names) ⌝ }
-    requires { ⌜ Ends (program (now ws) s) (now afters) ⌝ }
-    requires { ⌜ Class-letters (program (now ws) s) (tables (now ws) s) (now «letter_at») ⌝ }
-    requires { ⌜ counter-count (program (now ws) s) (tables (now ws) s) ≤ maxCounters ⌝ }
-    requires { ⌜ c ≤ s .rows ⌝ }
-    requires { ⌜ Pattern (program (now ws) s) maxDepth q ⌝ }
-    requires { ⌜ Letter-sets (program (now ws) s) (tables (now ws) s) (now letters) ⌝ }
-    requires { ⌜ Reads (program (now ws) s) (tables (now ws) s) (now letters) ⌝ }
+    requires { ⌜ Read-tables (now ws) s (now afters) w (now fitting) (now names) (now «letter_at») (now letters) ⌝ }
+    requires { ⌜ (c ≤ s .rows) × Pattern (program (now ws) s) maxDepth q ⌝ }
     ensures { λ _. ⌜ Letter-sets (program (now (ws .entry)) s) (tables (now (ws .entry)) s) (now (letters .exit)) ⌝ }
     ensures { λ _. ⌜ Reads (program (now (ws .entry)) s) (tables (now (ws .entry)) s) (now (letters .exit)) ⌝ }
 {
@@ -101,14 +93,8 @@ fn keep_receive(
     r: usize,
     letters: &mut [u64],
 )
-    requires { ⌜ Match-tables (now ws) s w (now fitting) (now names) ⌝ }
-    requires { ⌜ Ends (program (now ws) s) (now afters) ⌝ }
-    requires { ⌜ Class-letters (program (now ws) s) (tables (now ws) s) (now «letter_at») ⌝ }
-    requires { ⌜ counter-count (program (now ws) s) (tables (now ws) s) ≤ maxCounters ⌝ }
-    requires { ⌜ tag (program (now ws) s) r ≡ 9 ⌝ }
-    requires { ⌜ i < s .states ⌝ }
-    requires { ⌜ Letter-sets (program (now ws) s) (tables (now ws) s) (now letters) ⌝ }
-    requires { ⌜ Reads (program (now ws) s) (tables (now ws) s) (now letters) ⌝ }
+    requires { ⌜ Read-tables (now ws) s (now afters) w (now fitting) (now names) (now «letter_at») (now letters) ⌝ }
+    requires { ⌜ (i < s .states) × (tag (program (now ws) s) r ≡ 9) ⌝ }
     ensures { λ _. ⌜ Letter-sets (program (now (ws .entry)) s) (tables (now (ws .entry)) s) (now (letters .exit)) ⌝ }
     ensures { λ _. ⌜ Reads (program (now (ws .entry)) s) (tables (now (ws .entry)) s) (now (letters .exit)) ⌝ }
 {
@@ -148,11 +134,7 @@ pub fn fill_reads(
     letter_at: &[u16],
     letters: &mut [u64],
 )
-    requires { ⌜ Match-tables (now ws) s w (now fitting) (now names) ⌝ }
-    requires { ⌜ Ends (program (now ws) s) (now afters) ⌝ }
-    requires { ⌜ Class-letters (program (now ws) s) (tables (now ws) s) (now «letter_at») ⌝ }
-    requires { ⌜ counter-count (program (now ws) s) (tables (now ws) s) ≤ maxCounters ⌝ }
-    requires { ⌜ Letter-sets (program (now ws) s) (tables (now ws) s) (now letters) ⌝ }
+    requires { ⌜ Pattern-tables (now ws) s (now afters) w (now fitting) (now names) (now «letter_at») (now letters) ⌝ }
     requires { ⌜ Owners-room (program (now ws) s) (tables (now ws) s) (now letters) ⌝ }
     ensures { λ _. ⌜ Letter-sets (program (now (ws .entry)) s) (tables (now (ws .entry)) s) (now (letters .exit)) ⌝ }
     ensures { λ _. ⌜ Reads (program (now (ws .entry)) s) (tables (now (ws .entry)) s) (now (letters .exit)) ⌝ }

@@ -20,7 +20,7 @@ use Rattle.rules.proofs.Gather.{gather-same}
 use Rattle.rule_tables.specs.Joined.{Same-below}
 use Rattle.rule_tables.proofs.Joining.{put-rest}
 use Rattle.kept_rules.specs.declared.Kept.{Kept}
-use Rattle.state_rules.specs.Within.{Rules-within}
+use Rattle.rules.specs.Within.{Rules-within}
 use Rattle.kept_rules.specs.Kept.{Room-from, Rules-from, Rules-at, Rules-asked, Kept-upto, Kept-rules}
 
 lent-rest : (a : ℕ) (xs : List ℕ) → take (length xs - a) (drop a xs) ≡ drop a xs

@@ -13,7 +13,7 @@ use Rattle.model.specs.Tables.{Tables, state-at}
 use Rattle.model.specs.Rules.{state-rules}
 use Rattle.rules.specs.Listed.{State-rules, listed-rule}
 use Rattle.rules.specs.Derived.{Rule-room}
-use Rattle.state_rules.specs.Within.{only-passing}
+use Rattle.rules.specs.Within.{only-passing}
 use Rattle.kept_rules.specs.declared.Kept.{Kept}
 
 -- from word `first` on the two lists have room for the rules of any state

@@ -14,7 +14,7 @@ ghost use Rattle.rules.specs.Derived.{Rule-room};
 ghost use Rattle.rule_tables.specs.Joined.{Joined-tables, Same-below};
 ghost use Rattle.bits.specs.Bits.{Row};
 ghost use Rattle.system_letters.specs.Letters.{letter-width};
-ghost use Rattle.state_rules.specs.Within.{Asked-letters};
+ghost use Rattle.rules.specs.Within.{Asked-letters};
 ghost use Rattle.kept_rules.specs.Kept.{Room-from, Rules-from, Rules-asked, Kept-rules};
 
 // Whether the rules of all states so far are kept, and up to where in the lists.

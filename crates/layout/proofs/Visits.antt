@@ -13,7 +13,6 @@ use Rattle.model.specs.Rows.{Program, size, tag, num, kind, is-head, Item, cons
 use Rattle.model.specs.Scopes.{binds, uses}
 use Rattle.model.proofs.Logic.{test, true-false, and-left, and-right, or-cases, or-left, or-right}
 use Rattle.model.proofs.Reader.{past-wrong, past-row, after-past, by-read, by-option, first-wrong-none}
-use Rattle.model.proofs.Heads.{head-between}
 use Rattle.program.specs.Rows.{from}
 use Rattle.program.proofs.Reading.{from-none, from-stop, from-go, from-append, from-append-wrong}
 

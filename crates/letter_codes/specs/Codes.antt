@@ -2,14 +2,18 @@
 use Prim.Native.Nat.{ℕ, _+_, _≤_, _<_}
 use mathlib.Core.Path.{_≡_}
 use mathlib.Core.Bool.{true, false}
-use mathlib.Core.List.{List}
+use mathlib.Core.List.{List, []}
 use lib.ListN.{length, getD}
 use lib.Dec.{leb}
-use Rattle.model.specs.Words.{right}
+use Rattle.model.specs.declared.Sizes.{Sizes}
+use Rattle.model.specs.Limits.{maxCounters}
+use Rattle.model.specs.Words.{Columns, right}
 use Rattle.model.specs.Rows.{Program}
 use Rattle.model.specs.Tables.{Tables}
 use Rattle.model.specs.Counters.{letter-count}
+use Rattle.lists.specs.Lists.{Ascending, range-from}
 use Rattle.system_letters.specs.Letters.{letter-at}
+use Rattle.ascending.specs.Numbers.{Room}
 use Rattle.value_letters.specs.Letters.{letter-code, Allowed}
 
 -- word y is the number of letter y
@@ -27,3 +31,20 @@ pub record Allowed-in (p : Program) (t : Tables) (from to x : ℕ) : Type 0 wher
   pub behind : from ≤ entry
   pub below : entry < to
   pub allowed : Allowed p t (right (t .mail) entry) x
+
+-- mail entries, and room for the numbers of the letters that their values allow
+pub record Entries-room (s : Sizes) (from to most n : ℕ) (codes : List ℕ) : Type 0 where
+  pub order : from ≤ to
+  pub upto : to ≤ s .mails
+  pub room : Room most n n codes
+
+-- the entries ascend, and entry j is not behind the first of those that begin with a or more
+pub record Not-behind (c : Columns) (a j : ℕ) : Type 0 where
+  pub ascending : Ascending c []
+  pub upto : j ≤ range-from c a
+
+-- room for where the letters of each class begin, and for the numbers of one letter more than the most
+pub record Codes-room (s : Sizes) (most : ℕ) (letter-at codes : List ℕ) : Type 0 where
+  pub few : most ≤ maxCounters
+  pub starts : s .rows + 1 < length letter-at
+  pub numbers : most < length codes

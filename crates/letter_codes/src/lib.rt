@@ -9,19 +9,18 @@ use model::Verdict;
 use parts::tables_at;
 use value_letters::add_value;
 ghost use mathlib.Core.Path.{_≡_};
-ghost use mathlib.Core.List.{[]};
-ghost use Prim.Native.Nat.{_+_, _≤_, _<_};
-ghost use lib.ListN.{length};
+ghost use Prim.Native.Nat.{_≤_};
 ghost use Rattle.model.specs.Limits.{present, maxCounters};
 ghost use Rattle.model.specs.Rows.{program};
 ghost use Rattle.model.specs.Tables.{tables};
 ghost use Rattle.model.specs.Counters.{letter-count, counter-check};
 ghost use Rattle.model.specs.Verify.{answer};
-ghost use Rattle.lists.specs.Lists.{Ascending, listed, Held, range-from};
+ghost use Rattle.lists.specs.Lists.{listed, Held, range-from};
 ghost use Rattle.lists.specs.Ready.{Ready};
-ghost use Rattle.system_letters.specs.Letters.{Name-heads, Class-letters};
-ghost use Rattle.ascending.specs.Numbers.{Room, Added};
-ghost use Rattle.letter_codes.specs.Codes.{Coded, capped, Allowed-in};
+ghost use Rattle.system_letters.specs.Letters.{Class-letters};
+ghost use Rattle.ascending.specs.Numbers.{Added};
+ghost use Rattle.value_letters.specs.Letters.{Heads-known};
+ghost use Rattle.letter_codes.specs.Codes.{Coded, capped, Allowed-in, Not-behind, Entries-room, Codes-room};
 
 // The letters that the values of the mail entries first..to allow, ascending, from word n on; gives where they end.
 fn add_entries(
@@ -34,10 +33,8 @@ fn add_entries(
     n: usize,
     codes: &mut [u64],
 ) -> usize
-    requires { ⌜ Ready (now ws) s ⌝ }
-    requires { ⌜ Name-heads (program (now ws) s) (tables (now ws) s) (now names) ⌝ }
-    requires { ⌜ (first ≤ to) × (to ≤ s .mails) ⌝ }
-    requires { ⌜ Room most n n (now codes) ⌝ }
+    requires { ⌜ Heads-known (now ws) s (now names) ⌝ }
+    requires { ⌜ Entries-room s first to most n (now codes) ⌝ }
     ensures { λ m. ⌜ Added
         (Allowed-in (program (now (ws .entry)) s) (tables (now (ws .entry)) s) first to)
         most n n (now (codes .entry)) m (now (codes .exit)) ⌝ }
@@ -54,8 +51,7 @@ fn add_entries(
 // Where the entries that begin with a stand, from entry j on, before which none does.
 fn start_from(ws: &[u16], l: Span, a: usize, j: usize) -> usize
     requires { ⌜ Held (now ws) l ⌝ }
-    requires { ⌜ Ascending (listed (now ws) l) [] ⌝ }
-    requires { ⌜ j ≤ range-from (listed (now ws) l) a ⌝ }
+    requires { ⌜ Not-behind (listed (now ws) l) a j ⌝ }
     ensures { λ e. ⌜ e ≡ range-from (listed (now (ws .entry)) l) a ⌝ }
 {
     let mut e = j;
@@ -78,10 +74,8 @@ pub fn fill_codes(
     letter_at: &mut [u16],
     codes: &mut [u64],
 ) -> usize
-    requires { ⌜ Ready (now ws) s ⌝ }
-    requires { ⌜ Name-heads (program (now ws) s) (tables (now ws) s) (now names) ⌝ }
-    requires { ⌜ (most ≤ maxCounters) × (most < length (now codes)) ⌝ }
-    requires { ⌜ s .rows + 1 < length (now «letter_at») ⌝ }
+    requires { ⌜ Heads-known (now ws) s (now names) ⌝ }
+    requires { ⌜ Codes-room s most (now «letter_at») (now codes) ⌝ }
     ensures { λ n. ⌜ n ≡ capped most (letter-count (program (now (ws .entry)) s) (tables (now (ws .entry)) s)) ⌝ }
     ensures { λ n. ⌜ (n ≤ most →
         Class-letters (program (now (ws .entry)) s) (tables (now (ws .entry)) s) (now («letter_at» .exit))) ⌝ }

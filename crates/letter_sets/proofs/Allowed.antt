@@ -6,7 +6,6 @@ use native.Mathlib.Decide.{decLt}
 use mathlib.Core.Path.{_≡_, refl, sym, _∙_, ap, subst}
 use mathlib.Core.Bool.{Bool, true, false}
 use mathlib.Core.List.{List, [], _∷_, map, List·Memᴰ, List·Memᴰ·head, Memᴰ·map}
-use mathlib.Core.Option.{some}
 use lib.ListN.{length, getD, drop, List·getD-eq-default}
 use lib.Dec.{eqb}
 use borrow.Author.Tests.{eqb-true, eqb-false, eq-eqb}
@@ -28,10 +27,10 @@ use Rattle.model.proofs.Numbering.Counters.{tag-inside, plain-head}
 use Rattle.model.proofs.Parse.Lengths.{built-below}
 use Rattle.lists.specs.Ready.{Ready}
 use Rattle.lists.proofs.Facts.{rows-fit}
-use Rattle.system_letters.specs.Letters.{Name-heads, letter-at}
+use Rattle.system_letters.specs.Letters.{letter-at}
 use Rattle.system_letters.proofs.Tables.{head-low, built-low}
 use Rattle.letter_codes.specs.Codes.{Coded}
-use Rattle.value_letters.specs.Letters.{value-arity}
+use Rattle.value_letters.specs.Letters.{Heads-known, value-arity}
 use Rattle.value_letters.proofs.Values.{arity-built, arity-plain, value-arguments, member-head}
 use Rattle.letter_sets.specs.Sets.{digit-of, code-allowed}
 use Rattle.letter_sets.proofs.Digits.{letter-digit}
@@ -119,7 +118,7 @@ module _ {ws : List ℕ} {s : Sizes} (h : Ready ws s) where
   coded-digit codes k y l i b =
       ap (λ c. digit-of c i) (k .code y l) ∙ letter-digit (letter-at p t y) i (λ j. omega (arith, letter-low y l j, h .limits .constructors)) b
 
-  module _ (names : List ℕ) (g : Name-heads p t names) where
+  module _ (names : List ℕ) (g : Heads-known ws s names) where
     module _ (codes : List ℕ) (k : Coded p t codes) (y : ℕ) (l : y < letter-count p t) where
       abbrev code : ℕ
       code = getD codes y 0
@@ -136,7 +135,7 @@ module _ {ws : List ℕ} {s : Sizes} (h : Ready ws s) where
           (eq-eqb _ _ (coded-digit codes k y l 0 (omega arith) ∙ first-digit v (letter-at p t y) (f .letter)))
           (all-intro 0 (value-arity p v) (λ i. member names 2 (argument p v i) (digit-of code (i + 1)))
           (λ i _ b. ap (member names 2 (argument p v i)) (said f i b) ∙
-          member-head h g (value-arguments h v (value-arity p v) refl) i (argument p v i) (getD (f .letter .heads) i 0) refl b (heads-low v (letter-at p t y) (f .letter) i) .1 (heads-told v (letter-at p t y) (f .letter) .1 i b)))
+          member-head g (value-arguments h v (value-arity p v) refl) i (argument p v i) (getD (f .letter .heads) i 0) refl b (heads-low v (letter-at p t y) (f .letter) i) .1 (heads-told v (letter-at p t y) (f .letter) .1 i b)))
 
       pub allowed-in : (v : ℕ) → code-allowed p names v code ≡ true → List·Memᴰ (letter-at p t y) (letters-allowed p t v)
       unfolding code-allowed letters-allowed heads-each gather argument
@@ -151,7 +150,7 @@ module _ {ws : List ℕ} {s : Sizes} (h : Ready ws s) where
           let long : length hs ≡ value-arity p v = heads-told (f .value) (letter-at p t y) (f .letter) .0 ∙ count in
           let is : row-head p v ∷ hs ≡ letter-at p t y = ap (λ x. x ∷ hs) (sym same) ∙ f .letter .is in
           let each : (i : ℕ) → i < value-arity p v → List·Memᴰ (getD hs i 0) (name-heads p t (any-argument i) (argument p v i)) =
-          λ i b. member-head h g (value-arguments h v (value-arity p v) refl) i (argument p v i) (getD hs i 0) refl b (heads-low (f .value) (letter-at p t y) (f .letter) i) .0
+          λ i b. member-head g (value-arguments h v (value-arity p v) refl) i (argument p v i) (getD hs i 0) refl b (heads-low (f .value) (letter-at p t y) (f .letter) i) .0
           (ap (member names 2 (argument p v i)) (sym (said f i (omega arith))) ∙
           all-elim 0 (value-arity p v) i tests (and-right (eqb (digit-of code 0) (row-head p v)) (all 0 (value-arity p v) tests) e) (omega arith) b) in
           test (eqb (tag p v) 2)

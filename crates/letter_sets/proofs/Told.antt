@@ -13,14 +13,11 @@ use Rattle.model.specs.declared.Sizes.{Sizes}
 use Rattle.model.specs.Index.{all}
 use Rattle.model.specs.Rows.{Program, program, num}
 use Rattle.model.specs.Letters.{row-head}
-use Rattle.model.specs.Tables.{tables}
 use Rattle.model.specs.Closed.{argument}
 use Rattle.model.proofs.Index.{all-end, all-hit, all-miss}
-use Rattle.lists.specs.Ready.{Ready}
-use Rattle.system_letters.specs.Letters.{Name-heads}
-use Rattle.value_letters.specs.Letters.{value-arity}
+use Rattle.value_letters.specs.Letters.{Heads-known, value-arity}
 use Rattle.value_letters.proofs.Values.{value-arguments, argument-row}
-use Rattle.letter_sets.specs.Sets.{digit-of, code-allowed, Put-all, is-digit, in-digits, Digit-rows}
+use Rattle.letter_sets.specs.Sets.{Value-told, digit-of, code-allowed, Put-all, is-digit, in-digits, Digit-rows}
 use Rattle.letter_sets.proofs.Putting.{put-one, Put-upto, upto-next}
 use Rattle.letter_sets.proofs.Digits.{digit-small}
 
@@ -53,16 +50,16 @@ has-head p names v code i = member names 2 (argument p v i) (digit-of code (i + 
 abbrev pub Left : Program → List ℕ → ℕ → ℕ → ℕ → ℕ → Type 0
 Left p names v count code i = code-allowed p names v code ≡ all i count (has-head p names v code)
 
-module _ (p : Program) (names : List ℕ) (v head count code : ℕ) (eh : head ≡ row-head p v) (ec : count ≡ value-arity p v) where
+module _ (p : Program) (names : List ℕ) (v head count code : ℕ) (k : Value-told p v head count) where
   pub allows-unlike : (d : ℕ) → d ≡ digit-of code 0 → (d ≡ head → ⊥) → false ≡ code-allowed p names v code
   unfolding code-allowed
-  allows-unlike d e z = sym (ap (λ b. b && all 0 (value-arity p v) (has-head p names v code)) (ne-eqb (digit-of code 0) (row-head p v) (λ y. z (e ∙ (y ∙ sym eh)))))
+  allows-unlike d e z = sym (ap (λ b. b && all 0 (value-arity p v) (has-head p names v code)) (ne-eqb (digit-of code 0) (row-head p v) (λ y. z (e ∙ (y ∙ sym (k .head-is))))))
 
   pub allows-start : (d : ℕ) → d ≡ digit-of code 0 → d ≡ head → Left p names v count code 0
   unfolding code-allowed
   allows-start d e z =
-      ap (λ b. b && all 0 (value-arity p v) (has-head p names v code)) (eq-eqb (digit-of code 0) (row-head p v) (sym e ∙ (z ∙ eh))) ∙
-      ap (λ n. all 0 n (has-head p names v code)) (sym ec)
+      ap (λ b. b && all 0 (value-arity p v) (has-head p names v code)) (eq-eqb (digit-of code 0) (row-head p v) (sym e ∙ (z ∙ k .head-is))) ∙
+      ap (λ n. all 0 n (has-head p names v code)) (sym (k .count-is))
 
   module _ (i n x : ℕ) (b : Bool) (left : Left p names v count code i) (l : i < count) (en : n ≡ num p (v + 2 + i)) (ex : x ≡ digit-of code (i + 1)) (eb : b ≡ member names 2 n x) where
     found : b ≡ has-head p names v code i
@@ -79,9 +76,9 @@ module _ (p : Program) (names : List ℕ) (v head count code : ℕ) (eh : head �
   allows-end i left l = sym (left ∙ all-end i count (has-head p names v code) l)
 
 -- an argument of a value: its number is low, and its name has a set
-module _ {ws : List ℕ} {s : Sizes} (h : Ready ws s) (v count i : ℕ) (ec : count ≡ value-arity (program ws s) v) (l : i < count) where
+module _ {ws : List ℕ} {s : Sizes} {names : List ℕ} (g : Heads-known ws s names) {v head count : ℕ} (k : Value-told (program ws s) v head count) (i : ℕ) (l : i < count) where
   pub argument-low : i < 8
-  argument-low = omega (arith, value-arguments h v count ec .few)
+  argument-low = omega (arith, value-arguments (g .ready) v count (k .count-is) .few)
 
-  pub head-room : (names : List ℕ) (n x code : ℕ) → Name-heads (program ws s) (tables ws s) names → n ≡ num (program ws s) (v + 2 + i) → x ≡ digit-of code (i + 1) → (x < 64 * 2) × Row names 2 n
-  head-room names n x code g en ex = (omega (arith, digit-small code (i + 1)), argument-row h g (value-arguments h v count ec) i n en l)
+  pub head-room : (n x code : ℕ) → n ≡ num (program ws s) (v + 2 + i) → x ≡ digit-of code (i + 1) → (x < 64 * 2) × Row names 2 n
+  head-room n x code en ex = (omega (arith, digit-small code (i + 1)), argument-row g (value-arguments (g .ready) v count (k .count-is)) i n en l)

@@ -6,17 +6,39 @@ use mathlib.Core.List.{List}
 use lib.ListN.{length, getD}
 use lib.Dec.{eqb}
 use Rattle.bits.specs.Bits.{member, Row}
-use Rattle.values.specs.Values.{Room}
+use Rattle.values.specs.Values.{Empty, Room}
+use Rattle.model.specs.declared.Sizes.{Sizes}
 use Rattle.model.specs.Limits.{maxArity, maxConstructors}
 use Rattle.model.specs.Index.{any, all}
 use Rattle.model.specs.Words.{left, right}
-use Rattle.model.specs.Rows.{Program}
+use Rattle.model.specs.Rows.{Program, program}
 use Rattle.model.specs.Letters.{head-count, row-head}
-use Rattle.model.specs.Tables.{Tables}
+use Rattle.model.specs.Tables.{Tables, tables}
 use Rattle.model.specs.Closed.{argument}
 use Rattle.model.specs.Counters.{letter-count}
-use Rattle.system_letters.specs.Letters.{digits, allowed-set, letter-width, letters-before}
-use Rattle.value_letters.specs.Letters.{value-arity}
+use Rattle.lists.specs.Ready.{Ready}
+use Rattle.system_letters.specs.Letters.{Class-letters, digits, allowed-set, letter-width, letters-before}
+use Rattle.value_letters.specs.Letters.{Heads-known, value-arity}
+use Rattle.letter_codes.specs.Codes.{Coded}
+
+-- the checks before refusal 8 found nothing, and the letters are listed: where those of each class begin, and each as a
+-- number
+pub record Letters-listed (ws : List ℕ) (s : Sizes) (letter-at codes : List ℕ) : Type 0 where
+  pub ready : Ready ws s
+  pub class-letters : Class-letters (program ws s) (tables ws s) letter-at
+  pub coded : Coded (program ws s) (tables ws s) codes
+
+-- ... and the heads of each name's values are known, by which a value allows them
+pub record Letters-known (ws : List ℕ) (s : Sizes) (names letter-at codes : List ℕ) : Type 0 where
+  pub heads : Heads-known ws s names
+  pub class-letters : Class-letters (program ws s) (tables ws s) letter-at
+  pub coded : Coded (program ws s) (tables ws s) codes
+
+-- a value of the tables, with its head and the number of its arguments
+pub record Value-told (p : Program) (v head count : ℕ) : Type 0 where
+  pub low : v < 65536
+  pub head-is : head ≡ row-head p v
+  pub count-is : count ≡ value-arity p v
 
 -- digit i, from the left, of the number of a letter
 unfoldable pub digit-of : ℕ → ℕ → ℕ
@@ -70,3 +92,8 @@ all-allowed p t names codes n v = any 0 (t .mail .size) (λ j. in-allowed p t na
 -- all sets of letters stand in the table
 abbrev pub Letter-room : Program → Tables → List ℕ → Type 0
 Letter-room p t letters = Room (letter-width p t) (allowed-set p (t .mail .size)) letters
+
+-- ... and have nothing in them
+pub record Letters-empty (p : Program) (t : Tables) (letters : List ℕ) : Type 0 where
+  pub room : Letter-room p t letters
+  pub empty : Empty (letter-width p t) letters

@@ -15,16 +15,13 @@ use system_letters::row_head;
 use value_letters::value_arity;
 ghost use mathlib.Core.Path.{_≡_};
 ghost use Prim.Native.Nat.{_≤_, _<_};
-ghost use Rattle.values.specs.Values.{Empty};
 ghost use Rattle.model.specs.Limits.{maxArity};
 ghost use Rattle.model.specs.Rows.{program};
-ghost use Rattle.model.specs.Letters.{row-head};
 ghost use Rattle.model.specs.Tables.{tables};
-ghost use Rattle.lists.specs.Ready.{Ready};
-ghost use Rattle.system_letters.specs.Letters.{Name-heads, Class-letters, Letter-sets, letter-width};
-ghost use Rattle.letter_codes.specs.Codes.{Coded};
-ghost use Rattle.value_letters.specs.Letters.{value-arity};
-ghost use Rattle.letter_sets.specs.Sets.{digit-of, code-allowed, Letter-room, Put-all, Digit-rows};
+ghost use Rattle.system_letters.specs.Letters.{Letter-sets, letter-width};
+ghost use Rattle.value_letters.specs.Letters.{Heads-known};
+ghost use Rattle.letter_sets.specs.Sets.{Letters-listed, Letters-known, Value-told, Letter-room, Letters-empty};
+ghost use Rattle.letter_sets.specs.Sets.{digit-of, code-allowed, Put-all, Digit-rows};
 ghost use Rattle.letter_sets.specs.Sets.{in-digits, all-digits, in-allowed, all-allowed};
 
 // Digit i, from the left, of a letter's number.
@@ -48,9 +45,7 @@ fn put_digits(heads: usize, w: usize, code: u64, y: usize, letters: &mut [u64])
 
 // Puts every letter into the sets of its digits.
 fn fill_digits(ws: &[u16], s: Sizes, letter_at: &[u16], codes: &[u64], letters: &mut [u64])
-    requires { ⌜ Ready (now ws) s ⌝ }
-    requires { ⌜ Class-letters (program (now ws) s) (tables (now ws) s) (now «letter_at») ⌝ }
-    requires { ⌜ Coded (program (now ws) s) (tables (now ws) s) (now codes) ⌝ }
+    requires { ⌜ Letters-listed (now ws) s (now «letter_at») (now codes) ⌝ }
     requires { ⌜ Letter-room (program (now ws) s) (tables (now ws) s) (now letters) ⌝ }
     ensures { λ _. ⌜ Put-all (letter-width (program (now (ws .entry)) s) (tables (now (ws .entry)) s))
         (all-digits (program (now (ws .entry)) s) (tables (now (ws .entry)) s) (now (codes .entry)))
@@ -74,11 +69,8 @@ fn allows(
     count: usize,
     code: u64,
 ) -> bool
-    requires { ⌜ Ready (now ws) s ⌝ }
-    requires { ⌜ Name-heads (program (now ws) s) (tables (now ws) s) (now names) ⌝ }
-    requires { ⌜ v < 65536 ⌝ }
-    requires { ⌜ head ≡ row-head (program (now ws) s) v ⌝ }
-    requires { ⌜ count ≡ value-arity (program (now ws) s) v ⌝ }
+    requires { ⌜ Heads-known (now ws) s (now names) ⌝ }
+    requires { ⌜ Value-told (program (now ws) s) v head count ⌝ }
     ensures { λ b. ⌜ b ≡ code-allowed (program (now (ws .entry)) s) (now (names .entry)) v code ⌝ }
 {
     if digit(code, 0) != head {
@@ -104,12 +96,8 @@ fn put_allowed(
     j: usize,
     letters: &mut [u64],
 )
-    requires { ⌜ Ready (now ws) s ⌝ }
-    requires { ⌜ Name-heads (program (now ws) s) (tables (now ws) s) (now names) ⌝ }
-    requires { ⌜ Class-letters (program (now ws) s) (tables (now ws) s) (now «letter_at») ⌝ }
-    requires { ⌜ Coded (program (now ws) s) (tables (now ws) s) (now codes) ⌝ }
-    requires { ⌜ j < s .mails ⌝ }
-    requires { ⌜ Letter-room (program (now ws) s) (tables (now ws) s) (now letters) ⌝ }
+    requires { ⌜ Letters-known (now ws) s (now names) (now «letter_at») (now codes) ⌝ }
+    requires { ⌜ (j < s .mails) × Letter-room (program (now ws) s) (tables (now ws) s) (now letters) ⌝ }
     ensures { λ _. ⌜ Put-all (letter-width (program (now (ws .entry)) s) (tables (now (ws .entry)) s))
         (in-allowed (program (now (ws .entry)) s) (tables (now (ws .entry)) s) (now (names .entry))
         (now (codes .entry)) j) (now (letters .entry)) (now (letters .exit)) ⌝ }
@@ -139,10 +127,7 @@ fn fill_allowed(
     codes: &[u64],
     letters: &mut [u64],
 )
-    requires { ⌜ Ready (now ws) s ⌝ }
-    requires { ⌜ Name-heads (program (now ws) s) (tables (now ws) s) (now names) ⌝ }
-    requires { ⌜ Class-letters (program (now ws) s) (tables (now ws) s) (now «letter_at») ⌝ }
-    requires { ⌜ Coded (program (now ws) s) (tables (now ws) s) (now codes) ⌝ }
+    requires { ⌜ Letters-known (now ws) s (now names) (now «letter_at») (now codes) ⌝ }
     requires { ⌜ Letter-room (program (now ws) s) (tables (now ws) s) (now letters) ⌝ }
     ensures { λ _. ⌜ Put-all (letter-width (program (now (ws .entry)) s) (tables (now (ws .entry)) s))
         (all-allowed (program (now (ws .entry)) s) (tables (now (ws .entry)) s) (now (names .entry))
@@ -162,12 +147,8 @@ pub fn fill_letters(
     codes: &[u64],
     letters: &mut [u64],
 )
-    requires { ⌜ Ready (now ws) s ⌝ }
-    requires { ⌜ Name-heads (program (now ws) s) (tables (now ws) s) (now names) ⌝ }
-    requires { ⌜ Class-letters (program (now ws) s) (tables (now ws) s) (now «letter_at») ⌝ }
-    requires { ⌜ Coded (program (now ws) s) (tables (now ws) s) (now codes) ⌝ }
-    requires { ⌜ Empty (letter-width (program (now ws) s) (tables (now ws) s)) (now letters) ⌝ }
-    requires { ⌜ Letter-room (program (now ws) s) (tables (now ws) s) (now letters) ⌝ }
+    requires { ⌜ Letters-known (now ws) s (now names) (now «letter_at») (now codes) ⌝ }
+    requires { ⌜ Letters-empty (program (now ws) s) (tables (now ws) s) (now letters) ⌝ }
     ensures { λ _. ⌜ Letter-sets (program (now (ws .entry)) s) (tables (now (ws .entry)) s) (now (letters .exit)) ⌝ }
 {
     fill_digits(ws, s, letter_at, codes, letters);

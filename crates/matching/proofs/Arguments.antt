@@ -18,12 +18,11 @@ use Rattle.model.proofs.Logic.{and-left, and-right}
 use Rattle.model.proofs.Parse.Lengths.{row-within, row-location}
 use Rattle.lists.specs.Ready.{Ready}
 use Rattle.lists.proofs.Facts.{rows-fit, columns-whole}
-use Rattle.layout.specs.Tables.{Ends}
 use Rattle.positions.proofs.Placed.{rows-most}
 use Rattle.positions.proofs.Standing.{rest-build}
-use Rattle.values.specs.Values.{width, Values, Flow-sets}
+use Rattle.values.specs.Values.{width, Values, Flow-ready}
 use Rattle.values.proofs.Operands.{build-names}
-use Rattle.matching.specs.Patterns.{code, pattern-code, Pattern, Standing, Is-code, Is-values-code, Matched, Matches}
+use Rattle.matching.specs.Patterns.{code, pattern-code, Pattern, Standing, Is-code, Is-values-code, Matched, Match-ready}
 use Rattle.matching.proofs.Coding.{rest-code, rest-begin, rest-end, rest-none, rest-more, may-at, held-at, argument-code, made-code, code-most}
 use Rattle.matching.proofs.Subpatterns.{pattern-deep, pattern-within, subpattern-first, subpattern-stands, subpattern-next, subpattern-behind}
 
@@ -48,6 +47,10 @@ pub record Argument (p : Program) (t : Tables) (flow may held afters : List ℕ)
   pub matched : Matched p t may held sub
   pub stands : Standing p sub
   pub inside : sub < length afters
+
+-- where patterns are compared, the values of names are told
+pub match-flow : {ws : List ℕ} {s : Sizes} {afters flow may held : List ℕ} {x : ℕ} → Match-ready ws s afters flow may held x → Flow-ready ws s flow
+match-flow h = record { ready = h .ready; names = h .names }
 
 deeper : {p : Program} {q : ℕ} → Standing p q → (d : ℕ) × Pattern p (suc d) q
 deeper {p} {q} h = go (h .depth) (h .stands)
@@ -110,7 +113,7 @@ count-low {ws} {s} ready {q} {v} {n} a =
     omega arith
 
 -- one argument: its name and its subpattern, and then the code c that they have
-module _ {ws : List ℕ} {s : Sizes} (ready : Ready ws s) {afters flow may held : List ℕ} (ends : Ends (program ws s) afters) (sets : Flow-sets (program ws s) (tables ws s) flow) {q v n worst sub i : ℕ} (matches : Matches (program ws s) (tables ws s) may held (q + 1)) (a : Arguments (program ws s) (tables ws s) q v n worst sub i) (more : i < n) (name : ℕ) (named : name ≡ num (program ws s) (v + 2 + i)) where
+module _ {ws : List ℕ} {s : Sizes} {afters flow may held : List ℕ} {q v n worst sub i : ℕ} (h : Match-ready ws s afters flow may held (q + 1)) (a : Arguments (program ws s) (tables ws s) q v n worst sub i) (more : i < n) (name : ℕ) (named : name ≡ num (program ws s) (v + 2 + i)) where
   abbrev p : Program
   p = program ws s
 
@@ -123,8 +126,8 @@ module _ {ws : List ℕ} {s : Sizes} (ready : Ready ws s) {afters flow may held 
   name-low : name < p .names
   unfolding is-head arity
   name-low =
-      let (two, same, low) = built-row ready q v (a .built) in
-      let l = row-location (rows-fit ready) (columns-whole ready) v (rw two) in
+      let (two, same, low) = built-row (h .ready) q v (a .built) in
+      let l = row-location (rows-fit (h .ready)) (columns-whole (h .ready)) v (rw two) in
       let z = ap (num p) same in
       rw named (build-names p l two i (let y = fits in omega arith))
 
@@ -135,10 +138,10 @@ module _ {ws : List ℕ} {s : Sizes} (ready : Ready ws s) {afters flow may held 
       let stands = subpattern-stands k (a .made) i fits in
       let behind = subpattern-behind k (a .made) i fits in
       let within = pattern-within stands in
-      let room = ends .room in
+      let room = h .layout .room in
       record {
-        values = sets .of-name name name-low;
-        matched = rw row (matches .at (subpattern p (suc d) q i) behind within);
+        values = h .names .of-name name name-low;
+        matched = rw row (h .patterns .at (subpattern p (suc d) q i) behind within);
         stands = rw row (record { depth = d; stands = stands });
         inside = omega arith;
       }
@@ -169,7 +172,7 @@ module _ {ws : List ℕ} {s : Sizes} (ready : Ready ws s) {afters flow may held 
           let lo = b .least in
           let hi = b .most in
           record {
-            row = f ∙ (ap (λ r. getD afters r 0) (b .row) ∙ subpattern-next ends k (a .made) i fits);
+            row = f ∙ (ap (λ r. getD afters r 0) (b .row) ∙ subpattern-next (h .layout) k (a .made) i fits);
             least = omega arith;
             most = omega arith;
             says = b .says ∙ (rest-more n (may-at p t d q v) (held-at p t d q v) worst i c more is nz lo ∙ ap (λ w. rest-code n (may-at p t d q v) (held-at p t d q v) w (i + 1)) (sym e));

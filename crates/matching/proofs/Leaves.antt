@@ -13,8 +13,7 @@ use Rattle.model.specs.Words.{columns}
 use Rattle.model.specs.Rows.{program, tag, num}
 use Rattle.model.specs.Tables.{tables}
 use Rattle.bits.specs.Bits.{member, Row, shared, common-code}
-use Rattle.lists.specs.Ready.{Ready}
-use Rattle.values.specs.Values.{width, Values, Flow-sets}
+use Rattle.values.specs.Values.{width, Values, Flow-ready}
 use Rattle.matching.specs.Patterns.{code, Standing, Is-values-code, Matched}
 use Rattle.matching.proofs.Subpatterns.{pattern-name}
 use Rattle.matching.proofs.Valued.{common-values, equal-values, no-values, any-values, named-values}
@@ -46,11 +45,11 @@ module _ (ws : List ℕ) (s : Sizes) (sets : List ℕ) (k q w : ℕ) (ew : w ≡
   unfolding program columns
   leaf-any f ne = record { of-list = λ l a d of h. any-values (tables ws s) other of h unheld b (rw ew at met) f (λ z. ne (tagged .0 ∙ z)) }
 
-module _ {ws : List ℕ} {s : Sizes} (ready : Ready ws s) (flow : List ℕ) (q name : ℕ) (sets-of : Flow-sets (program ws s) (tables ws s) flow) (stands : Standing (program ws s) q) {kind : ℕ} (tagged : (kind ≡ tag (program ws s) q) × (kind ≡ 31 → ⊥) × (kind ≡ 33 → ⊥)) (bound : kind ≡ 30)
+module _ {ws : List ℕ} {s : Sizes} {flow : List ℕ} (h : Flow-ready ws s flow) (q name : ℕ) (stands : Standing (program ws s) q) {kind : ℕ} (tagged : (kind ≡ tag (program ws s) q) × (kind ≡ 31 → ⊥) × (kind ≡ 33 → ⊥)) (bound : kind ≡ 30)
     (named : name ≡ num (program ws s) q) where
   pub leaf-flow : Values (tables ws s .flow) name (width (s .rows)) name flow
   unfolding program columns
-  leaf-flow = rw named (sets-of .of-name (num (program ws s) q) (pattern-name stands (inl (sym (tagged .0) ∙ bound))))
+  leaf-flow = rw named (h .names .of-name (num (program ws s) q) (pattern-name stands (inl (sym (tagged .0) ∙ bound))))
 
   pub leaf-name : (sets : List ℕ) (k w : ℕ) → w ≡ width (s .rows) → (b : Bool) → b ≡ any 0 (64 * w) (λ v. member sets w k v && member sets w k v) → not b ≡ false
       → (c : Bool) → c ≡ all 0 (64 * w) (λ v. implies (member sets w k v) (member flow w name v)) → (x : ℕ) → x ≡ code true c → Is-values-code (program ws s) (tables ws s) sets k q x

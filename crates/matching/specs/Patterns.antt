@@ -8,13 +8,16 @@ use mathlib.Core.Logic.{_⊎_}
 use lib.Dec.{eqb}
 use lib.ListN.{length, getD}
 use Rattle.model.specs.Index.{implies, first}
+use Rattle.model.specs.declared.Sizes.{Sizes}
 use Rattle.model.specs.Words.{Columns}
 use Rattle.model.specs.Reader.{past, read}
-use Rattle.model.specs.Rows.{Program, size, tag, num, pattern, step}
-use Rattle.model.specs.Tables.{Tables, each, some-of}
-use Rattle.model.specs.Closed.{may-equal, may-match, names-hold}
+use Rattle.model.specs.Rows.{Program, program, size, tag, num, pattern, step}
+use Rattle.model.specs.Tables.{Tables, tables, each, some-of}
+use Rattle.model.specs.Closed.{same-constructor, may-equal, may-match, names-hold}
+use Rattle.layout.specs.Tables.{Ends}
 use Rattle.bits.specs.Bits.{member, Row}
-use Rattle.values.specs.Values.{width, Values}
+use Rattle.lists.specs.Ready.{Ready}
+use Rattle.values.specs.Values.{width, Values, Flow-sets}
 
 -- 0: may not match; 1: may match, and the names hold what they are to; 2: may match, and some name does not
 unfoldable pub code : Bool → Bool → ℕ
@@ -76,6 +79,30 @@ pub record Matched (p : Program) (t : Tables) (may held : List ℕ) (q : ℕ) : 
 -- ... of each row from x on
 pub record Matches (p : Program) (t : Tables) (may held : List ℕ) (x : ℕ) : Type 0 where
   pub at : (q : ℕ) → x ≤ q → q < size p → Matched p t may held q
+
+-- what a pattern at or behind row x is compared by: the checks before refusal 8 found nothing, and the layout, the sets
+-- of names and those of the patterns from there on are filled
+pub record Match-ready (ws : List ℕ) (s : Sizes) (afters flow may held : List ℕ) (x : ℕ) : Type 0 where
+  pub ready : Ready ws s
+  pub layout : Ends (program ws s) afters
+  pub names : Flow-sets (program ws s) (tables ws s) flow
+  pub patterns : Matches (program ws s) (tables ws s) may held x
+
+-- the builds of each constructor are found one after the other, in a message that the checks before refusal 8 let pass
+pub record Build-ready (ws : List ℕ) (s : Sizes) (firsts nexts : List ℕ) : Type 0 where
+  pub ready : Ready ws s
+  pub builds : Builds (program ws s) firsts nexts
+
+-- the values of set k may be asked of the pattern at row q: both are there
+pub record Pattern-asked (ws : List ℕ) (s : Sizes) (sets : List ℕ) (k q : ℕ) : Type 0 where
+  pub row : Row sets (width (s .rows)) k
+  pub stands : Standing (program ws s) q
+
+-- a constructor pattern stands at row q, and v is a value of its constructor
+pub record Same-made (p : Program) (q v : ℕ) : Type 0 where
+  pub stands : Standing p q
+  pub made : tag p q ≡ 31
+  pub same : same-constructor p q v ≡ true
 
 -- Document 02, (iii): the value v may match the held name n
 unfoldable pub equals-some : Program → Tables → ℕ → ℕ → Bool

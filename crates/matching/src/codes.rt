@@ -16,12 +16,10 @@ ghost use Prim.Native.Nat.{_+_, _*_, _<_, max};
 ghost use Rattle.model.specs.Index.{any};
 ghost use Rattle.model.specs.Rows.{program, tag};
 ghost use Rattle.model.specs.Tables.{tables};
-ghost use Rattle.model.specs.Closed.{same-constructor};
 ghost use Rattle.bits.specs.Bits.{Row, shared};
-ghost use Rattle.lists.specs.Ready.{Ready};
-ghost use Rattle.layout.specs.Tables.{Ends};
-ghost use Rattle.values.specs.Values.{width, Flow-sets};
-ghost use Rattle.matching.specs.Patterns.{code, Standing, Is-code, Is-values-code, Matched, Matches};
+ghost use Rattle.values.specs.Values.{Flow-ready};
+ghost use Rattle.matching.specs.Patterns.{code, Is-code, Is-values-code, Matched};
+ghost use Rattle.matching.specs.Patterns.{Match-ready, Pattern-asked, Same-made};
 
 // The worse of two codes.
 pub fn worse(a: usize, b: usize) -> usize
@@ -40,11 +38,9 @@ fn leaf_code(
     q: usize,
     kind: usize,
 ) -> usize
-    requires { ⌜ Ready (now ws) s ⌝ }
-    requires { ⌜ Flow-sets (program (now ws) s) (tables (now ws) s) (now flow) ⌝ }
-    requires { ⌜ Row (now sets) (width (s .rows)) k ⌝ }
-    requires { ⌜ Standing (program (now ws) s) q ⌝ }
-    requires { ⌜ (kind ≡ tag (program (now ws) s) q) × (kind ≡ 31 → ⊥) × (kind ≡ 33 → ⊥) ⌝ }
+    requires { ⌜ Flow-ready (now ws) s (now flow) ⌝ }
+    requires { ⌜ Pattern-asked (now ws) s (now sets) k q
+        × ((kind ≡ tag (program (now ws) s) q) × (kind ≡ 31 → ⊥) × (kind ≡ 33 → ⊥)) ⌝ }
     ensures { λ c. ⌜ Is-values-code (program (now (ws .entry)) s) (tables (now (ws .entry)) s)
         (now (sets .entry)) k q c ⌝ }
 {
@@ -78,11 +74,9 @@ pub fn values_code(
     k: usize,
     q: usize,
 ) -> usize
-    requires { ⌜ Ready (now ws) s ⌝ }
-    requires { ⌜ Flow-sets (program (now ws) s) (tables (now ws) s) (now flow) ⌝ }
-    requires { ⌜ Matched (program (now ws) s) (tables (now ws) s) (now may) (now held) q ⌝ }
-    requires { ⌜ Row (now sets) (width (s .rows)) k ⌝ }
-    requires { ⌜ Standing (program (now ws) s) q ⌝ }
+    requires { ⌜ Flow-ready (now ws) s (now flow) ⌝ }
+    requires { ⌜ Pattern-asked (now ws) s (now sets) k q
+        × Matched (program (now ws) s) (tables (now ws) s) (now may) (now held) q ⌝ }
     ensures { λ c. ⌜ Is-values-code (program (now (ws .entry)) s) (tables (now (ws .entry)) s)
         (now (sets .entry)) k q c ⌝ }
 {
@@ -110,12 +104,8 @@ pub fn arguments_code(
     q: usize,
     v: usize,
 ) -> usize
-    requires { ⌜ Ready (now ws) s ⌝ }
-    requires { ⌜ Ends (program (now ws) s) (now afters) ⌝ }
-    requires { ⌜ Flow-sets (program (now ws) s) (tables (now ws) s) (now flow) ⌝ }
-    requires { ⌜ Matches (program (now ws) s) (tables (now ws) s) (now may) (now held) (q + 1) ⌝ }
-    requires { ⌜ Standing (program (now ws) s) q ⌝ }
-    requires { ⌜ (tag (program (now ws) s) q ≡ 31) × (same-constructor (program (now ws) s) q v ≡ true) ⌝ }
+    requires { ⌜ Match-ready (now ws) s (now afters) (now flow) (now may) (now held) (q + 1) ⌝ }
+    requires { ⌜ Same-made (program (now ws) s) q v ⌝ }
     ensures { λ c. ⌜ Is-code (program (now (ws .entry)) s) (tables (now (ws .entry)) s) q v c ⌝ }
 {
     let made = num(ws, s, q);

@@ -9,9 +9,11 @@ use mathlib.Core.Logic.{⊎-elim}
 use lib.Dec.{eqb}
 use lib.ListN.{length}
 use borrow.Author.Tests.{eq-eqb, ne-eqb}
+use Rattle.model.specs.declared.Sizes.{Sizes}
 use Rattle.model.specs.Index.{implies, first}
-use Rattle.model.specs.Rows.{Program, size, tag, num}
-use Rattle.model.specs.Tables.{Tables}
+use Rattle.model.specs.Words.{columns}
+use Rattle.model.specs.Rows.{Program, program, size, tag, num}
+use Rattle.model.specs.Tables.{Tables, tables}
 use Rattle.model.specs.Closed.{same-constructor, may-match, names-hold}
 use Rattle.model.proofs.Logic.{and-left, and-right, and-none, and-true, or-none}
 use Rattle.model.proofs.Index.{first-is}
@@ -19,8 +21,8 @@ use Rattle.model.proofs.Parse.Lengths.{row-within, Columns-whole}
 use Rattle.bits.specs.Bits.{member, Put}
 use Rattle.values.specs.Values.{width, Empty, Room}
 use Rattle.values.proofs.Gathered.{room-row}
-use Rattle.matching.specs.Patterns.{code, pattern-code, Pattern, Is-code, is-build, Matched, Matches, equals-some}
-use Rattle.matching_sets.specs.Sets.{Clear, Put-if, Joined}
+use Rattle.matching.specs.Patterns.{code, pattern-code, Pattern, Is-code, is-build, Matched, Matches, equals-some, Match-ready, Build-ready}
+use Rattle.matching_sets.specs.Sets.{Clear, Put-if, Joined, Fill-ready, Unfilled, Filled-from}
 use Rattle.matching.proofs.Chains.{build-no}
 use Rattle.matching.proofs.Coding.{code-zero, code-some, code-held, unmade-code}
 use Rattle.matching_sets.proofs.Joining.{joined-others, joined-here}
@@ -223,3 +225,38 @@ matches-down l m = record { at = λ n b less. m .at n (omega arith) less }
 
 pub one-up : (q : ℕ) → 0 < q → q - 1 + 1 ≡ q
 one-up q l = omega arith
+
+module _ {ws : List ℕ} {s : Sizes} where
+  -- with the sets of the patterns from x on, those patterns can be compared
+  pub fill-match : {afters flow firsts nexts may held : List ℕ} {x : ℕ} → Fill-ready ws s afters flow firsts nexts → Matches (program ws s) (tables ws s) may held x → Match-ready ws s afters flow may held x
+  fill-match h m = record { ready = h .ready; layout = h .layout; names = h .names; patterns = m }
+
+  pub fill-builds : {afters flow firsts nexts : List ℕ} → Fill-ready ws s afters flow firsts nexts → Build-ready ws s firsts nexts
+  fill-builds h = record { ready = h .ready; builds = h .builds }
+
+  -- to begin with, the sets of no row are filled
+  pub filled-none : {may held : List ℕ} → Unfilled s may held → Filled-from ws s may held (s .rows)
+  unfolding program columns
+  filled-none u = record { may-room = u .may-room; held-room = u .held-room; may-clear = empty-clear (u .may-empty); held-clear = empty-clear (u .held-empty); patterns = matches-none _ refl }
+
+  -- one row more, which asks for no sets, or whose set has been joined
+  module _ {may held : List ℕ} (q x k : ℕ) (f : Filled-from ws s may held x) (down : q + 1 ≡ x) (is : k ≡ tag (program ws s) q) where
+    pub filled-skip : (k ≡ 31 → ⊥) → (k ≡ 33 → ⊥) → Filled-from ws s may held q
+    unfolding program columns
+    filled-skip ne other = record {
+      may-room = f .may-room;
+      held-room = f .held-room;
+      may-clear = fewer-clear (omega arith) (f .may-clear);
+      held-clear = fewer-clear (omega arith) (f .held-clear);
+      patterns = matches-skip q x k down is ne other (f .may-room) (f .held-room) (f .patterns);
+    }
+
+    pub filled-joined : {may′ : List ℕ} → k ≡ 33 → Joined (width (s .rows)) q (equals-some (program ws s) (tables ws s) (num (program ws s) q)) may may′ → Filled-from ws s may′ held q
+    unfolding program columns
+    filled-joined held-name j = record {
+      may-room = same-room may _ (j .long) (f .may-room);
+      held-room = f .held-room;
+      may-clear = still-clear (joined-others j) (rw down (f .may-clear));
+      held-clear = fewer-clear (omega arith) (f .held-clear);
+      patterns = matches-joined q x k down is held-name (f .may-clear) j (f .may-room) (f .held-room) (f .patterns);
+    }

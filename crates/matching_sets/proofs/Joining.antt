@@ -16,7 +16,7 @@ use Rattle.model.specs.Rows.{Program, program, size, tag, num}
 use Rattle.model.specs.Heads.{is-class}
 use Rattle.model.specs.Tables.{Tables, tables}
 use Rattle.model.specs.Closed.{same-constructor, may-equal}
-use Rattle.model.proofs.Logic.{true-false, test, and-left, and-right, and-intro, or-cases, or-right, and-none, or-none, both}
+use Rattle.model.proofs.Logic.{true-false, test, and-left, and-right, and-intro, or-cases, or-right, and-none, or-none}
 use Rattle.model.proofs.Index.{any-end, any-hit, any-miss, any-intro, any-elim, first-is}
 use Rattle.model.proofs.Rows.{program-end}
 use Rattle.model.proofs.Parse.Lengths.{row-within, Columns-whole}
@@ -24,10 +24,10 @@ use Rattle.bits.specs.Bits.{member, Row, Put}
 use Rattle.bits.proofs.Loops.{any-split}
 use Rattle.lists.specs.Ready.{Ready}
 use Rattle.lists.proofs.Facts.{rows-fit}
-use Rattle.values.specs.Values.{width, Values, Flow-sets}
+use Rattle.values.specs.Values.{width, Values}
 use Rattle.values.proofs.Members.{some-set}
 use Rattle.matching.specs.Patterns.{is-build, equals-some}
-use Rattle.matching_sets.specs.Sets.{Clear, Joined, Alike}
+use Rattle.matching_sets.specs.Sets.{Clear, Joined, Alike, Held-name}
 use Rattle.matching.proofs.Subpatterns.{stands-from, pattern-name}
 
 distribute : (m a f g : Bool) → (m || (a && f) || (a && g)) ≡ (m || (a && (f || g)))
@@ -227,9 +227,9 @@ module _ (p : Program) (flow : List ℕ) (w n q : ℕ) where
   equals-over t x of e j = joined-same (equals-some p t n) (λ y l. ap (λ k. any 0 k (λ z. member flow w n z && may-equal p y z)) e ∙ sym (some-set of (may-equal p y) _ (λ z m. refl))) j
 
 -- the name that a held-name pattern reads, and its values
-pub held-row : {ws : List ℕ} {s : Sizes} → Ready ws s → (flow : List ℕ) (q n : ℕ) → Flow-sets (program ws s) (tables ws s) flow → tag (program ws s) q ≡ 33 → q < s .rows → n ≡ num (program ws s) q → Values (tables ws s .flow) n (width (s .rows)) n flow
+pub held-row : {ws : List ℕ} {s : Sizes} → Ready ws s → {flow may : List ℕ} {q : ℕ} → Held-name ws s flow may q → (n : ℕ) → n ≡ num (program ws s) q → Values (tables ws s .flow) n (width (s .rows)) n flow
 unfolding program columns
-held-row {ws} {s} h flow q n of e l named = rw named (of .of-name (num (program ws s) q) (pattern-name (stands-from (rows-fit h) q l (omega arith)) (inr e)))
+held-row {ws} {s} h {q = q} of n named = rw named (of .names .of-name (num (program ws s) q) (pattern-name (stands-from (rows-fit h) q (of .low) (let e = of .held in omega arith)) (inr (of .held))))
 
 module _ (ws : List ℕ) (s : Sizes) (flow : List ℕ) {u t : List ℕ} (w n q x : ℕ) (ew : w ≡ width (s .rows)) (j : Joined w q (equals-before (program ws s) flow w n q x) u t) where
   pub held-alike : Clear (width (s .rows)) (q + 1) u → Alike (program ws s) (width (s .rows)) q t

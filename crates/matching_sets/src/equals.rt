@@ -9,15 +9,14 @@ use sets::holds;
 use sets::put;
 use values::width;
 ghost use mathlib.Core.Path.{_≡_};
-ghost use Prim.Native.Nat.{_+_, _*_, _<_};
+ghost use Prim.Native.Nat.{_+_, _<_};
 ghost use Rattle.model.specs.Rows.{program, num, tag};
 ghost use Rattle.model.specs.Tables.{tables};
 ghost use Rattle.model.specs.Closed.{may-equal};
 ghost use Rattle.bits.specs.Bits.{Row};
-ghost use Rattle.lists.specs.Ready.{Ready};
-ghost use Rattle.values.specs.Values.{width, Flow-sets};
-ghost use Rattle.matching.specs.Patterns.{Builds, is-build, equals-some};
-ghost use Rattle.matching_sets.specs.Sets.{Clear, Joined, Alike};
+ghost use Rattle.values.specs.Values.{width};
+ghost use Rattle.matching.specs.Patterns.{is-build, equals-some, Build-ready};
+ghost use Rattle.matching_sets.specs.Sets.{Joined, Held-name, Equals-room};
 
 // Puts all builds of the constructor that row u builds into set q.
 fn put_builds(
@@ -29,10 +28,8 @@ fn put_builds(
     sets: &mut [u64],
     q: usize,
 )
-    requires { ⌜ Ready (now ws) s ⌝ }
-    requires { ⌜ Builds (program (now ws) s) (now firsts) (now nexts) ⌝ }
-    requires { ⌜ (tag (program (now ws) s) u ≡ 2) × (u < s .rows) ⌝ }
-    requires { ⌜ Row (now sets) (width (s .rows)) q ⌝ }
+    requires { ⌜ Build-ready (now ws) s (now firsts) (now nexts) ⌝ }
+    requires { ⌜ Row (now sets) (width (s .rows)) q × ((tag (program (now ws) s) u ≡ 2) × (u < s .rows)) ⌝ }
     ensures { λ _. ⌜ Joined (width (s .rows)) q
         (is-build (program (now (ws .entry)) s) (num (program (now (ws .entry)) s) (u + 1))) (now (sets .entry))
         (now (sets .exit)) ⌝ }
@@ -56,11 +53,8 @@ fn put_equals(
     sets: &mut [u64],
     q: usize,
 )
-    requires { ⌜ Ready (now ws) s ⌝ }
-    requires { ⌜ Builds (program (now ws) s) (now firsts) (now nexts) ⌝ }
-    requires { ⌜ u < 64 * width (s .rows) ⌝ }
-    requires { ⌜ Row (now sets) (width (s .rows)) q ⌝ }
-    requires { ⌜ Alike (program (now ws) s) (width (s .rows)) q (now sets) ⌝ }
+    requires { ⌜ Build-ready (now ws) s (now firsts) (now nexts) ⌝ }
+    requires { ⌜ Equals-room (now ws) s u (now sets) q ⌝ }
     ensures { λ _. ⌜ Joined (width (s .rows)) q (λ v. may-equal (program (now (ws .entry)) s) v u) (now (sets .entry))
         (now (sets .exit)) ⌝ }
 {
@@ -88,12 +82,8 @@ pub fn fill_equals(
     may: &mut [u64],
     q: usize,
 )
-    requires { ⌜ Ready (now ws) s ⌝ }
-    requires { ⌜ Flow-sets (program (now ws) s) (tables (now ws) s) (now flow) ⌝ }
-    requires { ⌜ Builds (program (now ws) s) (now firsts) (now nexts) ⌝ }
-    requires { ⌜ Row (now may) (width (s .rows)) q ⌝ }
-    requires { ⌜ Clear (width (s .rows)) (q + 1) (now may) ⌝ }
-    requires { ⌜ (tag (program (now ws) s) q ≡ 33) × (q < s .rows) ⌝ }
+    requires { ⌜ Build-ready (now ws) s (now firsts) (now nexts) ⌝ }
+    requires { ⌜ Held-name (now ws) s (now flow) (now may) q ⌝ }
     ensures { λ _. ⌜ Joined (width (s .rows)) q
         (equals-some (program (now (ws .entry)) s) (tables (now (ws .entry)) s) (num (program (now (ws .entry)) s) q))
         (now (may .entry)) (now (may .exit)) ⌝ }

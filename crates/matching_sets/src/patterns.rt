@@ -14,11 +14,8 @@ ghost use Prim.Native.Nat.{_+_, _*_, _<_};
 ghost use Rattle.model.specs.Rows.{program, tag};
 ghost use Rattle.model.specs.Tables.{tables};
 ghost use Rattle.bits.specs.Bits.{Row};
-ghost use Rattle.lists.specs.Ready.{Ready};
-ghost use Rattle.layout.specs.Tables.{Ends};
-ghost use Rattle.values.specs.Values.{width, Empty, Room, Flow-sets};
-ghost use Rattle.matching.specs.Patterns.{Builds, Matches};
-ghost use Rattle.matching_sets.specs.Sets.{Clear, Put-if};
+ghost use Rattle.matching.specs.Patterns.{Matches};
+ghost use Rattle.matching_sets.specs.Sets.{Put-if, Fill-ready, Unfilled, Filled-from};
 
 // Puts value v into set n where b says so.
 fn put_if(t: &mut [u64], w: usize, n: usize, v: usize, b: bool)
@@ -43,19 +40,10 @@ fn fill_pattern(
     held: &mut [u64],
     q: usize,
 )
-    requires { ⌜ Ready (now ws) s ⌝ }
-    requires { ⌜ Ends (program (now ws) s) (now afters) ⌝ }
-    requires { ⌜ Flow-sets (program (now ws) s) (tables (now ws) s) (now flow) ⌝ }
-    requires { ⌜ Builds (program (now ws) s) (now firsts) (now nexts) ⌝ }
-    requires { ⌜ Room (width (s .rows)) (s .rows) (now may) × Room (width (s .rows)) (s .rows) (now held) ⌝ }
-    requires { ⌜ Clear (width (s .rows)) (q + 1) (now may) × Clear (width (s .rows)) (q + 1) (now held) ⌝ }
-    requires { ⌜ Matches (program (now ws) s) (tables (now ws) s) (now may) (now held) (q + 1) ⌝ }
-    requires { ⌜ (tag (program (now ws) s) q ≡ 31) × (q < s .rows) ⌝ }
-    ensures { λ _. ⌜ Room (width (s .rows)) (s .rows) (now (may .exit)) ×
-        Room (width (s .rows)) (s .rows) (now (held .exit)) ⌝ }
-    ensures { λ _. ⌜ Clear (width (s .rows)) q (now (may .exit)) × Clear (width (s .rows)) q (now (held .exit)) ⌝ }
-    ensures { λ _. ⌜ Matches (program (now (ws .entry)) s) (tables (now (ws .entry)) s) (now (may .exit))
-        (now (held .exit)) q ⌝ }
+    requires { ⌜ Fill-ready (now ws) s (now afters) (now flow) (now firsts) (now nexts) ⌝ }
+    requires { ⌜ Filled-from (now ws) s (now may) (now held) (q + 1)
+        × ((tag (program (now ws) s) q ≡ 31) × (q < s .rows)) ⌝ }
+    ensures { λ _. ⌜ Filled-from (now (ws .entry)) s (now (may .exit)) (now (held .exit)) q ⌝ }
 {
     let w = width(s);
     let made = num(ws, s, q);
@@ -79,12 +67,8 @@ pub fn fill_patterns(
     may: &mut [u64],
     held: &mut [u64],
 )
-    requires { ⌜ Ready (now ws) s ⌝ }
-    requires { ⌜ Ends (program (now ws) s) (now afters) ⌝ }
-    requires { ⌜ Flow-sets (program (now ws) s) (tables (now ws) s) (now flow) ⌝ }
-    requires { ⌜ Builds (program (now ws) s) (now firsts) (now nexts) ⌝ }
-    requires { ⌜ Room (width (s .rows)) (s .rows) (now may) × Room (width (s .rows)) (s .rows) (now held) ⌝ }
-    requires { ⌜ Empty (width (s .rows)) (now may) × Empty (width (s .rows)) (now held) ⌝ }
+    requires { ⌜ Fill-ready (now ws) s (now afters) (now flow) (now firsts) (now nexts) ⌝ }
+    requires { ⌜ Unfilled s (now may) (now held) ⌝ }
     ensures { λ _. ⌜ Matches (program (now (ws .entry)) s) (tables (now (ws .entry)) s) (now (may .exit))
         (now (held .exit)) 0 ⌝ }
 {

@@ -32,9 +32,10 @@ ghost use Rattle.model.specs.Rules.{from-each, letters-read};
 ghost use Rattle.lists.specs.Ready.{Ready};
 ghost use Rattle.layout.specs.Tables.{Ends};
 ghost use Rattle.matching.specs.Patterns.{Pattern};
-ghost use Rattle.system_letters.specs.Letters.{Class-letters, letter-width, Letter-sets, Found};
-ghost use Rattle.pattern_heads.specs.Fitting.{begins, Match-tables};
+ghost use Rattle.system_letters.specs.Letters.{letter-width, Found};
+ghost use Rattle.pattern_heads.specs.Fitting.{begins};
 ghost use Rattle.pattern_letters.specs.Picked.{leaves-argument, leaves, Left};
+ghost use Rattle.pattern_letters.specs.Tables.{Leaving-tables, Pattern-tables, Read-room};
 
 // Is the pattern at row q a constructor's or a held name, which not every value may match?
 fn asks(ws: &[u16], s: Sizes, q: usize) -> bool
@@ -74,12 +75,9 @@ fn leave_argument(
     q: usize,
     part: &mut [u64],
 )
-    requires { ⌜ Match-tables (now ws) s w (now fitting) (now names) ⌝ }
-    requires { ⌜ Letter-sets (program (now ws) s) (tables (now ws) s) (now letters) ⌝ }
-    requires { ⌜ words ≡ letter-width (program (now ws) s) (tables (now ws) s) ⌝ }
+    requires { ⌜ Leaving-tables (now ws) s w (now fitting) (now names) (now letters) words ⌝ }
     requires { ⌜ (i < maxArity) × (n < s .names) ⌝ }
-    requires { ⌜ Pattern (program (now ws) s) (maxDepth - 1) q ⌝ }
-    requires { ⌜ Row (now part) words 0 ⌝ }
+    requires { ⌜ Pattern (program (now ws) s) (maxDepth - 1) q × Row (now part) words 0 ⌝ }
     ensures { λ _. ⌜ Left (program (now (ws .entry)) s) (tables (now (ws .entry)) s)
         (leaves-argument (program (now (ws .entry)) s) (tables (now (ws .entry)) s) i n q) (now (part .entry))
         (now (part .exit)) ⌝ }
@@ -118,13 +116,10 @@ fn leave_letters(
     v: usize,
     part: &mut [u64],
 )
-    requires { ⌜ Match-tables (now ws) s w (now fitting) (now names) ⌝ }
+    requires { ⌜ Leaving-tables (now ws) s w (now fitting) (now names) (now letters) words ⌝ }
     requires { ⌜ Ends (program (now ws) s) (now afters) ⌝ }
-    requires { ⌜ Letter-sets (program (now ws) s) (tables (now ws) s) (now letters) ⌝ }
-    requires { ⌜ words ≡ letter-width (program (now ws) s) (tables (now ws) s) ⌝ }
-    requires { ⌜ Pattern (program (now ws) s) maxDepth q ⌝ }
-    requires { ⌜ begins (program (now ws) s) (tables (now ws) s) q v ≡ true ⌝ }
-    requires { ⌜ Row (now part) words 0 ⌝ }
+    requires { ⌜ Pattern (program (now ws) s) maxDepth q ×
+        (begins (program (now ws) s) (tables (now ws) s) q v ≡ true) × Row (now part) words 0 ⌝ }
     ensures { λ _. ⌜ Left (program (now (ws .entry)) s) (tables (now (ws .entry)) s)
         (leaves (program (now (ws .entry)) s) (tables (now (ws .entry)) s) q v) (now (part .entry))
         (now (part .exit)) ⌝ }
@@ -159,14 +154,8 @@ pub fn read_letters(
     part: &mut [u64],
     found: &mut [u64],
 )
-    requires { ⌜ Match-tables (now ws) s w (now fitting) (now names) ⌝ }
-    requires { ⌜ Ends (program (now ws) s) (now afters) ⌝ }
-    requires { ⌜ Class-letters (program (now ws) s) (tables (now ws) s) (now «letter_at») ⌝ }
-    requires { ⌜ Letter-sets (program (now ws) s) (tables (now ws) s) (now letters) ⌝ }
-    requires { ⌜ c ≤ s .rows ⌝ }
-    requires { ⌜ Pattern (program (now ws) s) maxDepth q ⌝ }
-    requires { ⌜ Row (now part) (letter-width (program (now ws) s) (tables (now ws) s)) 0 ⌝ }
-    requires { ⌜ Row (now found) (letter-width (program (now ws) s) (tables (now ws) s)) 0 ⌝ }
+    requires { ⌜ Pattern-tables (now ws) s (now afters) w (now fitting) (now names) (now «letter_at») (now letters) ⌝ }
+    requires { ⌜ Read-room (now ws) s c q (now part) (now found) ⌝ }
     ensures { λ _. ⌜ Found (program (now (ws .entry)) s) (tables (now (ws .entry)) s) c
         (from-each (tables (now (ws .entry)) s .mail) c
         (letters-read (program (now (ws .entry)) s) (tables (now (ws .entry)) s) q))

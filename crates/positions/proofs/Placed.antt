@@ -19,7 +19,6 @@ use Rattle.model.proofs.Parse.Locations.{head-range}
 use Rattle.model.proofs.Parse.Lengths.{row-within, function-within}
 use Rattle.lists.specs.Ready.{Ready}
 use Rattle.lists.proofs.Facts.{rows-fit, columns-whole}
-use Rattle.layout.specs.Tables.{Ends}
 use Rattle.positions.proofs.Standing.{body-row}
 
 -- tests by the tag that was read

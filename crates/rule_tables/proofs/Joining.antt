@@ -16,7 +16,6 @@ use Rattle.model.specs.Words.{Columns}
 use Rattle.model.specs.Rows.{Program, program, size, step}
 use Rattle.model.specs.Tables.{Tables, tables}
 use Rattle.model.proofs.Reader.{past-wrong, read-end}
-use Rattle.bits.proofs.Rows.{filled-to}
 use Rattle.lists.specs.Lists.{Starts}
 use Rattle.layout.specs.Tables.{Ends}
 use Rattle.positions.specs.Branches.{Branch-bits}

@@ -17,7 +17,7 @@ ghost use Rattle.model.specs.Tables.{tables};
 ghost use Rattle.system_letters.specs.Letters.{letter-width};
 ghost use Rattle.rules.specs.Derived.{Rule-room};
 ghost use Rattle.rules.specs.Listed.{State-rules};
-ghost use Rattle.state_rules.specs.Within.{Asked-letters, Rules-within};
+ghost use Rattle.rules.specs.Within.{Asked-letters, Rules-within};
 ghost use Rattle.rule_tables.specs.Joined.{letter-from, Joined-tables, Joined};
 
 // Each table has room for a word for each row, and for two behind them.

@@ -3,3 +3,4 @@ pub mod Gather
 pub mod Adding
 pub mod Stepped
 pub mod Entries
+pub mod Within

@@ -9,9 +9,9 @@ use lib.ListN.{length, getD}
 use Rattle.bits.specs.Bits.{member}
 use Rattle.model.specs.declared.Sizes.{Sizes}
 use Rattle.model.specs.Limits.{maxBranches, maxCounters}
-use Rattle.model.specs.Words.{left}
-use Rattle.model.specs.Rows.{Program, program}
-use Rattle.model.specs.Tables.{Tables, tables}
+use Rattle.model.specs.Words.{left, right}
+use Rattle.model.specs.Rows.{Program, program, tag}
+use Rattle.model.specs.Tables.{Tables, tables, has, each}
 use Rattle.model.specs.Closed.{open-check}
 use Rattle.model.specs.Counters.{letter-count, counter-count}
 use Rattle.model.specs.Rules.{from-each, letters-read}
@@ -48,6 +48,30 @@ pub record Reads (p : Program) (t : Tables) (letters : List ℕ) : Type 0 where
       (member letters (letter-width p t) (read-set p t x) y ≡ true) ↔
       ((class-at p t y ≡ left (t .states) x) ×
       List·Memᴰ (letter-at p t y) (from-each (t .mail) (left (t .states) x) (letters-read p t q)))
+
+-- The counters are within their limit, and the tables are those of the letters: where those of each class start, and
+-- the sets of them by digit and by mail entry.
+pub record Letter-tables (ws : List ℕ) (s : Sizes) (letter-at letters : List ℕ) : Type 0 where
+  pub ready : Ready ws s
+  pub few : counter-count (program ws s) (tables ws s) ≤ maxCounters
+  pub class-letters : Class-letters (program ws s) (tables ws s) letter-at
+  pub letter-sets : Letter-sets (program ws s) (tables ws s) letters
+
+-- The letters that a send puts are read from these tables: the values of its message are found by name.
+pub record Sent-tables (ws : List ℕ) (s : Sizes) (flow-at letter-at letters : List ℕ) : Type 0 where
+  pub letter-tables : Letter-tables ws s letter-at letters
+  pub flow-starts : Starts (tables ws s .flow) (s .names) flow-at
+
+-- The values of the name m are in the mail of d.
+pub record Sent-to (ws : List ℕ) (s : Sizes) (m d : ℕ) : Type 0 where
+  pub name : m < s .names
+  pub mailed : each (tables ws s .flow) m (has (tables ws s .mail) d) ≡ true
+
+-- State i stands at row r, whose tag is k.
+pub record State-head (ws : List ℕ) (s : Sizes) (i r k : ℕ) : Type 0 where
+  pub low : i < s .states
+  pub row : r ≡ right (tables ws s .states) i
+  pub head : tag (program ws s) r ≡ k
 
 -- The checks up to refusal 9 found nothing, and the tables are those of the message.
 pub record Rule-tables (ws : List ℕ) (s : Sizes) (afters flow-at : List ℕ) (w : ℕ)

@@ -1,3 +1,4 @@
 pub mod Listed
 pub mod Added
 pub mod Derived
+pub mod Within

@@ -23,7 +23,6 @@ use Rattle.model.proofs.Index.{first-end, first-hit, first-miss, First, first-i
 use Rattle.program.specs.Rows.{from}
 use Rattle.model.specs.declared.Sizes.{Sizes}
 use Rattle.model.specs.Words.{columns}
-use Rattle.model.proofs.Heads.{head-between}
 use Rattle.program.proofs.Reading.{from-none, past-tag}
 use Rattle.program.proofs.Items.{bound-says, lead-none}
 use Rattle.layout.specs.Tables.{Ends}

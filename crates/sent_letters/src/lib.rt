@@ -10,18 +10,16 @@ use sets::clear;
 use sets::join_into;
 use system_letters::letter_width;
 ghost use mathlib.Core.Path.{_≡_};
-ghost use mathlib.Core.Bool.{true};
 ghost use Prim.Native.Nat.{_+_, _*_, _<_};
 ghost use Rattle.bits.specs.Bits.{Row};
 ghost use Rattle.model.specs.Demands.{Within-limits};
 ghost use Rattle.model.specs.Limits.{present};
 ghost use Rattle.model.specs.Rows.{program};
-ghost use Rattle.model.specs.Tables.{tables, has, each};
+ghost use Rattle.model.specs.Tables.{tables};
 ghost use Rattle.model.specs.Counters.{letters-allowed};
 ghost use Rattle.model.specs.Rules.{from-each};
-ghost use Rattle.lists.specs.Lists.{Starts};
-ghost use Rattle.lists.specs.Ready.{Ready};
-ghost use Rattle.system_letters.specs.Letters.{Class-letters, letter-width, digits, Letter-sets, Found};
+ghost use Rattle.system_letters.specs.Letters.{letter-width, digits, Found};
+ghost use Rattle.rules.specs.Derived.{Sent-tables, Sent-to};
 
 // The set of the letters that the value of mail entry j allows, behind those of all digits.
 pub fn entry_set(s: Sizes, j: usize) -> usize
@@ -43,12 +41,8 @@ pub fn sent_letters(
     d: usize,
     found: &mut [u64],
 )
-    requires { ⌜ Ready (now ws) s ⌝ }
-    requires { ⌜ Starts (tables (now ws) s .flow) (s .names) (now «flow_at») ⌝ }
-    requires { ⌜ Class-letters (program (now ws) s) (tables (now ws) s) (now «letter_at») ⌝ }
-    requires { ⌜ Letter-sets (program (now ws) s) (tables (now ws) s) (now letters) ⌝ }
-    requires { ⌜ m < s .names ⌝ }
-    requires { ⌜ each (tables (now ws) s .flow) m (has (tables (now ws) s .mail) d) ≡ true ⌝ }
+    requires { ⌜ Sent-tables (now ws) s (now «flow_at») (now «letter_at») (now letters) ⌝ }
+    requires { ⌜ Sent-to (now ws) s m d ⌝ }
     requires { ⌜ Row (now found) (letter-width (program (now ws) s) (tables (now ws) s)) 0 ⌝ }
     ensures { λ _. ⌜ Found (program (now (ws .entry)) s) (tables (now (ws .entry)) s) d
         (from-each (tables (now (ws .entry)) s .flow) m

@@ -2,35 +2,36 @@
 use Prim.Native.Nat.{ℕ, zero, suc, _+_, _-_, _^_, _≤_, _<_}
 use native.Mathlib.Omega.{arith}
 use native.Mathlib.Decide.{ℕ-discrete}
-use mathlib.Core.Path.{_≡_, refl, sym, _∙_, ap}
-use mathlib.Core.Bool.{Bool, true, false, _&&_}
+use mathlib.Core.Path.{_≡_, refl, _∙_, ap}
+use mathlib.Core.Bool.{Bool, true, _&&_}
 use mathlib.Core.List.{List, [], _∷_}
 use mathlib.Core.Logic.{_⊎_, inl, inr, ⊎-elim}
 use lib.Dec.{eqb, leb}
 use lib.ListN.{length}
 use borrow.Author.Tests.{leb-true}
 use Rattle.model.specs.declared.Sizes.{Sizes}
-use Rattle.model.specs.Words.{Columns, columns}
+use Rattle.model.specs.Words.{Columns}
 use Rattle.model.specs.Limits.{maxBranches}
-use Rattle.model.specs.Rows.{Program, program, size, tag, num, kind, build, function, case, receive, branch, branch-items, branches, is-branch-count, expression, step, expression-step, past-items}
+use Rattle.model.specs.Rows.{Program, program, size, tag, num, kind, build, function, case, receive, branch, is-branch-count, expression, step, expression-step, past-items}
 use Rattle.model.specs.Heads.{branch-rows}
-use Rattle.model.specs.Tables.{Tables, tables, has}
-use Rattle.model.proofs.Logic.{and-left, and-right}
+use Rattle.model.specs.Tables.{Tables, has}
+use Rattle.model.proofs.Logic.{and-right}
 use Rattle.model.proofs.Parse.Reached.{stands-only, stands-row}
 use Rattle.model.proofs.Parse.Grammar.{fits-some}
 use Rattle.model.proofs.Parse.Locations.{Location, location-follows}
 use Rattle.lists.specs.Ready.{Ready}
 use Rattle.positions.specs.Positions.{Run}
 use Rattle.positions.proofs.Standing.{case-run, receive-run, rows-length}
-use Rattle.values.specs.Values.{width, Values, Flow-sets}
+use Rattle.values.specs.Values.{width, Values, Flow-ready}
 use Rattle.values.proofs.Names.{head-name}
-use Rattle.branches.specs.Taken.{lacks, branch-code, taken-bits, Is-taken, Bits-told}
+use Rattle.matching.specs.Patterns.{Match-ready}
+use Rattle.branches.specs.Taken.{lacks, Is-taken, Bits-told, Layout-ready}
 use Rattle.branches.proofs.Told.{bits-told}
 use Rattle.branches.proofs.Walk.{power-low}
-use Rattle.asks.specs.Asks.{there-code, Asked}
+use Rattle.asks.specs.Asks.{Mail-ready, Starts-ready, there-code, Asked}
 use Rattle.asks.proofs.Rows.{head-here}
 use Rattle.asks.proofs.Asking.{there-most}
-use Rattle.settled.specs.Settled.{Settled}
+use Rattle.settled.specs.Settled.{Closure-ready, Settled}
 
 -- a case and a receive have at most 16 branches
 case-few : {p : Program} {r : ℕ} → Location p r → tag p r ≡ 8 → num p (r + 1) ≤ maxBranches
@@ -56,6 +57,23 @@ told-most {p} n q k few b = elim (ℕ-discrete k lacks) [
   | yes e ↦ omega arith
   | no e ↦ let z = rw (rows-length p n q) at (b .end e) in let y = power-low (16 - n) n (omega arith) in omega arith
 ]
+
+-- with all tables, each question has those that it goes by
+module _ {ws : List ℕ} {s : Sizes} {afters starts flow mail may held : List ℕ} (h : Closure-ready ws s afters starts flow mail may held) where
+  pub closure-match : Match-ready ws s afters flow may held 0
+  closure-match = record { ready = h .ready; layout = h .layout; names = h .names; patterns = h .patterns }
+
+  pub closure-flow : Flow-ready ws s flow
+  closure-flow = record { ready = h .ready; names = h .names }
+
+  pub closure-mail : Mail-ready ws s flow mail
+  closure-mail = record { ready = h .ready; names = h .names; classes = h .classes }
+
+  pub closure-layout : Layout-ready ws s afters
+  closure-layout = record { ready = h .ready; layout = h .layout }
+
+  pub closure-starts : Starts-ready ws s starts
+  closure-starts = record { ready = h .ready; begins = h .begins }
 
 module _ {ws : List ℕ} {s : Sizes} (h : Ready ws s) (r : ℕ) where
   pub case-here : tag (program ws s) r ≡ 8 → (n : ℕ) → n ≡ num (program ws s) (r + 1) → Run (program ws s) (r + 2) n × (n ≤ maxBranches)

@@ -16,18 +16,13 @@ ghost use mathlib.Core.Path.{_≡_};
 ghost use mathlib.Core.Logic.{_⊎_};
 ghost use Rattle.model.specs.Rows.{program, tag, num};
 ghost use Rattle.model.specs.Tables.{tables, has};
-ghost use Rattle.lists.specs.Lists.{Starts};
-ghost use Rattle.lists.specs.Ready.{Ready};
-ghost use Rattle.layout.specs.Tables.{Ends};
-ghost use Rattle.values.specs.Values.{Flow-sets, Mail-sets};
-ghost use Rattle.matching.specs.Patterns.{Matches};
+ghost use Rattle.values.specs.Values.{Flow-ready};
 ghost use Rattle.asks.specs.Asks.{there-code};
-ghost use Rattle.settled.specs.Settled.{Settled};
+ghost use Rattle.settled.specs.Settled.{Closure-ready, Settled};
 
 // Whether the name bound at row r holds that row: 1 where it does, 2 where it lacks.
 fn named_code(ws: &[u16], s: Sizes, flow: &[u64], r: usize) -> usize
-    requires { ⌜ Ready (now ws) s ⌝ }
-    requires { ⌜ Flow-sets (program (now ws) s) (tables (now ws) s) (now flow) ⌝ }
+    requires { ⌜ Flow-ready (now ws) s (now flow) ⌝ }
     requires { ⌜ (tag (program (now ws) s) r ≡ 2) ⊎ (tag (program (now ws) s) r ≡ 3) ⌝ }
     ensures { λ k. ⌜ k ≡ there-code (has (tables (now (ws .entry)) s .flow) (num (program (now (ws .entry)) s) r) r) ⌝ }
 {
@@ -47,12 +42,7 @@ pub fn settle(
     held: &[u64],
     r: usize,
 ) -> usize
-    requires { ⌜ Ready (now ws) s ⌝ }
-    requires { ⌜ Ends (program (now ws) s) (now afters) ⌝ }
-    requires { ⌜ Starts (tables (now ws) s .flow) (s .names) (now starts) ⌝ }
-    requires { ⌜ Flow-sets (program (now ws) s) (tables (now ws) s) (now flow) ⌝ }
-    requires { ⌜ Mail-sets (program (now ws) s) (tables (now ws) s) (now mail) ⌝ }
-    requires { ⌜ Matches (program (now ws) s) (tables (now ws) s) (now may) (now held) 0 ⌝ }
+    requires { ⌜ Closure-ready (now ws) s (now afters) (now starts) (now flow) (now mail) (now may) (now held) ⌝ }
     ensures { λ k. ⌜ Settled (program (now (ws .entry)) s) (tables (now (ws .entry)) s) r k ⌝ }
 {
     match tag(ws, s, r) {

@@ -22,7 +22,7 @@ use Rattle.ceilings_form.specs.Parts as ceilings
 use Rattle.lists.specs.Ready.{Ready}
 use Rattle.rooms.specs.Cleared.{Cleared}
 use Rattle.rules.specs.Derived.{Rule-room}
-use Rattle.stages.specs.Scratch.{Bounds-room}
+use Rattle.ceilings.specs.Table.{Bounds-room}
 
 -- refusal 8 found nothing, so the start has a counter
 pub start-counted : (s : Sizes) (p : Program) (t : Tables) → open-check s p t ≡ none → state-index t (start-state p) < counter-count p t
@@ -53,7 +53,7 @@ pub bounds-room : (n count k m : ℕ) (limits starts : List ℕ) → n * count �
 bounds-room n count k m limits starts h b l c =
     record {
       cells = let q = l .room in omega arith;
-      blank = l .zero;
+      blank = λ z h. l .zero z;
       firsts = let q = c .room in omega arith;
     }
 

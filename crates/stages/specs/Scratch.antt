@@ -3,7 +3,7 @@ use Prim.Native.Nat.{ℕ, _+_, _*_, _≤_, _<_}
 use mathlib.Core.Path.{_≡_}
 use mathlib.Core.List.{List}
 use mathlib.Core.Option.{none}
-use lib.ListN.{length, getD, drop}
+use lib.ListN.{length, drop}
 use Rattle.rooms.specs.Rooms.{rule-words}
 use Rattle.model.specs.declared.Sizes.{Sizes}
 use Rattle.model.specs.Rows.{program}
@@ -27,17 +27,23 @@ use Rattle.bads_rows.specs.Items.{Bads-in-form}
 use Rattle.weights_form.specs.Form.{Weights-in-form}
 use Rattle.stages.specs.Order.{form-check}
 
--- a limit of 0 for each of n counters under each of so many ceilings, and a word for each ceiling; or lines of weights
-pub record Bounds-room (n count : ℕ) (limits starts : List ℕ) : Type 0 where
-  pub cells : n * count ≤ length limits
-  pub blank : (z : ℕ) → getD limits z 0 ≡ 0
-  pub firsts : count ≤ length starts
-
 -- three sets of ceilings for each of n counters, three for each state, and two for each counter
 pub record Mask-room (n : ℕ) (holders group near : List ℕ) : Type 0 where
   pub held : n * 12 ≤ length holders
   pub states : n * 12 ≤ length group
   pub beside : n * 8 ≤ length near
+
+-- n are all counters of a message, and no more than the limit
+pub record Counted (ws : List ℕ) (s : Sizes) (n : ℕ) : Type 0 where
+  pub counters : n ≡ counter-count (program ws s) (tables ws s)
+  pub few : n ≤ maxCounters
+
+-- the start has one of them: the tables are closed, and the table of ends tells where it stands
+pub record Startable (ws : List ℕ) (s : Sizes) (afters : List ℕ) (n : ℕ) : Type 0 where
+  pub ready : Ready ws s
+  pub ends : Ends (program ws s) afters
+  pub closed : open-check s (program ws s) (tables ws s) ≡ none
+  pub counted : Counted ws s n
 
 -- n counters, and the bounds and bads of a message in form
 pub record Formed (ws : List ℕ) (s : Sizes) (n : ℕ) : Type 0 where

@@ -13,26 +13,25 @@ use weights_form::weight_check;
 use weights_least::Count;
 use weights_light::light_check;
 ghost use mathlib.Core.Path.{_≡_};
-ghost use mathlib.Core.Option.{none};
 ghost use Rattle.model.specs.Rows.{program};
 ghost use Rattle.model.specs.Bads.{bad-rows};
 ghost use Rattle.model.specs.Tables.{tables, state-index};
-ghost use Rattle.model.specs.Closed.{start-state, open-check};
-ghost use Rattle.model.specs.Counters.{counter-count};
+ghost use Rattle.model.specs.Closed.{start-state};
 ghost use Rattle.model.specs.Ceilings.{ceilings-of, start-check, met-check};
 ghost use Rattle.model.specs.Weights.{lines-of, light-check};
 ghost use Rattle.model.specs.Limits.{maxCounters};
 ghost use Rattle.model.specs.Verify.{answer};
 ghost use Rattle.lists.specs.Ready.{Ready};
 ghost use Rattle.layout.specs.Tables.{Ends};
-ghost use Rattle.system_letters.specs.Letters.{Class-letters, Letter-sets};
 ghost use Rattle.ceilings_form.specs.Parts.{Whole};
 ghost use Rattle.ceilings.specs.Table.{Limits-table};
 ghost use Rattle.bads_rows.specs.Items.{Bads-in-form};
 ghost use Rattle.weights.specs.Table.{Weights-table};
 ghost use Prim.Native.Nat.{_≤_, _<_};
 ghost use lib.ListN.{length};
+ghost use Rattle.system_items.specs.Stretches.{Letters-filled};
 ghost use Rattle.stages.specs.Order.{form-check};
+ghost use Rattle.stages.specs.Scratch.{Counted, Startable};
 
 // Refusal 10, or 16 where the message has lines of weights.
 pub fn form_verdict(ws: &[u16], s: Sizes, n: usize) -> Verdict
@@ -58,10 +57,7 @@ fn start_counter(ws: &[u16], s: Sizes, afters: &[u16]) -> usize
 
 // Refusal 11, by the counter of the start.
 pub fn start_verdict(ws: &[u16], s: Sizes, afters: &[u16], n: usize, limits: &[u16]) -> Verdict
-    requires { ⌜ Ready (now ws) s ⌝ }
-    requires { ⌜ Ends (program (now ws) s) (now afters) ⌝ }
-    requires { ⌜ open-check s (program (now ws) s) (tables (now ws) s) ≡ none ⌝ }
-    requires { ⌜ (n ≡ counter-count (program (now ws) s) (tables (now ws) s)) × (n ≤ maxCounters) ⌝ }
+    requires { ⌜ Startable (now ws) s (now afters) n ⌝ }
     requires { ⌜ Limits-table (ceilings-of (now ws) s n) (now limits) ⌝ }
     ensures { λ v. ⌜ v ≡
         answer (start-check s (program (now (ws .entry)) s) (tables (now (ws .entry)) s)
@@ -81,12 +77,8 @@ pub fn met_verdict(
     limits: &[u16],
     sums: &mut [Sum],
 ) -> Verdict
-    requires { ⌜ Ready (now ws) s ⌝ }
-    requires { ⌜ Bads-in-form (now ws) s ⌝ }
-    requires { ⌜ Class-letters (program (now ws) s) (tables (now ws) s) (now «letter_at») ⌝ }
-    requires { ⌜ Letter-sets (program (now ws) s) (tables (now ws) s) (now letters) ⌝ }
-    requires { ⌜ (n ≡ counter-count (program (now ws) s) (tables (now ws) s)) × (n ≤ maxCounters) ⌝ }
-    requires { ⌜ Limits-table (ceilings-of (now ws) s n) (now limits) ⌝ }
+    requires { ⌜ Letters-filled (now ws) s (now «letter_at») (now letters) × Bads-in-form (now ws) s ⌝ }
+    requires { ⌜ Counted (now ws) s n × Limits-table (ceilings-of (now ws) s n) (now limits) ⌝ }
     requires { ⌜ n < length (now sums) ⌝ }
     ensures { λ v. ⌜ v ≡
         answer (met-check s (program (now (ws .entry)) s) (tables (now (ws .entry)) s)
@@ -109,15 +101,9 @@ pub fn light_verdict(
     weights: &[u16],
     counts: &mut [Count],
 ) -> Verdict
-    requires { ⌜ Ready (now ws) s ⌝ }
-    requires { ⌜ Ends (program (now ws) s) (now afters) ⌝ }
-    requires { ⌜ open-check s (program (now ws) s) (tables (now ws) s) ≡ none ⌝ }
-    requires { ⌜ Bads-in-form (now ws) s ⌝ }
-    requires { ⌜ Class-letters (program (now ws) s) (tables (now ws) s) (now «letter_at») ⌝ }
-    requires { ⌜ Letter-sets (program (now ws) s) (tables (now ws) s) (now letters) ⌝ }
-    requires { ⌜ (n ≡ counter-count (program (now ws) s) (tables (now ws) s)) × (n ≤ maxCounters) ⌝ }
-    requires { ⌜ Weights-table (lines-of (now ws) s n) (now weights) ⌝ }
-    requires { ⌜ n ≤ length (now counts) ⌝ }
+    requires { ⌜ Startable (now ws) s (now afters) n ⌝ }
+    requires { ⌜ Letters-filled (now ws) s (now «letter_at») (now letters) × Bads-in-form (now ws) s ⌝ }
+    requires { ⌜ Weights-table (lines-of (now ws) s n) (now weights) × (n ≤ length (now counts)) ⌝ }
     ensures { λ v. ⌜ v ≡
         answer (light-check s (program (now (ws .entry)) s) (tables (now (ws .entry)) s)
         (lines-of (now (ws .entry)) s n) (bad-rows (now (ws .entry)) s)) ⌝ }

@@ -32,14 +32,17 @@ use Rattle.positions.proofs.Standing.{run-first, receive-run, rows-length}
 use Rattle.values.proofs.Members.{each-none}
 use Rattle.matching.specs.Patterns.{Pattern}
 use Rattle.system_letters.specs.Letters.{Class-letters, letter-width, Found}
-use Rattle.rules.specs.Derived.{Rule-room}
+use Rattle.rules.specs.Derived.{Rule-room, Letter-tables}
+use Rattle.rules.specs.Within.{only-passing}
 use Rattle.rules.specs.Listed.{kind-effect}
 use Rattle.rules.proofs.States.{class-low}
 use Rattle.rules.proofs.Gather.{gather-none, rows-range}
 use Rattle.plain_rules.proofs.Heads.{tag-head, here}
 use Rattle.plain_rules.proofs.Branches.{Branch-at, rows-at, counted}
-use Rattle.state_rules.specs.Heads.{letter-rules, class-turn, receive-turn, Letter-room}
-use Rattle.state_rules.proofs.Letters.{class-order, letters-ruled, read-there, letter-room}
+use Rattle.lettered_rules.specs.Turns.{letter-rules, read-turn, Class-room}
+use Rattle.lettered_rules.proofs.Letters.{class-order}
+use Rattle.state_rules.specs.Heads.{receive-turn}
+use Rattle.state_rules.proofs.Rooms.{class-room}
 
 module _ {ws : List ℕ} {s : Sizes} (h : Ready ws s) where
   abbrev p : Program
@@ -64,7 +67,7 @@ module _ {ws : List ℕ} {s : Sizes} (h : Ready ws s) where
 
   -- the rules of a receive
   pub receive-gathered : (x r m e : ℕ) → tag p r ≡ 9 → r ≡ right (t .states) x → m ≡ num p r → gather 0 m (receive-turn p t (state-at t x) (r + 1) e) ≡ state-rules p t e (state-at t x)
-  unfolding state-rules kind receive-turn letter-rules state-at
+  unfolding state-rules kind receive-turn read-turn letter-rules state-at
   receive-gathered x r m e is same u =
       let head : head-at p (right (t .states) x) ≡ receives (branch-rows p m (r + 1)) = ap (head-at p) (sym same) ∙ (head-receive p r (rw is) ∙ ap (λ n. receives (branch-rows p n (r + 1))) (sym u)) in
       rw (head, state-rules)
@@ -79,20 +82,18 @@ module _ {ws : List ℕ} {s : Sizes} (h : Ready ws s) where
       (λ z. rw (z, each-none (t .mail) c (may-take p t q) none (right (t .mail) i) (record { at = i; below = b; first = eqb-true (left (t .mail) i) c z; second = refl }), letters-read))
       (λ z. rw z))
 
-  module _ (x q₀ m b q e : ℕ) (y : Bool) (a : Branch-at p q₀ m b q) where
-    pub receive-skipped : (bits : List ℕ) → Branch-bits p t bits → (r : ℕ) → tag p r ≡ 9 → x < s .states → r ≡ right (t .states) x → m ≡ num p r → q₀ ≡ r + 1 → b < m → y ≡ bit (getD bits x 0) b → not y ≡ true → receive-turn p t (state-at t x) q₀ e b ≡ []
-    unfolding receive-turn letter-rules kind ascending tables entries columns state-at
-    receive-skipped bits g r is low same u begin less f n =
+  module _ (x q₀ m b q e : ℕ) (a : Branch-at p q₀ m b q) where
+    pub receive-skipped : (y : Bool) (bits : List ℕ) → Branch-bits p t bits → (r : ℕ) → tag p r ≡ 9 → x < s .states → r ≡ right (t .states) x → m ≡ num p r → q₀ ≡ r + 1 → b < m → y ≡ bit (getD bits x 0) b → not y ≡ true → receive-turn p t (state-at t x) q₀ e b ≡ []
+    unfolding receive-turn read-turn letter-rules kind ascending tables entries columns state-at
+    receive-skipped y bits g r is low same u begin less f n =
         let c = left (t .states) x in
         let head : head-at p (right (t .states) x) ≡ receives (branch-rows p m (r + 1)) = ap (head-at p) (sym same) ∙ (head-receive p r (rw is) ∙ ap (λ n. receives (branch-rows p n (r + 1))) (sym u)) in
         let bit′ : bit (getD bits x 0) b ≡ some-of (t .mail) c (may-take p t (branch-row p (r + 1) b)) = g .receive-bit x b (branch-rows p m (r + 1)) low head (omega (arith, rows-length p m (r + 1))) ∙ ap (λ q. some-of (t .mail) c (may-take p t q)) (rows-at p m (r + 1) b less) in
         rw (begin, reads-nothing c (branch-row p (r + 1) b) (sym bit′ ∙ (sym f ∙ not-true y n)))
 
-    pub receive-kept : (starts : List ℕ) → Class-letters p t starts → (w : ℕ) (found : List ℕ) → w ≡ letter-width p t → (c k to : ℕ) → c ≡ left (t .states) x → x < s .states → Found p t c (from-each (t .mail) c (letters-read p t q)) found → k ≡ branch-body p q → to ≡ state-index t (onward (state-at t x) k) → class-turn (s .states) starts w found (kind-effect receive) to c e ≡ receive-turn p t (state-at t x) q₀ e b
-    unfolding receive-turn letter-rules kind-effect state-at program columns
-    receive-kept starts g w found wide c k to class low f u v =
-        letters-ruled h starts g c (omega (arith, class-low h x low)) (from-each (t .mail) c (letters-read p t q)) (read-there h c q) w found wide f (kind-effect receive) to e ∙
-        rw (a .at, ← u, ← v, ← class)
+    pub receive-same : (f : ℕ → Bool) (c k to : ℕ) → c ≡ left (t .states) x → k ≡ branch-body p q → to ≡ state-index t (onward (state-at t x) k) → only-passing f (read-turn p t c q to e) ≡ only-passing f (receive-turn p t (state-at t x) q₀ e b)
+    unfolding receive-turn state-at
+    receive-same f c k to class u v = rw (a .at, ← u, ← v, ← class)
 
   -- the pattern of a branch
   pub branch-pattern : (q₀ m b q : ℕ) → Branch-at p q₀ m b q → b < m → Pattern p maxDepth q
@@ -105,13 +106,14 @@ module _ {ws : List ℕ} {s : Sizes} (h : Ready ws s) where
   next-most : (L b : ℕ) → (b + 1) * L ≡ b * L + L
   next-most L b = let z : b + 1 ≡ suc b = omega arith in rw z (suc-mul b L)
 
-  pub receive-room : (starts : List ℕ) → Class-letters p t starts → counter-count p t ≤ maxCounters → (w : ℕ) → w ≡ letter-width p t → (found tos₀ others₀ tos others : List ℕ) → Row found (letter-width p t) 0 → Rule-room ws s tos₀ others₀ → length tos ≡ length tos₀ → length others ≡ length others₀ → (n b m c : ℕ) → c ≤ s .rows → b < m → m ≤ maxBranches → n ≤ b * letter-count p t → Letter-room (s .states) starts found tos others w n c
+  pub receive-room : (starts letters : List ℕ) (g : Letter-tables ws s starts letters) (within part found tos₀ others₀ tos others : List ℕ) → Row within (letter-width p t) 0 → length part ≡ 17 → length found ≡ 17 → Rule-room ws s tos₀ others₀ → length tos ≡ length tos₀ → length others ≡ length others₀ → (n b m c : ℕ) → c ≤ s .rows → b < m → m ≤ maxBranches → n ≤ b * letter-count p t → Class-room ws s starts within part found tos others n c
   unfolding program columns counter-count
-  receive-room starts g few w wide found tos₀ others₀ tos others row room e f n b m c low l k most =
+  receive-room starts letters g within part found tos₀ others₀ tos others row u v room e f n b m c low l k most =
+      let few = g .few in
       let less : b + 1 ≤ maxBranches = omega arith in
       let all = mul-le-mul-right (letter-count p t) less in
       let next = next-most (letter-count p t) b in
-      letter-room h starts g few w wide found tos others row n c low (omega (arith, room .letters, class-order h starts g c low)) (omega arith) (omega (arith, room .alike))
+      class-room h starts letters g within part found tos₀ others₀ tos others row u v room e f n c low (omega (arith, room .letters, class-order h starts (g .class-letters) c low)) (omega arith)
 
   pub receive-most : (starts : List ℕ) → Class-letters p t starts → (n n′ b c : ℕ) → c ≤ s .rows → n ≤ b * letter-count p t → n′ + getD starts c 0 ≤ n + getD starts (c + 1) 0 → n′ ≤ (b + 1) * letter-count p t
   unfolding program columns

@@ -1,6 +1,6 @@
-pub mod Letters
 pub mod Branches
-pub mod Within
+pub mod Letters
+mod Within
+mod Rooms
 mod Sends
-mod Unasked
 mod Done

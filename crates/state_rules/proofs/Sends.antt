@@ -29,13 +29,16 @@ use Rattle.values.proofs.Names.{class-upto}
 use Rattle.values.proofs.Members.{each-at, at-each}
 use Rattle.system_letters.specs.Letters.{Class-letters, letter-width, Found}
 use Rattle.system_letters.proofs.Classes.{before-upto}
-use Rattle.rules.specs.Derived.{Rule-room}
+use Rattle.rules.specs.Derived.{Rule-room, Letter-tables}
+use Rattle.rules.specs.Within.{only-passing}
 use Rattle.rules.specs.Listed.{kind-effect}
 use Rattle.rules.proofs.Gather.{each-range}
 use Rattle.rules.proofs.Entries.{entry-in}
 use Rattle.plain_rules.proofs.Heads.{value-from}
-use Rattle.state_rules.specs.Heads.{letter-rules, class-turn, send-turn, Letter-room}
-use Rattle.state_rules.proofs.Letters.{class-range, class-order, letters-ruled, sent-there, letter-room}
+use Rattle.lettered_rules.specs.Turns.{letter-rules, sent-turn, Class-room}
+use Rattle.lettered_rules.proofs.Letters.{class-range, class-order}
+use Rattle.state_rules.specs.Heads.{send-turn}
+use Rattle.state_rules.proofs.Rooms.{class-room}
 
 module _ {ws : List ℕ} {s : Sizes} (h : Ready ws s) where
   abbrev p : Program
@@ -45,31 +48,15 @@ module _ {ws : List ℕ} {s : Sizes} (h : Ready ws s) where
   t = tables ws s
 
   -- "mail (d, v)": the values of a message are in the mail of each class that the target may be
-  pub sent-mailed : (x r j d m from to : ℕ) (b : Bool) → r ≡ right (t .states) x → state-closed p t (state-at t x) ≡ true → tag p r ≡ 5 → from ≡ range-from (t .flow) (num p (r + 1)) → to ≡ range-to (t .flow) (num p (r + 1)) → from ≤ j → j < to → d ≡ right (t .flow) j → b ≡ is-class p d → not b ≡ false → m ≡ num p (r + 2) → each (t .flow) m (has (t .mail) d) ≡ true
+  pub sent-mailed : (x r j d m from to : ℕ) → r ≡ right (t .states) x → state-closed p t (state-at t x) ≡ true → tag p r ≡ 5 → from ≡ range-from (t .flow) (num p (r + 1)) → to ≡ range-to (t .flow) (num p (r + 1)) → from ≤ j → j < to → d ≡ right (t .flow) j → m ≡ num p (r + 2) → is-class p d ≡ true → each (t .flow) m (has (t .mail) d) ≡ true
   unfolding state-closed send-closed kind state-at
-  sent-mailed x r j d m from to b row closed e begin end lo hi same is n message =
+  sent-mailed x r j d m from to row closed e begin end lo hi same message class =
       let head : head-at p (right (t .states) x) ≡ sends (num p r) (num p (r + 1)) (num p (r + 2)) (rest p r) = ap (head-at p) (sym row) ∙ head-send p r (rw e) in
       let all : send-closed p t (state-at t x) (num p r) (num p (r + 1)) (num p (r + 2)) (rest p r) ≡ true = rw (head, state-closed) at closed in
       let (target, inside) = entry-in h (num p (r + 1)) j (omega arith) (omega arith) in
       let mem : Member (t .flow) (num p (r + 1)) d = record { at = j; below = inside; first = target; second = sym same } in
-      let one = implies-elim (is-class p d) _ (each-at (t .flow) (num p (r + 1)) _ all d mem) (sym is ∙ not-false b n) in
+      let one = implies-elim (is-class p d) _ (each-at (t .flow) (num p (r + 1)) _ all d mem) class in
       rw message (at-each (t .flow) (num p (r + 2)) (has (t .mail) d) (λ v o. and-left (has (t .mail) d v) _ (each-at (t .flow) (num p (r + 2)) _ one v o)))
-
-  module _ (m to i j d : ℕ) (b : Bool) (same : d ≡ right (t .flow) j) (e : b ≡ is-class p d) where
-    pub send-skipped : not b ≡ true → send-turn p t m to i j ≡ []
-    unfolding send-turn
-    send-skipped n = rw (← same, sym e ∙ not-true b n, send-turn)
-
-    pub send-kept : (starts : List ℕ) → Class-letters p t starts → (w : ℕ) (found : List ℕ) → w ≡ letter-width p t → Found p t d (from-each (t .flow) m (letters-allowed p t)) found → each (t .flow) m (has (t .mail) d) ≡ true → not b ≡ false → class-turn (s .states) starts w found (kind-effect send) to d i ≡ send-turn p t m to i j
-    unfolding send-turn letter-rules kind-effect
-    send-kept starts g w found wide f all n =
-        let class = sym e ∙ not-false b n in
-        letters-ruled h starts g d (class-upto h d class) (from-each (t .flow) m (letters-allowed p t)) (sent-there h d m all) w found wide f (kind-effect send) to i ∙
-        (let z : is-class p (right (t .flow) j) ≡ true = ap (is-class p) (sym same) ∙ class in rw (z, send-turn, same))
-
-  pub class-low : (d : ℕ) (b : Bool) → b ≡ is-class p d → not b ≡ false → d ≤ s .rows
-  unfolding program columns
-  class-low d b e n = class-upto h d (sym e ∙ not-false b n)
 
   -- later entries of a name have later classes
   pub later-value : (starts : List ℕ) → Class-letters p t starts → (a j : ℕ) → range-from (t .flow) a ≤ j → j + 1 < range-to (t .flow) a → (getD starts (right (t .flow) j + 1) 0 ≤ getD starts (right (t .flow) (j + 1)) 0) × (getD starts (right (t .flow) j) 0 ≤ getD starts (right (t .flow) (j + 1)) 0)
@@ -84,17 +71,34 @@ module _ {ws : List ℕ} {s : Sizes} (h : Ready ws s) where
       let three = g .start (right (t .flow) (j + 1)) (omega arith) in
       (omega (arith, two .1), omega (arith, two .1, class-order h starts g (right (t .flow) j) (omega arith) .0))
 
+  pub send-value : (a j d from to : ℕ) → from ≡ range-from (t .flow) a → to ≡ range-to (t .flow) a → from ≤ j → j < to → d ≡ right (t .flow) j → d ≤ s .rows
+  send-value a j d from to begin end lo hi same = omega (arith, value-from h a from j begin lo (omega arith) .1)
+
   -- the rules of a send
   pub send-gathered : (x r a m next from to i : ℕ) → r ≡ right (t .states) x → tag p r ≡ 5 → a ≡ num p (r + 1) → m ≡ num p (r + 2) → next ≡ state-index t (onward (state-at t x) (rest p r)) → from ≡ range-from (t .flow) a → to ≡ range-to (t .flow) a → gather from to (send-turn p t m next i) ≡ state-rules p t i (state-at t x)
-  unfolding state-rules kind state-at send-turn letter-rules
+  unfolding state-rules kind state-at send-turn sent-turn letter-rules
   send-gathered x r a m next from to i row e u v z begin end =
       let head : head-at p (right (t .states) x) ≡ sends (num p r) (num p (r + 1)) (num p (r + 2)) (rest p r) = ap (head-at p) (sym row) ∙ head-send p r (rw e) in
       rw (head, state-rules, begin, end, z, u, v)
       (sym (each-range (t .flow) (num p (r + 1)) (λ d. elim (is-class p d) [ true ↦ letter-rules p t puts (state-index t (onward (state-at t x) (rest p r))) d (from-each (t .flow) (num p (r + 2)) (letters-allowed p t)) i | false ↦ [] ]) (flow-rises h)))
 
-  -- the letters of a class are no more than the counters
-  pub send-room : (starts : List ℕ) → Class-letters p t starts → counter-count p t ≤ maxCounters → (w : ℕ) → w ≡ letter-width p t → (found tos₀ others₀ tos others : List ℕ) → Row found (letter-width p t) 0 → Rule-room ws s tos₀ others₀ → length tos ≡ length tos₀ → length others ≡ length others₀ → (n d : ℕ) → d ≤ s .rows → n ≤ getD starts d 0 → Letter-room (s .states) starts found tos others w n d
+  -- the letters of a class are no more than the counters, and those of later entries stand behind them
+  pub send-room : (starts letters : List ℕ) (g : Letter-tables ws s starts letters) (within part found tos₀ others₀ tos others : List ℕ) → Row within (letter-width p t) 0 → length part ≡ 17 → length found ≡ 17 → Rule-room ws s tos₀ others₀ → length tos ≡ length tos₀ → length others ≡ length others₀ → (n j d : ℕ) → d ≡ right (t .flow) j → d ≤ s .rows → n ≤ getD starts (right (t .flow) j) 0 → Class-room ws s starts within part found tos others n d
   unfolding program columns counter-count
-  send-room starts g few w wide found tos₀ others₀ tos others row room e f n d low upto =
-      let (a, b) = class-order h starts g d low in
-      letter-room h starts g few w wide found tos others row n d low (omega (arith, room .counters)) (omega arith) (omega (arith, room .alike))
+  send-room starts letters g within part found tos₀ others₀ tos others row u v room e f n j d same low upto =
+      let few = g .few in
+      let (a, b) = class-order h starts (g .class-letters) d low in
+      let at : getD starts d 0 ≡ getD starts (right (t .flow) j) 0 = ap (λ k. getD starts k 0) same in
+      class-room h starts letters g within part found tos₀ others₀ tos others row u v room e f n d low (omega (arith, room .counters)) (omega arith)
+
+  pub send-most : (starts letters : List ℕ) (g : Letter-tables ws s starts letters) (a j d n e from to : ℕ) → from ≡ range-from (t .flow) a → to ≡ range-to (t .flow) a → from ≤ j → j + 1 < to → d ≡ right (t .flow) j → n ≤ getD starts (right (t .flow) j) 0 → e + getD starts d 0 ≤ n + getD starts (d + 1) 0 → e ≤ getD starts (right (t .flow) (j + 1)) 0
+  send-most starts letters g a j d n e from to begin end lo hi same upto more =
+      let next = later-value starts (g .class-letters) a j (omega arith) (omega arith) .0 in
+      let at : getD starts d 0 ≡ getD starts (right (t .flow) j) 0 = ap (λ k. getD starts k 0) same in
+      let behind : getD starts (d + 1) 0 ≡ getD starts (right (t .flow) j + 1) 0 = ap (λ k. getD starts (k + 1) 0) same in
+      omega arith
+
+-- the turn of a flow entry is that of its value
+pub send-same : (p : Program) (t : Tables) (f : ℕ → Bool) (m to d j : ℕ) → d ≡ right (t .flow) j → (i : ℕ) → only-passing f (sent-turn p t m to d i) ≡ only-passing f (send-turn p t m to i j)
+unfolding send-turn
+send-same p t f m to d j same i = ap (λ k. only-passing f (sent-turn p t m to k i)) same

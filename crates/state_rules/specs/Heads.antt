@@ -1,58 +1,48 @@
--- What each turn of the loops over the rules of a send and a receive gives, by the tables that the code reads. e is
--- the number of the state s that the rules are told from.
-use Prim.Native.Nat.{ℕ, _+_, _*_, _≤_, _<_}
+-- The rules of a send and of a receive, turn by turn of their loops, and what they are read from. e is the number of
+-- the state s that the rules are told from.
+use Prim.Native.Nat.{ℕ}
 use mathlib.Core.Path.{_≡_}
-use mathlib.Core.Bool.{true, false}
-use mathlib.Core.List.{List, [], _∷_, map}
-use lib.ListN.{length, getD}
-use Rattle.bits.specs.Bits.{member, Row}
-use Rattle.model.specs.Limits.{maxRows}
-use Rattle.model.specs.Index.{gather, only}
-use Rattle.model.specs.Keys.{ascending}
+use mathlib.Core.List.{List}
+use mathlib.Core.Option.{none}
+use Rattle.bits.specs.Bits.{Row}
+use Rattle.model.specs.declared.Sizes.{Sizes}
 use Rattle.model.specs.Words.{right}
-use Rattle.model.specs.Rows.{Program}
-use Rattle.model.specs.Heads.{is-class, branch-body}
-use Rattle.model.specs.Letters.{Letter}
-use Rattle.model.specs.Tables.{Tables, State, state-index, onward}
-use Rattle.model.specs.Counters.{letters-allowed, letter-index}
-use Rattle.model.specs.Rules.{Effect, reads, puts, Rule, rule, from-each, letters-read}
+use Rattle.model.specs.Rows.{Program, program}
+use Rattle.model.specs.Heads.{branch-body}
+use Rattle.model.specs.Tables.{Tables, tables, State, state-index, onward}
+use Rattle.model.specs.Closed.{open-check}
+use Rattle.model.specs.Rules.{Rule}
+use Rattle.layout.specs.Tables.{Ends}
 use Rattle.positions.specs.Positions.{branch-row}
-
--- the rules for letters of class d, ascending, that lead to the state `to`
-unfoldable pub letter-rules : Program → Tables → (ℕ → Effect) → ℕ → ℕ → List Letter → ℕ → List Rule
-letter-rules p t effect to d ls e = map (λ l. rule e to (effect (letter-index p t d l))) (ascending ls)
-
--- letter y, where set 0, of w words, has it; there are so many states
-unfoldable pub letter-turn : ℕ → ℕ → List ℕ → (ℕ → Effect) → ℕ → ℕ → ℕ → List Rule
-letter-turn states w found effect to e y = only (member found w 0 y) (rule e to (effect (states + y)))
-
--- the letters of class d that the set has
-unfoldable pub class-turn : ℕ → List ℕ → ℕ → List ℕ → (ℕ → Effect) → ℕ → ℕ → ℕ → List Rule
-class-turn states letter-at w found effect to d e =
-    gather (getD letter-at d 0) (getD letter-at (d + 1) 0) (letter-turn states w found effect to e)
+use Rattle.positions.specs.Branches.{Branch-bits}
+use Rattle.system_letters.specs.Letters.{letter-width}
+use Rattle.rules.specs.Derived.{Rule-room, Sent-tables, State-head}
+use Rattle.branch_letters.specs.Kept.{Read-tables}
+use Rattle.lettered_rules.specs.Turns.{sent-turn, read-turn}
 
 -- the letters of the name m put into the mail of the class of flow entry j
 unfoldable pub send-turn : Program → Tables → ℕ → ℕ → ℕ → ℕ → List Rule
-send-turn p t m to e j =
-    elim (is-class p (right (t .flow) j)) [
-      | true ↦ letter-rules p t puts to (right (t .flow) j) (from-each (t .flow) m (letters-allowed p t)) e
-      | false ↦ []
-    ]
+send-turn p t m to e j = sent-turn p t m to (right (t .flow) j) e
 
 -- branch b of a receive whose branches stand from row q
 unfoldable pub receive-turn : Program → Tables → State → ℕ → ℕ → ℕ → List Rule
 receive-turn p t s q e b =
-    letter-rules p t reads (state-index t (onward s (branch-body p (branch-row p q b)))) (s .class)
-    (from-each (t .mail) (s .class) (letters-read p t (branch-row p q b))) e
+    read-turn p t (s .class) (branch-row p q b) (state-index t (onward s (branch-body p (branch-row p q b)))) e
 
--- The set has the letters of class d, the last of which has a counter, and their rules have room behind n rules.
-pub record Letter-room (states : ℕ) (letter-at found tos others : List ℕ) (w n d : ℕ) : Type 0 where
-  pub class : d ≤ maxRows
-  pub starts : d + 1 < length letter-at
-  pub order : getD letter-at d 0 ≤ getD letter-at (d + 1) 0
-  pub row : Row found w 0
-  pub inside : getD letter-at (d + 1) 0 ≤ 64 * w
-  pub counters : states + getD letter-at (d + 1) 0 ≤ 65536
-  pub tos-room : n + getD letter-at (d + 1) 0 ≤ length tos + getD letter-at d 0
-  pub others-room : length others ≡ length tos
-  pub low : n ≤ 65536
+-- The rules of sends: the tables are closed, and these are those of the message.
+pub record Send-tables (ws : List ℕ) (s : Sizes) (afters flow-at letter-at letters : List ℕ) : Type 0 where
+  pub closed : open-check s (program ws s) (tables ws s) ≡ none
+  pub ends : Ends (program ws s) afters
+  pub sent-tables : Sent-tables ws s flow-at letter-at letters
+
+-- The rules of receives: which branches may match, and what these read.
+pub record Receive-tables (ws : List ℕ) (s : Sizes) (afters : List ℕ) (w : ℕ)
+    (fitting names letter-at letters branches : List ℕ) : Type 0 where
+  pub branch-bits : Branch-bits (program ws s) (tables ws s) branches
+  pub read-tables : Read-tables ws s afters w fitting names letter-at letters
+
+-- State i, at row r, goes by letters, as its tag k says; there is a set of letters, and room for the rules.
+pub record Lettered-state (ws : List ℕ) (s : Sizes) (i r k : ℕ) (within tos others : List ℕ) : Type 0 where
+  pub state : State-head ws s i r k
+  pub within-row : Row within (letter-width (program ws s) (tables ws s)) 0
+  pub room : Rule-room ws s tos others

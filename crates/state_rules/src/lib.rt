@@ -1,5 +1,6 @@
 // The rules of a state, all at once: where they lead, and the other counter. All rules of a state are of one kind.
-use branch_letters::branch_letters;
+use lettered_rules::read_rules;
+use lettered_rules::sent_rules;
 use lists::flow_value;
 use lists::state_class;
 use lists::state_location;
@@ -20,114 +21,25 @@ use plain_rules::onto;
 use plain_rules::rest_rules;
 use plain_rules::spawn_rules;
 use positions::branch_body;
-use program::rows::is_class;
 use program::rows::num;
 use program::rows::tag;
-use sent_letters::sent_letters;
-use sets::copy_into;
-use sets::holds;
-use sets::meets;
-use sets::take_from;
 use system_letters::LETTER_WORDS;
-use system_letters::letter_width;
 ghost use mathlib.Core.Path.{_≡_};
-ghost use mathlib.Core.Bool.{Bool, true, not, _&&_, _||_};
-ghost use Prim.Native.Nat.{ℕ, _+_, _*_, _≤_, _<_};
-ghost use lib.ListN.{length, getD};
-ghost use Rattle.bits.specs.Bits.{member, Row};
-ghost use Rattle.model.specs.Index.{any};
-ghost use Rattle.model.specs.Words.{right};
-ghost use Rattle.model.specs.Rows.{program, tag, Kind, send, receive};
+ghost use mathlib.Core.Bool.{Bool, true};
+ghost use Prim.Native.Nat.{ℕ, _<_};
+ghost use Rattle.bits.specs.Bits.{Row};
+ghost use Rattle.model.specs.Rows.{program, send, receive};
 ghost use Rattle.model.specs.Tables.{tables, state-at};
-ghost use Rattle.model.specs.Limits.{maxCounters};
-ghost use Rattle.model.specs.Closed.{state-closed};
-ghost use Rattle.model.specs.Counters.{counter-count};
-ghost use Rattle.positions.specs.Branches.{Branch-bits};
 ghost use Rattle.model.specs.Rules.{state-rules};
-ghost use Rattle.layout.specs.Tables.{Ends};
-ghost use Rattle.rules.specs.Listed.{kind-effect, State-rules};
+ghost use Rattle.rules.specs.Listed.{State-rules};
 ghost use Rattle.rules.specs.Added.{Added};
-ghost use Rattle.rules.specs.Derived.{Rule-room, Reads, Rule-tables};
-ghost use Rattle.lists.specs.Lists.{Starts};
-ghost use Rattle.system_letters.specs.Letters.{Class-letters, Letter-sets, letter-width};
-ghost use Rattle.lists.specs.Ready.{Ready};
-ghost use Rattle.state_rules.specs.Heads.{Letter-room, class-turn};
-ghost use Rattle.state_rules.specs.Within.{only-passing, Asked-letters, Rules-within};
-ghost use Rattle.pattern_heads.specs.Fitting.{Match-tables};
-
-// A rule to the state `next` for each letter of class d that set 0 has, with its counter; n rules stand in the lists.
-fn letter_rules(
-    s: Sizes,
-    letter_at: &[u16],
-    found: &[u64],
-    words: usize,
-    d: usize,
-    next: u16,
-    n: usize,
-    tos: &mut [u16],
-    others: &mut [u16],
-) -> usize
-    requires { ⌜ Letter-room (s .states) (now «letter_at») (now found) (now tos) (now others) words n d ⌝ }
-    ensures { λ e. ⌜ ((k : Kind) → Added k (now (tos .entry)) (now (others .entry)) n (now (tos .exit))
-        (now (others .exit)) e
-        (class-turn (s .states) (now («letter_at» .entry)) words (now (found .entry)) (kind-effect k) next d)) ⌝ }
-    ensures { λ e. ⌜ e + getD (now («letter_at» .entry)) d 0 ≤ n + getD (now («letter_at» .entry)) (d + 1) 0 ⌝ }
-{
-    let from = word(letter_at, d);
-    let to = word(letter_at, d + 1);
-    let mut e = n;
-    for y in from..to {
-        if !holds(found, words, 0, y) {
-            continue;
-        }
-        let x = s.states + y;
-        tos[e] = next;
-        others[e] = x as u16;
-        e += 1;
-    }
-    e
-}
-
-// Takes from set 0 what the set `within` does not have, where only letters of that set are asked for. `part` is
-// scratch, of which nothing is promised afterwards.
-fn keep_within(narrow: bool, within: &[u64], words: usize, part: &mut [u64], found: &mut [u64])
-    requires { ⌜ Row (now within) words 0 ⌝ }
-    requires { ⌜ Row (now part) words 0 ⌝ }
-    requires { ⌜ Row (now found) words 0 ⌝ }
-    ensures { λ _. ⌜ ((y : ℕ) → y < 64 * words → member (now (found .exit)) words 0 y ≡
-        (member (now (found .entry)) words 0 y && (not narrow || member (now (within .entry)) words 0 y))) ⌝ }
-{
-    if !narrow {
-        return;
-    }
-    copy_into(part, found, words, 0, 0);
-    take_from(part, within, words, 0, 0);
-    take_from(found, part, words, 0, 0);
-}
-
-// Class d has a letter that is asked for: one of the set `within`, where only these are; else that is not looked at.
-fn asks_class(narrow: bool, letter_at: &[u16], within: &[u64], words: usize, d: usize) -> bool
-    requires { ⌜ d + 1 < length (now «letter_at») ⌝ }
-    requires { ⌜ getD (now «letter_at») (d + 1) 0 ≤ 64 * words ⌝ }
-    requires { ⌜ Row (now within) words 0 ⌝ }
-    ensures { λ r. ⌜ r ≡ (not narrow || any (getD (now («letter_at» .entry)) d 0)
-        (getD (now («letter_at» .entry)) (d + 1) 0) (member (now (within .entry)) words 0)) ⌝ }
-{
-    if !narrow {
-        return true;
-    }
-    let from = word(letter_at, d);
-    let to = word(letter_at, d + 1);
-    for y in from..to {
-        if holds(within, words, 0, y) {
-            return true;
-        }
-    }
-    false
-}
+ghost use Rattle.rules.specs.Derived.{Rule-room, Rule-tables};
+ghost use Rattle.rules.specs.Within.{only-passing, Asked-letters, Rules-within};
+ghost use Rattle.system_letters.specs.Letters.{letter-width};
+ghost use Rattle.state_rules.specs.Heads.{Send-tables, Receive-tables, Lettered-state};
 
 // A send: each class that the target may be, by the letters of the message; where that is asked for, of the set
-// `within` only. Most classes have none of these, and the letters of a message are searched for in each class.
+// `within` only.
 fn send_rules(
     ws: &[u16],
     s: Sizes,
@@ -143,17 +55,8 @@ fn send_rules(
     tos: &mut [u16],
     others: &mut [u16],
 ) -> usize
-    requires { ⌜ Ready (now ws) s ⌝ }
-    requires { ⌜ Ends (program (now ws) s) (now afters) ⌝ }
-    requires { ⌜ Starts (tables (now ws) s .flow) (s .names) (now «flow_at») ⌝ }
-    requires { ⌜ Class-letters (program (now ws) s) (tables (now ws) s) (now «letter_at») ⌝ }
-    requires { ⌜ Letter-sets (program (now ws) s) (tables (now ws) s) (now letters) ⌝ }
-    requires { ⌜ (i < s .states) × (r ≡ right (tables (now ws) s .states) i) ⌝ }
-    requires { ⌜ tag (program (now ws) s) r ≡ 5 ⌝ }
-    requires { ⌜ state-closed (program (now ws) s) (tables (now ws) s) (state-at (tables (now ws) s) i) ≡ true ⌝ }
-    requires { ⌜ counter-count (program (now ws) s) (tables (now ws) s) ≤ maxCounters ⌝ }
-    requires { ⌜ Rule-room (now ws) s (now tos) (now others) ⌝ }
-    requires { ⌜ Row (now within) (letter-width (program (now ws) s) (tables (now ws) s)) 0 ⌝ }
+    requires { ⌜ Send-tables (now ws) s (now afters) (now «flow_at») (now «letter_at») (now letters) ⌝ }
+    requires { ⌜ Lettered-state (now ws) s i r 5 (now within) (now tos) (now others) ⌝ }
     ensures { λ n. ⌜ ((f : ℕ → Bool) →
         Asked-letters (program (now (ws .entry)) s) (tables (now (ws .entry)) s) narrow (now (within .entry)) f →
         Added send (now (tos .entry)) (now (others .entry)) 0 (now (tos .exit)) (now (others .exit)) n
@@ -165,24 +68,28 @@ fn send_rules(
     let next = behind(ws, s, afters, at, i, r);
     let from = word(flow_at, target);
     let to = word(flow_at, target + 1);
-    let words = letter_width(ws, s, letter_at);
-    let mut aside = [0u64; LETTER_WORDS];
+    let mut part = [0u64; LETTER_WORDS];
     let mut found = [0u64; LETTER_WORDS];
     let mut n = 0;
     for j in from..to {
         let d = flow_value(ws, s, j);
-        if !is_class(ws, s, d) {
-            continue;
-        }
-        if !asks_class(narrow, letter_at, within, words, d) {
-            continue;
-        }
-        sent_letters(ws, s, flow_at, letter_at, letters, message, d, &mut found);
-        keep_within(narrow, within, words, &mut aside, &mut found);
-        if !meets(&found, &found, words, 0, 0) {
-            continue;
-        }
-        n = letter_rules(s, letter_at, &found, words, d, next, n, tos, others);
+        n = sent_rules(
+            ws,
+            s,
+            flow_at,
+            letter_at,
+            letters,
+            message,
+            d,
+            next,
+            narrow,
+            within,
+            n,
+            &mut part,
+            &mut found,
+            tos,
+            others,
+        );
     }
     n
 }
@@ -207,18 +114,9 @@ fn receive_rules(
     tos: &mut [u16],
     others: &mut [u16],
 ) -> usize
-    requires { ⌜ Ready (now ws) s ⌝ }
-    requires { ⌜ Ends (program (now ws) s) (now afters) ⌝ }
-    requires { ⌜ Class-letters (program (now ws) s) (tables (now ws) s) (now «letter_at») ⌝ }
-    requires { ⌜ Letter-sets (program (now ws) s) (tables (now ws) s) (now letters) ⌝ }
-    requires { ⌜ Reads (program (now ws) s) (tables (now ws) s) (now letters) ⌝ }
-    requires { ⌜ Branch-bits (program (now ws) s) (tables (now ws) s) (now branches) ⌝ }
-    requires { ⌜ tag (program (now ws) s) r ≡ 9 ⌝ }
-    requires { ⌜ (i < s .states) × (r ≡ right (tables (now ws) s .states) i) ⌝ }
-    requires { ⌜ Rule-room (now ws) s (now tos) (now others) ⌝ }
-    requires { ⌜ counter-count (program (now ws) s) (tables (now ws) s) ≤ maxCounters ⌝ }
-    requires { ⌜ Row (now within) (letter-width (program (now ws) s) (tables (now ws) s)) 0 ⌝ }
-    requires { ⌜ Match-tables (now ws) s w (now fitting) (now names) ⌝ }
+    requires { ⌜ Receive-tables (now ws) s (now afters) w (now fitting) (now names) (now «letter_at») (now letters)
+        (now branches) ⌝ }
+    requires { ⌜ Lettered-state (now ws) s i r 9 (now within) (now tos) (now others) ⌝ }
     ensures { λ n. ⌜ ((f : ℕ → Bool) →
         Asked-letters (program (now (ws .entry)) s) (tables (now (ws .entry)) s) narrow (now (within .entry)) f →
         Added receive (now (tos .entry)) (now (others .entry)) 0 (now (tos .exit)) (now (others .exit)) n
@@ -227,7 +125,6 @@ fn receive_rules(
 {
     let c = state_class(ws, s, i);
     let m = num(ws, s, r);
-    let words = letter_width(ws, s, letter_at);
     let mut part = [0u64; LETTER_WORDS];
     let mut found = [0u64; LETTER_WORDS];
     let mut q = r + 1;
@@ -235,12 +132,12 @@ fn receive_rules(
     for b in 0..m {
         let row = q;
         let e = branch_body(ws, s, afters, row);
-        let here = onto(ws, s, at, i, e);
         q = word(afters, e);
         if !may_match(branches, i, b) {
             continue;
         }
-        branch_letters(
+        let next = onto(ws, s, at, i, e);
+        n = read_rules(
             ws,
             s,
             afters,
@@ -251,16 +148,15 @@ fn receive_rules(
             letters,
             c,
             row,
-            here as usize,
+            next,
+            narrow,
+            within,
+            n,
             &mut part,
             &mut found,
+            tos,
+            others,
         );
-        keep_within(narrow, within, words, &mut part, &mut found);
-        // Most ceilings hold no letter that a branch reads, and a class may have a thousand.
-        if !meets(&found, &found, words, 0, 0) {
-            continue;
-        }
-        n = letter_rules(s, letter_at, &found, words, c, here, n, tos, others);
     }
     n
 }

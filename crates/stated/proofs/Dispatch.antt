@@ -2,7 +2,7 @@
 use Prim.Native.Nat.{ℕ, _+_, _*_, _≤_, _<_}
 use native.Mathlib.Omega.{arith}
 use native.Mathlib.Decide.{ℕ-discrete}
-use mathlib.Core.Path.{_≡_, refl, sym, _∙_, ap, ap₂}
+use mathlib.Core.Path.{_≡_, refl, sym, _∙_, ap}
 use mathlib.Core.Bool.{Bool, true, false, not, _&&_, _||_}
 use mathlib.Core.List.{List}
 use mathlib.Core.Logic.{_⊎_, inl, inr, ⊎-elim, Iff·rfl}
@@ -16,8 +16,8 @@ use Rattle.model.specs.Scopes.{rest}
 use Rattle.model.specs.Heads.{call-at, branch-rows, is-class, parameters, takes}
 use Rattle.model.specs.Tables.{Tables, tables, has, each, some-of, State, onward, state-at, has-state}
 use Rattle.model.specs.Closed.{passes, call-closed, send-closed, begun, spawn-closed, give-closed, branches-closed, entered, state-closed}
-use Rattle.model.proofs.Logic.{true-false, test, and-left, and-right, and-intro, implies-elim, implies-intro, both, and-joined}
-use Rattle.model.proofs.Heads.{head-give, head-build, head-function, head-call, head-send, head-spawn, head-self, head-case, head-receive, head-between}
+use Rattle.model.proofs.Logic.{true-false, test, and-intro, both, and-joined}
+use Rattle.model.proofs.Heads.{head-give, head-build, head-function, head-call, head-send, head-spawn, head-self, head-case, head-receive}
 use Rattle.model.proofs.Exact.Members.{some-of-iff}
 use Rattle.lists.specs.Ready.{Ready}
 use Rattle.values.proofs.Names.{head-name, class-upto}

@@ -5,13 +5,15 @@ use mathlib.Core.Bool.{Bool, true, false}
 use mathlib.Core.List.{List}
 use lib.ListN.{length, getD}
 use Rattle.model.specs.Index.{implies}
-use Rattle.model.specs.Words.{Columns}
-use Rattle.model.specs.Rows.{Program, tag, num}
+use Rattle.model.specs.declared.Sizes.{Sizes}
+use Rattle.model.specs.Words.{Columns, right}
+use Rattle.model.specs.Rows.{Program, program, tag, num}
 use Rattle.model.specs.Heads.{branch-rows, takes}
-use Rattle.model.specs.Tables.{Tables, each, some-of, State, state-at, has-state, onward}
+use Rattle.model.specs.Tables.{Tables, tables, each, some-of, State, state-at, has-state, onward}
 use Rattle.model.specs.Closed.{may-take, entered, state-closed}
 use Rattle.bits.specs.Bits.{bit}
 use Rattle.branches.specs.Taken.{lacks, bodies-closed}
+use Rattle.settled.specs.Settled.{Settled}
 
 -- of the call at row r in the state s: it enters the functions that the callee may be
 unfoldable pub callees-here : Program → Tables → State → ℕ → Bool
@@ -36,6 +38,12 @@ pub record Flagged (b : Bool) (x : ℕ) : Type 0 where
 pub record Bits-of (p : Program) (t : Tables) (l : Columns) (a : ℕ) (qs : List ℕ) (k : ℕ) : Type 0 where
   pub bits : (b : ℕ) → b < length qs → bit k b ≡ some-of l a (may-take p t (getD qs b 0))
   pub end : k < 2 ^ length qs
+
+-- state i stands at row r, whose head asks k whatever the state
+pub record State-asked (ws : List ℕ) (s : Sizes) (i r k : ℕ) : Type 0 where
+  pub low : i < s .states
+  pub location : r ≡ right (tables ws s .states) i
+  pub settled : Settled (program ws s) (tables ws s) r k
 
 -- k is `lacks` where something that the state s asks for is missing; else it has the bits of its branches, and is 0
 -- where it has none

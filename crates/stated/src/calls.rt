@@ -13,8 +13,8 @@ ghost use Rattle.model.specs.Rows.{program, tag};
 ghost use Rattle.model.specs.Heads.{takes};
 ghost use Rattle.model.specs.Tables.{tables, state-at, has-state};
 ghost use Rattle.model.specs.Closed.{entered};
-ghost use Rattle.lists.specs.Lists.{Starts};
 ghost use Rattle.lists.specs.Ready.{Ready};
+ghost use Rattle.asks.specs.Asks.{Starts-ready};
 ghost use Rattle.stated.specs.Stated.{callees-here};
 
 // Where f takes so many arguments, whether state i enters its body.
@@ -35,8 +35,7 @@ fn callee_here(ws: &[u16], s: Sizes, at: &[u16], i: usize, f: usize, count: usiz
 
 // Whether state i enters all these bodies, where its head is the call at row r.
 pub fn callees_here(ws: &[u16], s: Sizes, starts: &[u16], at: &[u16], i: usize, r: usize) -> bool
-    requires { ⌜ Ready (now ws) s ⌝ }
-    requires { ⌜ Starts (tables (now ws) s .flow) (s .names) (now starts) ⌝ }
+    requires { ⌜ Starts-ready (now ws) s (now starts) ⌝ }
     requires { ⌜ tag (program (now ws) s) r ≡ 4 ⌝ }
     ensures { λ b. ⌜ b ≡
         callees-here (program (now (ws .entry)) s) (tables (now (ws .entry)) s)

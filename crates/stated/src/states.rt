@@ -21,22 +21,17 @@ use values::width;
 ghost use mathlib.Core.Path.{_≡_};
 ghost use mathlib.Core.Bool.{_&&_};
 ghost use Prim.Native.Nat.{_≤_, _<_};
-ghost use Rattle.model.specs.Words.{right};
 ghost use Rattle.model.specs.Rows.{program, tag, num};
 ghost use Rattle.model.specs.Scopes.{rest};
 ghost use Rattle.model.specs.Heads.{call-at, branch-rows};
 ghost use Rattle.model.specs.Tables.{tables, has, onward, state-at, has-state};
 ghost use Rattle.model.specs.Closed.{call-closed};
-ghost use Rattle.lists.specs.Lists.{Starts};
-ghost use Rattle.lists.specs.Ready.{Ready};
-ghost use Rattle.layout.specs.Tables.{Ends};
 ghost use Rattle.positions.specs.Positions.{Run};
-ghost use Rattle.values.specs.Values.{Flow-sets, Mail-sets};
-ghost use Rattle.matching.specs.Patterns.{Matches};
-ghost use Rattle.branches.specs.Taken.{code-closed};
-ghost use Rattle.asks.specs.Asks.{Asked};
-ghost use Rattle.settled.specs.Settled.{Settled};
-ghost use Rattle.stated.specs.Stated.{Here, Flagged, Stated};
+ghost use Rattle.values.specs.Values.{Flow-sets};
+ghost use Rattle.branches.specs.Taken.{code-closed, Layout-ready};
+ghost use Rattle.asks.specs.Asks.{Starts-ready, Asked};
+ghost use Rattle.settled.specs.Settled.{Closure-ready};
+ghost use Rattle.stated.specs.Stated.{Here, Flagged, State-asked, Stated};
 
 // What the head at row r with this code asks in state i: nothing, to go on at its rest, or something lacks.
 fn rest_closed(
@@ -48,10 +43,8 @@ fn rest_closed(
     r: usize,
     k: usize,
 ) -> bool
-    requires { ⌜ Ready (now ws) s ⌝ }
-    requires { ⌜ Ends (program (now ws) s) (now afters) ⌝ }
-    requires { ⌜ i < s .states ⌝ }
-    requires { ⌜ (2 ≤ tag (program (now ws) s) r) × (tag (program (now ws) s) r ≤ 7) ⌝ }
+    requires { ⌜ Layout-ready (now ws) s (now afters) ⌝ }
+    requires { ⌜ (i < s .states) × ((2 ≤ tag (program (now ws) s) r) × (tag (program (now ws) s) r ≤ 7)) ⌝ }
     ensures { λ b. ⌜ b ≡
         code-closed k (has-state (tables (now (ws .entry)) s)
         (onward (state-at (tables (now (ws .entry)) s) i) (rest (program (now (ws .entry)) s) r))) ⌝ }
@@ -76,10 +69,8 @@ fn call_closed(
     r: usize,
     k: usize,
 ) -> bool
-    requires { ⌜ Ready (now ws) s ⌝ }
-    requires { ⌜ Starts (tables (now ws) s .flow) (s .names) (now starts) ⌝ }
-    requires { ⌜ tag (program (now ws) s) r ≡ 4 ⌝ }
-    requires { ⌜ Asked (program (now ws) s) (tables (now ws) s) r k ⌝ }
+    requires { ⌜ Starts-ready (now ws) s (now starts) ⌝ }
+    requires { ⌜ (tag (program (now ws) s) r ≡ 4) × Asked (program (now ws) s) (tables (now ws) s) r k ⌝ }
     ensures { λ b. ⌜ b ≡
         call-closed (program (now (ws .entry)) s) (tables (now (ws .entry)) s)
         (state-at (tables (now (ws .entry)) s) i) (call-at (program (now (ws .entry)) s) r) ⌝ }
@@ -100,11 +91,9 @@ fn self_closed(
     i: usize,
     r: usize,
 ) -> bool
-    requires { ⌜ Ready (now ws) s ⌝ }
-    requires { ⌜ Ends (program (now ws) s) (now afters) ⌝ }
-    requires { ⌜ Flow-sets (program (now ws) s) (tables (now ws) s) (now flow) ⌝ }
-    requires { ⌜ i < s .states ⌝ }
-    requires { ⌜ tag (program (now ws) s) r ≡ 7 ⌝ }
+    requires { ⌜ Layout-ready (now ws) s (now afters) ⌝ }
+    requires { ⌜ Flow-sets (program (now ws) s) (tables (now ws) s) (now flow)
+        × ((i < s .states) × (tag (program (now ws) s) r ≡ 7)) ⌝ }
     ensures { λ b. ⌜ b ≡
         (has (tables (now (ws .entry)) s .flow) (num (program (now (ws .entry)) s) r)
         (state-at (tables (now (ws .entry)) s) i .class) &&
@@ -130,10 +119,8 @@ fn branches_here(
     count: usize,
     k: usize,
 ) -> usize
-    requires { ⌜ Ready (now ws) s ⌝ }
-    requires { ⌜ Ends (program (now ws) s) (now afters) ⌝ }
-    requires { ⌜ i < s .states ⌝ }
-    requires { ⌜ Run (program (now ws) s) q count ⌝ }
+    requires { ⌜ Layout-ready (now ws) s (now afters) ⌝ }
+    requires { ⌜ (i < s .states) × Run (program (now ws) s) q count ⌝ }
     ensures { λ x. ⌜ Here (program (now (ws .entry)) s) (tables (now (ws .entry)) s)
         (state-at (tables (now (ws .entry)) s) i) (branch-rows (program (now (ws .entry)) s) count q) k x ⌝ }
 {
@@ -170,14 +157,8 @@ pub fn state_bits(
     r: usize,
     k: usize,
 ) -> usize
-    requires { ⌜ Ready (now ws) s ⌝ }
-    requires { ⌜ Ends (program (now ws) s) (now afters) ⌝ }
-    requires { ⌜ Starts (tables (now ws) s .flow) (s .names) (now starts) ⌝ }
-    requires { ⌜ Flow-sets (program (now ws) s) (tables (now ws) s) (now flow) ⌝ }
-    requires { ⌜ Mail-sets (program (now ws) s) (tables (now ws) s) (now mail) ⌝ }
-    requires { ⌜ Matches (program (now ws) s) (tables (now ws) s) (now may) (now held) 0 ⌝ }
-    requires { ⌜ (i < s .states) × (r ≡ right (tables (now ws) s .states) i) ⌝ }
-    requires { ⌜ Settled (program (now ws) s) (tables (now ws) s) r k ⌝ }
+    requires { ⌜ Closure-ready (now ws) s (now afters) (now starts) (now flow) (now mail) (now may) (now held) ⌝ }
+    requires { ⌜ State-asked (now ws) s i r k ⌝ }
     ensures { λ x. ⌜ Stated (program (now (ws .entry)) s) (tables (now (ws .entry)) s)
         (state-at (tables (now (ws .entry)) s) i) x ⌝ }
 {

@@ -10,7 +10,7 @@ use Rattle.model.specs.Limits.{omega-limit}
 use Rattle.model.specs.Rules.{rule}
 use Rattle.model.specs.Markings.{Marking, readable, usable, taking, adding, effect-taken, effect-added, fire}
 use Rattle.model.specs.Ceilings.{Ceiling-limits, highest}
-use Rattle.model.proofs.Logic.{true-false, test, or-cases, and-none, and-first, and-second}
+use Rattle.model.proofs.Logic.{true-false, test, or-cases, and-none}
 use Rattle.steps.specs.declared.Step.{Step}
 use Rattle.steps.specs.Steps.{effect-of, rule-of-step, takes-other, adds-other, effect-kind, less-if, more-if}
 

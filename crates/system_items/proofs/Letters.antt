@@ -38,7 +38,7 @@ use Rattle.lists.proofs.Facts.{rows-fit}
 use Rattle.system_letters.specs.Letters.{class-at, letter-at, letters-before, letter-width, Class-letters, digit-set, allowed-set, Letter-sets}
 use Rattle.system_letters.proofs.Tables.{head-low, built-low}
 use Rattle.system_letters.proofs.Classes.{class-here, before-most, before-rises}
-use Rattle.system_items.specs.Stretches.{digits-are, is-named, names-letters}
+use Rattle.system_items.specs.Stretches.{Sets-filled, digits-are, is-named, names-letters}
 use Rattle.system_items.proofs.Begun.{begins-between, digits-begin, begin-digits}
 
 -- a head behind the number of a letter is low
@@ -102,28 +102,28 @@ module _ {ws : List ℕ} {s : Sizes} (h : Ready ws s) where
       omega (arith, lows-at p (q .heads) (q .lows) i)
 
   -- a digit of letter y, by the set of letters that have it
-  module _ (letters : List ℕ) (g : Letter-sets p t letters) (w i r y n heads : ℕ) (wide : w ≡ letter-width p t) (few : i < 9) (there : y < letter-count p t) (number : n ≡ right rows r) (all-heads : heads ≡ s .constructors + 2) where
+  module _ {letters : List ℕ} {w : ℕ} (g : Sets-filled ws s letters w) (i r y n heads : ℕ) (q : (i < 9) × (y < letter-count p t)) (number : n ≡ right rows r) (all-heads : heads ≡ s .constructors + 2) where
     pub digit-high : heads ≤ n → false ≡ eqb (getD (letter-at p t y) i 0) (right rows r)
     unfolding program head-count
-    digit-high high = sym (ne-eqb (getD (letter-at p t y) i 0) (right rows r) (λ e. omega (arith, digit-low y i there)))
+    digit-high high = sym (ne-eqb (getD (letter-at p t y) i 0) (right rows r) (λ e. omega (arith, digit-low y i (q .1))))
 
     pub set-small : i * heads ≤ 528
-    set-small = mul-le-mul {n₁ = i} {m₁ = heads} {n₂ = 8} {m₂ = 66} (omega arith) (omega (arith, h .limits .constructors))
+    set-small = mul-le-mul {n₁ = i} {m₁ = heads} {n₂ = 8} {m₂ = 66} (omega (arith, q .0)) (omega (arith, h .limits .constructors))
 
     module _ (low : n < heads) where
       inside : digit-set p i n < allowed-set p (t .mail .size)
       unfolding digit-set allowed-set program head-count
       inside =
-          let most = mul-le-mul {n₁ = i} {m₁ = s .constructors + 2} {n₂ = 8} {m₂ = s .constructors + 2} (omega arith) (omega arith) in
+          let most = mul-le-mul {n₁ = i} {m₁ = s .constructors + 2} {n₂ = 8} {m₂ = s .constructors + 2} (omega (arith, q .0)) (omega arith) in
           omega arith
 
       pub digit-room : (y < 64 * w) × Row letters w (i * heads + n)
       unfolding letter-width program head-count digit-set
-      digit-room = (omega arith, rw (wide, all-heads) (g .room (digit-set p i n) inside))
+      digit-room = (omega (arith, g .width, q .1), rw (g .width, all-heads) (g .letter-sets .room (digit-set p i n) inside))
 
       pub digit-told : (b : Bool) → b ≡ member letters w (i * heads + n) y → b ≡ eqb (getD (letter-at p t y) i 0) (right rows r)
       unfolding program head-count digit-set
-      digit-told b e = e ∙ (rw (wide, all-heads) (g .digit i n y few (omega arith) there) ∙ ap (eqb (getD (letter-at p t y) i 0)) number)
+      digit-told b e = e ∙ (rw (g .width, all-heads) (g .letter-sets .digit i n y (q .0) (omega arith) (q .1)) ∙ ap (eqb (getD (letter-at p t y) i 0)) number)
 
   -- the letters of class c, as the table says where they begin and end
   pub class-span : (starts : List ℕ) → Class-letters p t starts → (c low high : ℕ) → c ≤ s .rows → low ≡ getD starts c 0 → high ≡ getD starts (c + 1) 0 → (low ≡ letters-before p t c) × (high ≡ letters-before p t (c + 1)) × (low ≤ high) × (high ≤ letter-count p t)

@@ -14,19 +14,18 @@ use system_letters::letter_width;
 ghost use mathlib.Core.Path.{_≡_};
 ghost use mathlib.Core.Bool.{true};
 ghost use Prim.Native.Nat.{_+_, _≤_, _<_};
-ghost use lib.ListN.{length, getD};
+ghost use lib.ListN.{getD};
 ghost use lib.Dec.{eqb};
-ghost use Rattle.model.specs.Limits.{maxCounters};
 ghost use Rattle.model.specs.Words.{left, right};
 ghost use Rattle.model.specs.Rows.{program};
 ghost use Rattle.model.specs.Tables.{tables};
 ghost use Rattle.model.specs.Bads.{bad-rows};
-ghost use Rattle.model.specs.Counters.{letter-count, counter-count};
+ghost use Rattle.model.specs.Counters.{letter-count};
 ghost use Rattle.lists.specs.Lists.{head-from, head-to};
 ghost use Rattle.lists.specs.Ready.{Ready};
-ghost use Rattle.system_letters.specs.Letters.{letter-at, letters-before, Class-letters, letter-width};
-ghost use Rattle.system_letters.specs.Letters.{digits, Letter-sets};
+ghost use Rattle.system_letters.specs.Letters.{letter-at, letters-before, digits};
 ghost use Rattle.bads_rows.specs.Items.{subject-from, Range, Items-counted};
+ghost use Rattle.system_items.specs.Stretches.{Letters-filled, Sets-filled, Items-room};
 ghost use Rattle.system_items.specs.Stretches.{is-named, names-letters, Stretched};
 
 // Counters that stand together: those from `from` below `to`.
@@ -49,9 +48,7 @@ fn head_counters(ws: &[u16], s: Sizes, c: usize, r: usize) -> Stretch
 
 // Digit i of letter y is the number of row r of the bads; no letter has a digit that is no head.
 fn is_digit(ws: &[u16], s: Sizes, letters: &[u64], w: usize, i: usize, r: usize, y: usize) -> bool
-    requires { ⌜ Ready (now ws) s ⌝ }
-    requires { ⌜ Letter-sets (program (now ws) s) (tables (now ws) s) (now letters) ⌝ }
-    requires { ⌜ w ≡ letter-width (program (now ws) s) (tables (now ws) s) ⌝ }
+    requires { ⌜ Sets-filled (now ws) s (now letters) w ⌝ }
     requires { ⌜ (i < digits) × (y < letter-count (program (now ws) s) (tables (now ws) s)) ⌝ }
     ensures { λ b. ⌜ b ≡ eqb (getD (letter-at (program (now (ws .entry)) s) (tables (now (ws .entry)) s) y) i 0)
         (right (bad-rows (now (ws .entry)) s) r) ⌝ }
@@ -75,9 +72,7 @@ fn is_named(
     to: usize,
     y: usize,
 ) -> bool
-    requires { ⌜ Ready (now ws) s ⌝ }
-    requires { ⌜ Letter-sets (program (now ws) s) (tables (now ws) s) (now letters) ⌝ }
-    requires { ⌜ w ≡ letter-width (program (now ws) s) (tables (now ws) s) ⌝ }
+    requires { ⌜ Sets-filled (now ws) s (now letters) w ⌝ }
     requires { ⌜ (to ≤ from + digits) × (y < letter-count (program (now ws) s) (tables (now ws) s)) ⌝ }
     ensures { λ b. ⌜ b ≡ is-named (program (now (ws .entry)) s) (tables (now (ws .entry)) s)
         (bad-rows (now (ws .entry)) s) from to y ⌝ }
@@ -111,11 +106,8 @@ fn letters_named(
     from: usize,
     to: usize,
 ) -> Stretch
-    requires { ⌜ Ready (now ws) s ⌝ }
-    requires { ⌜ Class-letters (program (now ws) s) (tables (now ws) s) (now «letter_at») ⌝ }
-    requires { ⌜ Letter-sets (program (now ws) s) (tables (now ws) s) (now letters) ⌝ }
-    requires { ⌜ c ≤ s .rows ⌝ }
-    requires { ⌜ names-letters (program (now ws) s) (bad-rows (now ws) s) from to ≡ true ⌝ }
+    requires { ⌜ Letters-filled (now ws) s (now «letter_at») (now letters) ⌝ }
+    requires { ⌜ (c ≤ s .rows) × (names-letters (program (now ws) s) (bad-rows (now ws) s) from to ≡ true) ⌝ }
     ensures { λ x. ⌜ Stretched
         (is-named (program (now (ws .entry)) s) (tables (now (ws .entry)) s) (bad-rows (now (ws .entry)) s) from to)
         (letters-before (program (now (ws .entry)) s) (tables (now (ws .entry)) s) c)
@@ -143,11 +135,8 @@ fn letters_named(
 
 // The counters of the item at row r of the bads, where it counts letters. No letter has a class above R.
 fn letter_counters(ws: &[u16], s: Sizes, letter_at: &[u16], letters: &[u64], r: usize) -> Stretch
-    requires { ⌜ Ready (now ws) s ⌝ }
-    requires { ⌜ Class-letters (program (now ws) s) (tables (now ws) s) (now «letter_at») ⌝ }
-    requires { ⌜ Letter-sets (program (now ws) s) (tables (now ws) s) (now letters) ⌝ }
-    requires { ⌜ r < s .badrows ⌝ }
-    requires { ⌜ (left (bad-rows (now ws) s) (r + 1) ≡ 41 → ⊥) ⌝ }
+    requires { ⌜ Letters-filled (now ws) s (now «letter_at») (now letters) ⌝ }
+    requires { ⌜ (r < s .badrows) × (left (bad-rows (now ws) s) (r + 1) ≡ 41 → ⊥) ⌝ }
     ensures { λ x. ⌜ Range (program (now (ws .entry)) s) (tables (now (ws .entry)) s)
         (subject-from (bad-rows (now (ws .entry)) s) r) (x .from) (x .to) ⌝ }
 {
@@ -168,9 +157,7 @@ fn letter_counters(ws: &[u16], s: Sizes, letter_at: &[u16], letters: &[u64], r: 
 
 // The counters of the item at row r of the bads, whether or not one stands there.
 fn item_counters(ws: &[u16], s: Sizes, letter_at: &[u16], letters: &[u64], r: usize) -> Stretch
-    requires { ⌜ Ready (now ws) s ⌝ }
-    requires { ⌜ Class-letters (program (now ws) s) (tables (now ws) s) (now «letter_at») ⌝ }
-    requires { ⌜ Letter-sets (program (now ws) s) (tables (now ws) s) (now letters) ⌝ }
+    requires { ⌜ Letters-filled (now ws) s (now «letter_at») (now letters) ⌝ }
     requires { ⌜ r < s .badrows ⌝ }
     ensures { λ x. ⌜ Range (program (now (ws .entry)) s) (tables (now (ws .entry)) s)
         (subject-from (bad-rows (now (ws .entry)) s) r) (x .from) (x .to) ⌝ }
@@ -192,11 +179,8 @@ pub fn fill_items(
     froms: &mut [u16],
     tos: &mut [u16],
 )
-    requires { ⌜ Ready (now ws) s ⌝ }
-    requires { ⌜ Class-letters (program (now ws) s) (tables (now ws) s) (now «letter_at») ⌝ }
-    requires { ⌜ Letter-sets (program (now ws) s) (tables (now ws) s) (now letters) ⌝ }
-    requires { ⌜ counter-count (program (now ws) s) (tables (now ws) s) ≤ maxCounters ⌝ }
-    requires { ⌜ (s .badrows ≤ length (now froms)) × (s .badrows ≤ length (now tos)) ⌝ }
+    requires { ⌜ Letters-filled (now ws) s (now «letter_at») (now letters) ⌝ }
+    requires { ⌜ Items-room (now ws) s (now froms) (now tos) ⌝ }
     ensures { λ _. ⌜ Items-counted (program (now (ws .entry)) s) (tables (now (ws .entry)) s)
         (bad-rows (now (ws .entry)) s) (now (froms .exit)) (now (tos .exit)) ⌝ }
 {

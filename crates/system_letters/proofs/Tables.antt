@@ -22,7 +22,7 @@ use Rattle.model.specs.Heads.{is-function, is-class}
 use Rattle.model.specs.Letters.{head, head-count, row-shape, row-head}
 use Rattle.model.specs.Tables.{Tables, tables, entries, some-of}
 use Rattle.model.specs.Counters.{letter-keys, letter-count}
-use Rattle.model.proofs.Logic.{test, both, eqb-flip}
+use Rattle.model.proofs.Logic.{test, eqb-flip}
 use Rattle.model.proofs.Keys.{getD-there}
 use Rattle.model.proofs.Heads.{class-tag}
 use Rattle.model.proofs.Index.{any-end, any-hit, any-miss, count-end, count-last}

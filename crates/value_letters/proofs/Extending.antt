@@ -1,4 +1,4 @@
--- The numbers of a value's letters, digit by digit (`Extended` of specs/Codes.antt).
+-- The numbers of a value's letters, digit by digit (`Extended` of specs/Letters.antt).
 use Prim.Native.Nat.{ℕ, zero, suc, _+_, _-_, _*_, _^_, _≤_, _<_}
 use native.Mathlib.Decide.{ℕ-discrete, decLt}
 use native.Mathlib.Nat.{add-mul, mul-assoc, pow-le-pow-right}
@@ -23,9 +23,8 @@ use Rattle.model.proofs.Logic.{test, true-false}
 use Rattle.model.proofs.Index.{gather-end, gather-turn, from-all-intro, from-all-elim}
 use Rattle.model.proofs.Numbering.Choices.{head-of-name, chosen-of, gather-chosen, letters-built, letters-plain}
 use Rattle.lists.specs.Ready.{Ready}
-use Rattle.system_letters.specs.Letters.{Name-heads}
 use Rattle.system_letters.proofs.Tables.{head-low}
-use Rattle.value_letters.specs.Letters.{digits-code, letter-code, value-arity, Arguments, Allowed, Extended, Lacking}
+use Rattle.value_letters.specs.Letters.{Heads-known, digits-code, letter-code, value-arity, Arguments, Allowed, Extended, Lacking}
 use Rattle.ascending.specs.Numbers.{Room, Added}
 use Rattle.ascending.proofs.Numbers.{added-none, added-then, added-same, added-within}
 use Rattle.value_letters.proofs.Values.{member-head}
@@ -206,7 +205,7 @@ module _ (p : Program) (t : Tables) (v : ℕ) where
       })
 
 -- the heads of the arguments as the table has them
-module _ {ws : List ℕ} {s : Sizes} (h : Ready ws s) {names : List ℕ} (g : Name-heads (program ws s) (tables ws s) names) {v n : ℕ} (a : Arguments (program ws s) v n) where
+module _ {ws : List ℕ} {s : Sizes} {names : List ℕ} (g : Heads-known ws s names) {v n : ℕ} (a : Arguments (program ws s) v n) where
   abbrev p : Program
   p = program ws s
 
@@ -221,7 +220,7 @@ module _ {ws : List ℕ} {s : Sizes} (h : Ready ws s) {names : List ℕ} (g : Na
       let z : 0 + k .at ≡ k .at = omega arith in
       let there = rw z at (each (k .at) (omega (arith, k .below))) in
       let low = head-of-name p t (any-argument (k .at)) (argument p v (k .at)) (getD (e .heads) (k .at) 0) there .0 in
-      true-false (member-head h g a (k .at) (num p (v + 2 + k .at)) (getD (e .heads) (k .at) 0) refl (k .below) low .1 there) (k .none (getD (e .heads) (k .at) 0) (omega (arith, h .limits .constructors)))
+      true-false (member-head g a (k .at) (num p (v + 2 + k .at)) (getD (e .heads) (k .at) 0) refl (k .below) low .1 there) (k .none (getD (e .heads) (k .at) 0) (omega (arith, g .ready .limits .constructors)))
 
   heads-told : s .constructors + 2 ≡ head-count p
   unfolding head-count program
@@ -245,11 +244,11 @@ module _ {ws : List ℕ} {s : Sizes} (h : Ready ws s) {names : List ℕ} (g : Na
     pub turned-hit : {m k y : ℕ} {mid new : List ℕ} (name : ℕ) → name ≡ num p (v + 2 + i) → i < n → y < s .constructors + 2 → member names 2 name y ≡ true → Added (Turned p t v n i prefix y) most from n0 old m mid → Added (Extended p t v n (i + 1) (prefix * 128 + y)) most from m mid k new → Added (Turned p t v n i prefix (y + 1)) most from n0 old k new
     turned-hit {y} name e l low has d f =
         added-then d f (λ x z. turned-more p t v n i prefix y x z)
-        (λ x z. record { head = y; below = omega arith; there = member-head h g a i name y e l (omega (arith, heads-told)) .0 has; rest = z })
+        (λ x z. record { head = y; below = omega arith; there = member-head g a i name y e l (omega (arith, heads-told)) .0 has; rest = z })
         (λ x z. ⊎-elim (λ u. inl u) (λ u. inr (u .1)) (turned-last p t v n i prefix y x z))
 
     -- heads that the name's values lack
-    pub turned-gap : {m k r : ℕ} {new : List ℕ} (name : ℕ) → name ≡ num p (v + 2 + i) → i < n → k ≤ r → ((y : ℕ) → k ≤ y → y < r → y < 128 → member names 2 name y ≡ false) → Added (Turned p t v n i prefix k) most from n0 old m new → Added (Turned p t v n i prefix r) most from n0 old m new
+    pub turned-gap : {m k r : ℕ} {new : List ℕ} (name : ℕ) → name ≡ num p (v + 2 + i) → i < n → k ≤ r → ((y : ℕ) → k ≤ y → y < r → member names 2 name y ≡ false) → Added (Turned p t v n i prefix k) most from n0 old m new → Added (Turned p t v n i prefix r) most from n0 old m new
     unfolding head-count program
     turned-gap {k} {r} name e l up lacks d =
         added-same d (λ x z. record { head = z .head; below = omega (arith, z .below); there = z .there; rest = z .rest })
@@ -257,7 +256,7 @@ module _ {ws : List ℕ} {s : Sizes} (h : Ready ws s) {names : List ℕ} (g : Na
         let low = head-of-name p t (any-argument i) (argument p v i) (z .head) (z .there) .0 in
         elim (decLt (z .head) k) [
           | yes b ↦ record { head = z .head; below = b; there = z .there; rest = z .rest }
-          | no b ↦ true-false (member-head h g a i name (z .head) e l low .1 (z .there)) (lacks (z .head) (omega arith) (z .below) (omega (arith, h .limits .constructors)))
+          | no b ↦ true-false (member-head g a i name (z .head) e l low .1 (z .there)) (lacks (z .head) (omega arith) (z .below))
         ])
 
     pub turned-all : {m y : ℕ} {new : List ℕ} → i < n → s .constructors + 2 ≤ y → Added (Turned p t v n i prefix y) most from n0 old m new → Added (Extended p t v n i prefix) most from n0 old m new

@@ -1,18 +1,16 @@
 -- The arguments of a value of the tables, and the heads that the values of each may have.
-use Prim.Native.Nat.{ℕ, _+_, _*_, _/_, _%_, _≤_, _<_}
-use native.Mathlib.Decide.{ℕ-discrete, decLt}
+use Prim.Native.Nat.{ℕ, _+_, _*_, _≤_, _<_}
+use native.Mathlib.Decide.{ℕ-discrete}
 use native.Mathlib.Omega.{arith}
 use mathlib.Core.Path.{_≡_, refl, sym, _∙_, ap, subst}
 use mathlib.Core.Bool.{Bool, true, false, _&&_}
 use mathlib.Core.List.{List, [], _∷_, _++_, append-assoc, List·Memᴰ}
 use mathlib.Core.Logic.{_↔_}
 use mathlib.Core.Option.{some}
-use lib.ListN.{getD, replicate}
+use lib.ListN.{replicate}
 use lib.Dec.{eqb}
 use borrow.Author.Tests.{eqb-true, eq-eqb, ne-eqb, leb-true}
-use Rattle.bits.specs.Bits.{bit, member, Row}
-use Rattle.masks.specs.declared.Mask.{Mask}
-use Rattle.masks.specs.Masks.{words, has}
+use Rattle.bits.specs.Bits.{member, Row}
 use Rattle.model.specs.declared.Sizes.{Sizes}
 use Rattle.model.specs.Limits.{maxArity}
 use Rattle.model.specs.Index.{any, first}
@@ -34,9 +32,8 @@ use Rattle.model.proofs.Parse.Lengths.{built-below, row-location}
 use Rattle.lists.specs.Ready.{Ready}
 use Rattle.lists.proofs.Facts.{rows-fit, columns-whole}
 use Rattle.values.proofs.Operands.{leaves, build-names}
-use Rattle.system_letters.specs.Letters.{Name-heads}
 use Rattle.system_letters.proofs.Tables.{head-low}
-use Rattle.value_letters.specs.Letters.{value-arity, Arguments, Lacking}
+use Rattle.value_letters.specs.Letters.{Heads-known, value-arity, Arguments, Lacking}
 
 -- how many arguments a value has, by its row's tag
 pub arity-built : (p : Program) (v x k n : ℕ) → x ≡ tag p v → x ≡ 2 → k ≡ num p (v + 1) → n ≡ num p k → n ≡ value-arity p v
@@ -82,10 +79,10 @@ module _ {ws : List ℕ} {s : Sizes} (h : Ready ws s) where
       (λ b. let is : n ≡ 0 = e ∙ rw (b, value-arity) in record { few = omega arith; named = λ k l. absurd (omega arith) })
 
 -- the heads of an argument, as the table has them
-module _ {ws : List ℕ} {s : Sizes} (h : Ready ws s) {names : List ℕ} (g : Name-heads (program ws s) (tables ws s) names) {v n : ℕ} (a : Arguments (program ws s) v n) where
+module _ {ws : List ℕ} {s : Sizes} {names : List ℕ} (g : Heads-known ws s names) {v n : ℕ} (a : Arguments (program ws s) v n) where
   pub argument-row : (k x : ℕ) → x ≡ num (program ws s) (v + 2 + k) → k < n → Row names 2 x
   unfolding argument
-  argument-row k x e l = record { room = omega (arith, a .named k l, g .room) }
+  argument-row k x e l = record { room = omega (arith, a .named k l, g .name-heads .room) }
 
   pub member-head : (k x y : ℕ) → x ≡ num (program ws s) (v + 2 + k) → k < n → y < head-count (program ws s) → (member names 2 x y ≡ true) ↔ List·Memᴰ y (name-heads (program ws s) (tables ws s) (any-argument k) (argument (program ws s) v k))
   unfolding argument
@@ -93,10 +90,10 @@ module _ {ws : List ℕ} {s : Sizes} (h : Ready ws s) {names : List ℕ} (g : Na
       let p = program ws s in
       let t = tables ws s in
       let name = num p (v + 2 + k) in
-      let same : member names 2 x y ≡ some-of (t .flow) name (λ w. eqb (row-head p w) y) = ap (λ z. member names 2 z y) e ∙ g .has name y (a .named k l) low in (
+      let same : member names 2 x y ≡ some-of (t .flow) name (λ w. eqb (row-head p w) y) = ap (λ z. member names 2 z y) e ∙ g .name-heads .has name y (a .named k l) low in (
         λ m.
             let (w, there, head) = some-of-iff (t .flow) name (λ w. eqb (row-head p w) y) (λ w. eqb-iff (row-head p w) y) .0 (sym same ∙ m) in
-            subst (λ z. List·Memᴰ z (name-heads p t (any-argument k) name)) head (name-has p t (any-argument k) name w (head-low h w) there refl),
+            subst (λ z. List·Memᴰ z (name-heads p t (any-argument k) name)) head (name-has p t (any-argument k) name w (head-low (g .ready) w) there refl),
         λ m.
             let (_, (w, (there, (head, _)))) = head-of-name p t (any-argument k) name y m in
             same ∙ some-of-iff (t .flow) name (λ w. eqb (row-head p w) y) (λ w. eqb-iff (row-head p w) y) .1 (w, there, head),
@@ -111,27 +108,16 @@ lacking p v n k names x e l is never =
       none = λ y low. ap (λ z. member names 2 z y) (sym e) ∙ (sym (and-twice (member names 2 x y)) ∙ any-none 0 (64 * 2) y (λ w. member names 2 x w && member names 2 x w) (sym is ∙ never) (omega arith) (omega arith));
     }
 
--- the heads as a mask of two words
-pub mask-heads : (names : List ℕ) (x : Mask) (name : ℕ) → x .a ≡ getD names (name * 2) 0 → x .b ≡ getD names (name * 2 + 1) 0 → (y : ℕ) → y < 128 → has x y ≡ member names 2 name y
-unfolding has words member
-mask-heads names x name e f y l = ap (λ w. bit w (y % 64)) (elim (decLt y 64) [
-  | yes z ↦ let q : y / 64 ≡ 0 = omega arith in let k : name * 2 + 0 ≡ name * 2 = omega arith in rw (q, k) e
-  | no z ↦ let q : y / 64 ≡ 1 = omega arith in rw q f
-])
-
-pub mask-named : (names : List ℕ) (x : Mask) (name name′ : ℕ) → ((y : ℕ) → y < 128 → has x y ≡ member names 2 name y) → name ≡ name′ → (y : ℕ) → y < 128 → has x y ≡ member names 2 name′ y
-mask-named names x name name′ same e y l = same y l ∙ ap (λ z. member names 2 z y) e
-
 -- the least head from k on
-module _ (names : List ℕ) (x : Mask) (name : ℕ) (same : (y : ℕ) → y < 128 → has x y ≡ member names 2 name y) (k r : ℕ) (e : r ≡ first k 256 (has x)) (upto : k ≤ 256) where
-  pub next-range : (k ≤ r) × (r ≤ 256)
-  next-range = let f = first-is k 256 (has x) upto in (omega (arith, f .from), omega (arith, f .upto))
+module _ (names : List ℕ) (name k e r : ℕ) (is : r ≡ first k e (member names 2 name)) (upto : k ≤ e) where
+  pub next-range : (k ≤ r) × (r ≤ e)
+  next-range = let f = first-is k e (member names 2 name) upto in (omega (arith, f .from), omega (arith, f .upto))
 
-  pub next-here : r < 128 → member names 2 name r ≡ true
-  next-here l = let f = first-is k 256 (has x) upto in sym (same r l) ∙ (ap (has x) e ∙ f .passes (omega arith))
+  pub next-here : r < e → member names 2 name r ≡ true
+  next-here l = let f = first-is k e (member names 2 name) upto in ap (member names 2 name) is ∙ f .passes (omega arith)
 
-  pub next-none : (y : ℕ) → k ≤ y → y < r → y < 128 → member names 2 name y ≡ false
-  next-none y a b l = let f = first-is k 256 (has x) upto in sym (same y l) ∙ f .before y a (omega arith)
+  pub next-none : (y : ℕ) → k ≤ y → y < r → member names 2 name y ≡ false
+  next-none y a b = first-is k e (member names 2 name) upto .before y a (omega arith)
 
 -- argument k has a head
 abbrev pub Headed : Program → ℕ → List ℕ → ℕ → Type 0

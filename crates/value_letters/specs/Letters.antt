@@ -5,15 +5,23 @@ use mathlib.Core.Bool.{true, false}
 use mathlib.Core.List.{List, [], _∷_, List·Memᴰ}
 use lib.Dec.{eqb}
 use Rattle.bits.specs.Bits.{member}
+use Rattle.model.specs.declared.Sizes.{Sizes}
 use Rattle.model.specs.Limits.{maxArity}
 use Rattle.model.specs.Tags.{tag-build}
 use Rattle.model.specs.Index.{gather}
-use Rattle.model.specs.Rows.{Program, tag, num, arity}
+use Rattle.model.specs.Rows.{Program, program, tag, num, arity}
 use Rattle.model.specs.Letters.{Letter}
-use Rattle.model.specs.Tables.{Tables}
+use Rattle.model.specs.Tables.{Tables, tables}
 use Rattle.model.specs.Closed.{argument}
 use Rattle.model.specs.Counters.{name-heads, choices, any-argument, letters-allowed}
-use Rattle.system_letters.specs.Letters.{digits}
+use Rattle.lists.specs.Ready.{Ready}
+use Rattle.system_letters.specs.Letters.{digits, Name-heads}
+use Rattle.ascending.specs.Numbers.{Room}
+
+-- the checks before refusal 8 found nothing, and the table has the heads of each name's values
+pub record Heads-known (ws : List ℕ) (s : Sizes) (names : List ℕ) : Type 0 where
+  pub ready : Ready ws s
+  pub name-heads : Name-heads (program ws s) (tables ws s) names
 
 -- the number of n digits of seven bits, 0 where the list has no more
 unfoldable pub digits-code : ℕ → List ℕ → ℕ
@@ -33,6 +41,19 @@ value-arity p v = elim (eqb (tag p v) tag-build) [ true ↦ arity p (num p (v + 
 pub record Arguments (p : Program) (v n : ℕ) : Type 0 where
   pub few : n ≤ maxArity
   pub named : (k : ℕ) → k < n → argument p v k < p .names
+
+-- ... and its row is a word
+pub record Value-of (p : Program) (v n : ℕ) : Type 0 where
+  pub low : v < 65536
+  pub arguments : Arguments p v n
+
+-- the prefix has a digit for the number of this value and for each argument below i, and there is room for the numbers
+-- that begin with it
+pub record Prefixed (p : Program) (v n i prefix most from m : ℕ) (codes : List ℕ) : Type 0 where
+  pub value : Value-of p v n
+  pub digit : i ≤ maxArity
+  pub short : prefix < 128 ^ (i + 1)
+  pub room : Room most from m codes
 
 -- x is the number of a letter that the value v allows
 pub record Allowed (p : Program) (t : Tables) (v x : ℕ) : Type 0 where

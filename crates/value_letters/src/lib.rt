@@ -1,8 +1,8 @@
 // The letters that a value allows, as numbers, put among ascending ones.
 use ascending::insert;
-use masks::Mask;
-use masks::next_in;
+use masks::next_of_two;
 use model::MAX_ARITY;
+use model::OTHER_HEADS;
 use model::Sizes;
 use model::TAG_BUILD;
 use program::rows::num;
@@ -11,32 +11,13 @@ use sets::meets;
 use system_letters::row_head;
 ghost use mathlib.Core.Path.{_≡_};
 ghost use mathlib.Core.Bool.{true, false};
-ghost use Prim.Native.Nat.{ℕ, _+_, _^_, _≤_, _<_};
-ghost use Rattle.bits.specs.Bits.{member, Row};
-ghost use Rattle.masks.specs.Masks.{has};
-ghost use Rattle.model.specs.Limits.{maxArity};
+ghost use Prim.Native.Nat.{_<_};
 ghost use Rattle.model.specs.Rows.{program};
 ghost use Rattle.model.specs.Tables.{tables};
 ghost use Rattle.program.specs.Rows.{Whole};
-ghost use Rattle.lists.specs.Ready.{Ready};
-ghost use Rattle.system_letters.specs.Letters.{Name-heads};
 ghost use Rattle.ascending.specs.Numbers.{Room, Added};
-ghost use Rattle.value_letters.specs.Letters.{value-arity, Arguments, Allowed, Extended, Lacking};
-
-// The heads of the values of a name.
-fn head_mask(names: &[u64], name: usize) -> Mask
-    requires { ⌜ Row (now names) 2 name ⌝ }
-    ensures { λ x. ⌜ ((h : ℕ) → h < 128 → has x h ≡ member (now (names .entry)) 2 name h) ⌝ }
-{
-    let at = name * 2;
-    let next = at + 1;
-    Mask {
-        a: names[at],
-        b: names[next],
-        c: 0,
-        d: 0,
-    }
-}
+ghost use Rattle.value_letters.specs.Letters.{Heads-known, value-arity, Value-of, Prefixed};
+ghost use Rattle.value_letters.specs.Letters.{Allowed, Extended, Lacking};
 
 // Puts the numbers that begin with the prefix and go on with a head of each argument of v from i on among the ascending
 // words from..n; gives where they end. It stops where there are more than the most: eight arguments of 66 heads have
@@ -54,11 +35,8 @@ fn extend(
     n: usize,
     codes: &mut [u64],
 ) -> usize
-    requires { ⌜ Ready (now ws) s ⌝ }
-    requires { ⌜ Name-heads (program (now ws) s) (tables (now ws) s) (now names) ⌝ }
-    requires { ⌜ Arguments (program (now ws) s) v arity ⌝ }
-    requires { ⌜ (v < 65536) × (i ≤ maxArity) × (prefix < 128 ^ (i + 1)) ⌝ }
-    requires { ⌜ Room most from n (now codes) ⌝ }
+    requires { ⌜ Heads-known (now ws) s (now names) ⌝ }
+    requires { ⌜ Prefixed (program (now ws) s) v arity i prefix most from n (now codes) ⌝ }
     ensures { λ m. ⌜ Added
         (Extended (program (now (ws .entry)) s) (tables (now (ws .entry)) s) v arity i prefix)
         most from n (now (codes .entry)) m (now (codes .exit)) ⌝ }
@@ -74,10 +52,10 @@ fn extend(
     if i >= arity {
         return extend(ws, s, names, v, arity, next, longer, most, from, n, codes);
     }
-    let x = head_mask(names, num(ws, s, v + 2 + i));
-    let heads = s.constructors + 2;
+    let name = num(ws, s, v + 2 + i);
+    let heads = s.constructors + OTHER_HEADS;
     let mut m = n;
-    let mut h = next_in(x, 0);
+    let mut h = next_of_two(names, name, 0, heads);
     while h < heads {
         m = extend(
             ws,
@@ -92,7 +70,7 @@ fn extend(
             m,
             codes,
         );
-        h = next_in(x, h + 1);
+        h = next_of_two(names, name, h + 1, heads);
     }
     m
 }
@@ -112,10 +90,8 @@ pub fn value_arity(ws: &[u16], s: Sizes, v: usize) -> usize
 
 // Some argument has no head. The value then allows no letter, and to go through the others' heads could take long.
 fn lacks_head(ws: &[u16], s: Sizes, names: &[u64], v: usize, arity: usize) -> bool
-    requires { ⌜ Ready (now ws) s ⌝ }
-    requires { ⌜ Name-heads (program (now ws) s) (tables (now ws) s) (now names) ⌝ }
-    requires { ⌜ Arguments (program (now ws) s) v arity ⌝ }
-    requires { ⌜ v < 65536 ⌝ }
+    requires { ⌜ Heads-known (now ws) s (now names) ⌝ }
+    requires { ⌜ Value-of (program (now ws) s) v arity ⌝ }
     ensures { λ b. ⌜ (b ≡ true → Lacking (program (now (ws .entry)) s) v arity (now (names .entry))) ⌝ }
     ensures { λ b. ⌜ (b ≡ false → ¬ Lacking (program (now (ws .entry)) s) v arity (now (names .entry))) ⌝ }
 {
@@ -139,10 +115,8 @@ pub fn add_value(
     n: usize,
     codes: &mut [u64],
 ) -> usize
-    requires { ⌜ Ready (now ws) s ⌝ }
-    requires { ⌜ Name-heads (program (now ws) s) (tables (now ws) s) (now names) ⌝ }
-    requires { ⌜ v < 65536 ⌝ }
-    requires { ⌜ Room most from n (now codes) ⌝ }
+    requires { ⌜ Heads-known (now ws) s (now names) ⌝ }
+    requires { ⌜ (v < 65536) × Room most from n (now codes) ⌝ }
     ensures { λ m. ⌜ Added (Allowed (program (now (ws .entry)) s) (tables (now (ws .entry)) s) v)
         most from n (now (codes .entry)) m (now (codes .exit)) ⌝ }
 {

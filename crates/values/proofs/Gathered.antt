@@ -3,19 +3,17 @@ use Prim.Native.Nat.{ℕ, _+_, _*_, _/_, _≤_, _<_}
 use native.Mathlib.Decide.{ℕ-discrete}
 use native.Mathlib.Omega.{arith}
 use mathlib.Core.Path.{_≡_, refl, sym, _∙_, ap, ap₂}
-use mathlib.Core.Bool.{Bool, true, false, _&&_, _||_}
+use mathlib.Core.Bool.{true, false, _&&_, _||_}
 use mathlib.Core.List.{List}
-use mathlib.Core.Logic.{_⊎_, inl, inr, ⊎-elim}
-use lib.Dec.{eqb, ltb}
+use mathlib.Core.Logic.{_⊎_, ⊎-elim}
+use lib.Dec.{eqb}
 use lib.ListN.{length}
-use borrow.Author.Tests.{eqb-true, eq-eqb, ne-eqb, ltb-true}
+use borrow.Author.Tests.{eqb-true}
 use Rattle.model.specs.declared.Sizes.{Sizes}
 use Rattle.model.specs.Words.{Columns, left, right, columns}
-use Rattle.model.specs.Rows.{Program, program, size, tag, num, is-name}
-use Rattle.model.specs.Heads.{is-class, is-function}
-use Rattle.model.specs.Tables.{Tables, tables, entries, has, is-value}
-use Rattle.model.specs.Wanted.{Member}
-use Rattle.model.proofs.Logic.{true-false, test, and-left, and-right, and-intro, or-cases, both}
+use Rattle.model.specs.Rows.{program, size}
+use Rattle.model.specs.Tables.{tables, entries, has}
+use Rattle.model.proofs.Logic.{true-false, and-left, and-right, or-cases, both}
 use Rattle.model.proofs.Exact.Members.{has-iff}
 use Rattle.bits.specs.Bits.{member, Row, Put}
 use Rattle.bits.proofs.Rows.{put-here, put-kept}

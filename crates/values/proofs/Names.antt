@@ -7,21 +7,21 @@ use mathlib.Core.List.{List}
 use mathlib.Core.Option.{some}
 use mathlib.Core.Logic.{_⊎_, inl, inr, ⊎-elim}
 use lib.Dec.{eqb}
-use borrow.Author.Tests.{eqb-true, eqb-false, eq-eqb, ne-eqb, ltb-true}
+use borrow.Author.Tests.{eqb-true, eq-eqb, ne-eqb, ltb-true}
 use Rattle.model.specs.declared.Sizes.{Sizes}
 use Rattle.model.specs.Words.{left, right, columns}
 use Rattle.model.specs.Rows.{Program, program, size, tag, num, Kind, kind, give, build, function, call, send, spawn, self, case, receive, other, Item, expression, is-name, is-head, step, expression-step}
 use Rattle.model.specs.Scopes.{binds}
 use Rattle.model.specs.Heads.{is-class, is-function}
-use Rattle.model.specs.Tables.{tables, entries, is-value}
-use Rattle.model.proofs.Logic.{test, or-cases, true-false}
+use Rattle.model.specs.Tables.{tables, is-value}
+use Rattle.model.proofs.Logic.{or-cases, true-false}
 use Rattle.model.proofs.Exact.Names.{program-none}
 use Rattle.model.proofs.Parse.Grammar.{fits-some, expression-kind}
 use Rattle.model.proofs.Parse.Reached.{stands-row}
 use Rattle.model.proofs.Parse.Locations.{Location}
 use Rattle.model.proofs.Parse.Lengths.{row-within, row-location, function-within}
 use Rattle.lists.specs.Ready.{Ready}
-use Rattle.lists.proofs.Facts.{columns-whole, rows-fit, flow-form, mail-form, states-form}
+use Rattle.lists.proofs.Facts.{columns-whole, rows-fit, flow-form, mail-form}
 use Rattle.values.specs.Values.{mail-set}
 
 -- the number of a head's row is a name, but for a receive

@@ -3,19 +3,18 @@ use Prim.Native.Nat.{ℕ, _+_, _≤_, _<_}
 use native.Mathlib.Decide.{ℕ-discrete, decLt}
 use native.Mathlib.Omega.{arith}
 use mathlib.Core.Path.{_≡_, refl, sym, _∙_, ap}
-use mathlib.Core.Bool.{Bool, true, false, not}
+use mathlib.Core.Bool.{true, false, not}
 use mathlib.Core.List.{List, [], _∷_}
 use mathlib.Core.Logic.{inl, ⊎-elim}
 use lib.Dec.{leb}
-use lib.ListN.{length, getD, set, length-set}
+use lib.ListN.{length, getD, set}
 use lib.Seq.{getD-set-same, getD-set-other}
 use borrow.Author.Tests.{leb-true, leb-false, le-leb, lt-leb}
 use Rattle.model.specs.declared.Sizes.{Sizes}
 use Rattle.model.specs.Index.{first}
 use Rattle.model.specs.Keys.{below}
 use Rattle.model.specs.Words.{Columns, left, columns}
-use Rattle.model.specs.Rows.{program}
-use Rattle.model.specs.Tables.{tables, entries}
+use Rattle.model.specs.Tables.{tables}
 use Rattle.model.proofs.Logic.{test, not-passes, not-fails}
 use Rattle.model.proofs.Keys.{below-iff}
 use Rattle.model.proofs.Index.{first-is, first-unique, first-hit, first-miss, first-end}

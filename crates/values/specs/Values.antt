@@ -4,12 +4,13 @@ use mathlib.Core.Path.{_≡_}
 use mathlib.Core.Bool.{Bool, true, false}
 use mathlib.Core.List.{List}
 use lib.Dec.{eqb, leb}
-use lib.ListN.{length, getD}
+use Rattle.model.specs.declared.Sizes.{Sizes}
 use Rattle.model.specs.Words.{Columns, left, right}
-use Rattle.model.specs.Rows.{Program, size, num}
+use Rattle.model.specs.Rows.{Program, program, size, num}
 use Rattle.model.specs.Heads.{is-class}
-use Rattle.model.specs.Tables.{Tables, has}
+use Rattle.model.specs.Tables.{Tables, tables, has}
 use Rattle.bits.specs.Bits.{member, Row}
+use Rattle.lists.specs.Ready.{Ready}
 
 -- how many words a set has, where there are r rows: a bit for each row, and one for the class of the start
 unfoldable pub width : ℕ → ℕ
@@ -41,6 +42,12 @@ pub record Flow-sets (p : Program) (t : Tables) (flow : List ℕ) : Type 0 where
 -- the set of a class has its mail
 pub record Mail-sets (p : Program) (t : Tables) (mail : List ℕ) : Type 0 where
   pub of-class : (c : ℕ) → is-class p c ≡ true → Values (t .mail) c (width (size p)) (mail-set p c) mail
+
+-- what a question about the values of names stands on: the checks before refusal 8 found nothing, and the sets of names
+-- are filled
+pub record Flow-ready (ws : List ℕ) (s : Sizes) (flow : List ℕ) : Type 0 where
+  pub ready : Ready ws s
+  pub names : Flow-sets (program ws s) (tables ws s) flow
 
 -- entry i begins with n or a number behind it
 unfoldable pub reaches : Columns → ℕ → ℕ → Bool

@@ -22,7 +22,8 @@ ghost use Rattle.rules.specs.Derived.{Rule-room};
 ghost use Rattle.rule_tables.specs.Joined.{Joined-tables};
 ghost use Rattle.system_space.specs.Space.{words-after};
 ghost use Rattle.stages.specs.Order.{below-weights};
-ghost use Rattle.stages.specs.Scratch.{Lined, Bounds-room};
+ghost use Rattle.ceilings.specs.Table.{Bounds-room};
+ghost use Rattle.stages.specs.Scratch.{Lined};
 
 // Refusals 17, 18 and 14 over a lent table of weights, counts and lists of rules.
 fn weights_on(

@@ -13,10 +13,10 @@ abbrev μ-loop : tie.MeasureT-loop
 μ-loop ws s j r₀ i₀ r i = j - i
 
 loop-holds : tie.Need-loop-holds Inv-loop μ-loop
-loop-holds c = (bads-start (c .before .args .ws .now) (c .before .args .s) (c .before .pre .1 .0), search needs)
+loop-holds c = (bads-start (c .before .args .ws .now) (c .before .args .s) (c .before .pre .1 .in-form), search needs)
 
 next-bad-requires : tie.Need-next-bad-requires Inv-loop μ-loop
-next-bad-requires c κs = let a = c .before .before .before .args in (c .before .before .before .pre .0, (bads-inside (a .ws .now) (a .s) _ _ (c .before .loop .inv .0), bads-stand (a .ws .now) (a .s) _ _ (c .before .loop .inv .0) (search needs)))
+next-bad-requires c κs = let a = c .before .before .before .args in (c .before .before .before .pre .0, bads-stand (a .ws .now) (a .s) _ _ (c .before .loop .inv .0) (search needs))
 
 add-i : tie.Need-add-i Inv-loop μ-loop
 add-i c = search needs

@@ -8,7 +8,7 @@ use Rattle.model.specs.Rows.{program}
 use Rattle.model.specs.Bads.{further, bad-step, bad-rows}
 use Rattle.bads_rows.specs.Items.{bad-end}
 use Rattle.bads_rows.proofs.BadRows.{bad-first, bad-next, bad-last, bad-inside}
-use Rattle.bads_rows.proofs.Walking.{inside}
+use Rattle.bads_rows.proofs.Walking.{inside, stands-inside}
 use borrow.Author.Needs.{needs}
 use Rattle.bads_rows.proofs.next_bad.Statement.{statement}
 use Rattle.bads_rows.proofs.next_bad.Tie as tie
@@ -20,10 +20,10 @@ abbrev μ-loop : tie.MeasureT-loop
 μ-loop ws s r i₀ i = s .badrows + 3 - i
 
 next-item-requires : tie.Need-next-item-requires Inv-loop μ-loop
-next-item-requires c κs = search needs
+next-item-requires c κs = (c .before .pre .0, stands-inside _ _ _ (c .before .pre .1))
 
 loop-holds : tie.Need-loop-holds Inv-loop μ-loop
-loop-holds c = (bad-first _ _ (inside _ _) _ _ _ _ (c .next-item .ensures .0) (c .before .before .pre .1 .1), search needs)
+loop-holds c = (bad-first _ _ (inside _ _) _ _ _ _ (c .next-item .ensures .0) (c .before .before .pre .1), search needs)
 
 bad-tag-requires : tie.Need-bad-tag-requires Inv-loop μ-loop
 bad-tag-requires c κs = search needs

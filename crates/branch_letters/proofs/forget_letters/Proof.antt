@@ -15,15 +15,15 @@ abbrev μ-loop : tie.MeasureT-loop
 μ-loop ws s letter-at letters₀ words x₀ x-end letters x = x-end - x
 
 letter-width-requires : tie.Need-letter-width-requires Inv-loop μ-loop
-letter-width-requires c κs = (c .before .before .before .pre .0, c .before .before .before .pre .1 .0)
+letter-width-requires c κs = (c .before .before .before .pre .0 .ready, c .before .before .before .pre .0 .class-letters)
 
 loop-holds : tie.Need-loop-holds Inv-loop μ-loop
 unfolding tables entries columns
-loop-holds c = (forgotten-start _ _ _ (c .before .before .before .before .pre .1 .1 .0) (c .before .before .before .before .pre .1 .1 .1), search needs)
+loop-holds c = (forgotten-start _ _ _ (c .before .before .before .before .pre .0 .letter-sets) (c .before .before .before .before .pre .1), search needs)
 
 owner-at-requires : tie.Need-owner-at-requires Inv-loop μ-loop
 unfolding tables entries columns
-owner-at-requires c κs = (c .before .before .before .before .before .before .before .pre .0, (c .before .before .loop .inv .0 .owners, (c .before .before .before .letter-width .ensures, search needs)))
+owner-at-requires c κs = (c .before .before .before .before .before .before .before .pre .0 .ready, (c .before .before .loop .inv .0 .owners, (c .before .before .before .letter-width .ensures, search needs)))
 
 put-word-requires : tie.Need-put-word-requires Inv-loop μ-loop
 put-word-requires c κs = c .before .owner-at .ensures .1

@@ -26,13 +26,13 @@ cell-row : (c : tie.Else1 Inv-loop μ-loop) → Row (c .before .before .loop .li
 cell-row c =
     let below = filling-counter _ _ _ _ _ _ _ _ (c .before .before .loop .inv) (λ z. c .if1 .left (c .before .entry-counter .ensures ∙ z)) in
     let p = c .before .before .before .before .before .pre in
-    row-in _ (c .before .before .before .before .before .args .n) _ _ (omega (arith, below, c .before .entry-counter .ensures)) (omega (arith, p .1 .1 .1 .1, c .before .before .loop .inv .long))
+    row-in _ (c .before .before .before .before .before .args .n) _ _ (omega (arith, below, c .before .entry-counter .ensures)) (omega (arith, p .1 .cells, c .before .before .loop .inv .long))
 
 loop-holds : tie.Need-loop-holds Inv-loop μ-loop
-loop-holds c = let p = c .before .before .pre in filling-start _ _ _ _ _ _ (p .1 .1 .0) (p .1 .1 .1 .0)
+loop-holds c = let p = c .before .before .pre in filling-start _ _ _ _ _ _ (p .0 .1) (p .1 .unfilled)
 
 entry-counter-requires : tie.Need-entry-counter-requires Inv-loop μ-loop
-entry-counter-requires c κs = search needs
+entry-counter-requires c κs = c .before .before .before .pre .0 .0
 
 add-result : tie.Need-add-result Inv-loop μ-loop
 add-result c = let h = inside (c .before .before) in search needs
@@ -68,8 +68,8 @@ loop-again : tie.Need-loop-again Inv-loop μ-loop
 loop-again c =
     let p = c .before .before .before .before .before .before .pre in
     rw (c .before .before .entry-counter .ensures, c .entry-number .ensures)
-    (filling-next _ _ _ _ _ _ _ _ (c .before .before .before .loop .inv) (p .1 .0) (λ z. c .before .if1 .left (c .before .before .entry-counter .ensures ∙ z))
-    (p .1 .1 .1 .1))
+    (filling-next _ _ _ _ _ _ _ _ (c .before .before .before .loop .inv) (p .1 .below) (λ z. c .before .if1 .left (c .before .before .entry-counter .ensures ∙ z))
+    (p .1 .cells))
 
 pub fill-ceiling-spec : {M : Type 1} → statement M
 fill-ceiling-spec =

@@ -5,12 +5,12 @@ use Rattle.ceilings.proofs.fill_limits.Statement.{statement}
 use Rattle.ceilings.proofs.fill_limits.Tie as tie
 
 ceilings-part-requires : tie.Need-ceilings-part-requires
-ceilings-part-requires c κs = c .before .before .before .pre .0 .limits
+ceilings-part-requires c κs = c .before .before .before .pre .0 .0 .limits
 
 fill-bounds-requires : tie.Need-fill-bounds-requires
 fill-bounds-requires c κs =
     let p = c .before .before .before .before .before .before .pre in
-    rw (c .before .before .ceilings-part .ensures, part-of) (part-in _ _ (p .0), p .1 .1)
+    rw (c .before .before .ceilings-part .ensures, part-of) ((part-in _ _ (p .0 .0), p .0 .1), p .1)
 
 same-length : tie.Need-same-length
 same-length c = search needs

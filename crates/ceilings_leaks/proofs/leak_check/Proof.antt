@@ -148,7 +148,7 @@ rules-under-requires c κs =
     let p = c .before .before .before .before .before .before .before .before .before .before .before .before .before .before .before .before .before .before .before .before .before .before .before .before .before .before .before .before .before .before .before .before .before .before .before .before .before .before .pre in
     let h = c .before .before .before .before .before .before .before .before .before .before .before .states .inv in
     let l = c .before .before .before .before .before .before .before .before .before .before .before .before .before .before .before .before .before .before .before .before .before .before .ceilings .inv in
-    (p .0, ((p .1 .0 .counted, c .before .before .before .before .before .before .before .before .if1 .left), (c .before .before .before .before .before .before .before .before .before .before .before .before .before .before .before .before .before .before .before .before .before .before .before .set-words .ensures, ((beside-at _ _ _ _ _ _ _ _ (h .0) (room-all _ _ _ _ (p .1 .0 .in-form) (p .1 .0 .limits-table)) (p .0 .ready .limits .ceilings) (c .before .before .before .before .before .before .before .before .before .before .before .before .before .before .before .before .before .before .before .before .before .ceilings-test .taken) (p .1 .0 .held-by) (c .before .before .before .before .before .before .before .before .before .before .before .before .before .before .before .before .before .before .compare .ensures .0) (c .before .before .before .before .before .before .before .before .before .before .before .before .before .before .before .before .before .before .compare .ensures .1 .1) (omega (arith, c .before .before .before .before .before .before .before .before .before .before .before .before .before .before .before .before .before .before .compare .kept .1 .1 .1 .1 .1 .1 .1 .0, c .before .before .before .before .before .before .before .before .before .before .before .before .before .before .before .before .before .before .before .before .before .before .ceilings .inv .4, p .1 .1 .1 .1 .1 .near-room))), (c .before .before .before .before .before .before .left-after .ensures, (rw (c .before .before .before .before .before .before .before .before .before .before .before .before .before .before .before .before .before .before .before .before .before .before .before .set-words .ensures) (set-room (p .0 .ready) _ (p .0 .few) (c .before .before .before .before .before .before .before .before .before .before .before .before .before .held-letters .kept .1 .1 .1 .1 .1 .1 .0 ∙ l .6)), (rw (h .0) (c .before .before .before .before .before .before .before .before .before .before .before .before .before .held-letters .ensures), (h .4, room-kept _ _ _ _ _ _ (p .1 .1 .1 .1 .1 .rules) (h .2 ∙ l .2) (h .3 ∙ l .3)))))))))
+    (p .0, (record { counted = p .1 .0 .counted; state = c .before .before .before .before .before .before .before .before .if1 .left; width = c .before .before .before .before .before .before .before .before .before .before .before .before .before .before .before .before .before .before .before .before .before .before .before .set-words .ensures; beside = beside-at _ _ _ _ _ _ _ _ (h .0) (room-all _ _ _ _ (p .1 .0 .in-form) (p .1 .0 .limits-table)) (p .0 .ready .limits .ceilings) (c .before .before .before .before .before .before .before .before .before .before .before .before .before .before .before .before .before .before .before .before .before .ceilings-test .taken) (p .1 .0 .held-by) (c .before .before .before .before .before .before .before .before .before .before .before .before .before .before .before .before .before .before .compare .ensures .0) (c .before .before .before .before .before .before .before .before .before .before .before .before .before .before .before .before .before .before .compare .ensures .1 .1) (omega (arith, c .before .before .before .before .before .before .before .before .before .before .before .before .before .before .before .before .before .before .compare .kept .1 .1 .1 .1 .1 .1 .1 .0, c .before .before .before .before .before .before .before .before .before .before .before .before .before .before .before .before .before .before .before .before .before .before .ceilings .inv .4, p .1 .1 .1 .1 .1 .near-room)); remains = c .before .before .before .before .before .before .left-after .ensures; row = rw (c .before .before .before .before .before .before .before .before .before .before .before .before .before .before .before .before .before .before .before .before .before .before .before .set-words .ensures) (set-room (p .0 .ready) _ (p .0 .few) (c .before .before .before .before .before .before .before .before .before .before .before .before .before .held-letters .kept .1 .1 .1 .1 .1 .1 .0 ∙ l .6)); holds = rw (h .0) (c .before .before .before .before .before .before .before .before .before .before .before .before .before .held-letters .ensures) }, (room-kept _ _ _ _ _ _ (p .1 .1 .1 .1 .1 .rules) (h .2 ∙ l .2) (h .3 ∙ l .3), h .4)))
 
 kind-at-requires : tie.Need-kind-at-requires Inv-loop μ-loop Inv-candidates μ-candidates Inv-rules μ-rules Inv-states μ-states Inv-ceilings μ-ceilings
 kind-at-requires c κs = (c .before .before .before .before .before .before .before .before .before .before .before .before .before .before .before .before .before .before .before .before .before .before .before .before .before .before .before .before .before .before .before .before .before .before .before .before .before .before .before .before .before .before .before .pre .0 .ready, c .before .before .before .before .before .before .before .before .before .before .before .before .before .if1 .left)

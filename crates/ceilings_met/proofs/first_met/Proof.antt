@@ -28,7 +28,7 @@ returns : tie.Need-returns Inv-loop μ-loop
 returns c = let a = c .before .before .before .before .before .before .before .before .args in sym (c .before .before .before .loop .inv .0 ∙ first-hit _ _ _ (c .before .before .loop-test .taken) (bad-at (a .ws .now) (a .s) (counts-of (a .sums .now)) _ _ _ (c .before .before .before .loop .inv .1) (c .before .meets .ensures) ∙ c .if1 .taken))
 
 next-bad-requires : tie.Need-next-bad-requires Inv-loop μ-loop
-next-bad-requires c κs = let a = c .before .before .before .before .before .before .before .before .args in (c .before .before .before .before .before .before .before .before .pre .0 .whole, (bads-inside (a .ws .now) (a .s) _ _ (c .before .before .before .loop .inv .1), bads-stand (a .ws .now) (a .s) _ _ (c .before .before .before .loop .inv .1) (search needs)))
+next-bad-requires c κs = let a = c .before .before .before .before .before .before .before .before .args in (c .before .before .before .before .before .before .before .before .pre .0 .whole, bads-stand (a .ws .now) (a .s) _ _ (c .before .before .before .loop .inv .1) (search needs))
 
 add-j : tie.Need-add-j Inv-loop μ-loop
 add-j c = search needs

@@ -48,7 +48,7 @@ add-at-2 : tie.Need-add-at-2 Inv-loop μ-loop
 add-at-2 c = search needs
 
 bad-row-requires : tie.Need-bad-row-requires Inv-loop μ-loop
-bad-row-requires c κs = (c .before .before .before .before .before .before .before .before .before .before .pre .0 .whole, (c .before .before .before .before .before .before .before .before .before .before .pre .1 .0, c .before .before .before .before .loop .inv .1))
+bad-row-requires c κs = (c .before .before .before .before .before .before .before .before .before .before .pre .0 .whole, record { in-form = c .before .before .before .before .before .before .before .before .before .before .pre .1 .0; upto = c .before .before .before .before .loop .inv .1 })
 
 add-here : tie.Need-add-here Inv-loop μ-loop
 add-here c = search needs

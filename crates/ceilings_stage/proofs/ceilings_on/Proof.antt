@@ -15,11 +15,14 @@ use Rattle.ceilings_stage.proofs.ceilings_on.Tie as tie
 
 fill-limits-requires : tie.Need-fill-limits-requires
 fill-limits-requires c κs =
-    let r = c .before .before .before .before .before .before .before .before .before .before .before .before .before .before .before .before .pre .1 .1 .0 .0 in
-    (ceilings-of-ready _ _ (c .before .before .before .before .before .before .before .before .before .before .before .before .before .before .before .before .pre .0 .ready), (omega (arith, c .before .before .before .before .before .before .before .before .before .before .before .before .before .before .before .before .pre .1 .0 .counted, c .before .before .before .before .before .before .before .before .before .before .before .before .before .before .before .before .pre .0 .few), (c .before .before .before .before .before .before .before .before .before .before .before .before .before .before .before .before .pre .1 .0 .in-form, ((λ z h. r .blank z), (r .cells, r .firsts)))))
+    let p = c .before .before .before .before .before .before .before .before .before .before .before .before .before .before .before .before .pre in
+    ((ceilings-of-ready _ _ (p .0 .ready), p .1 .0 .in-form), p .1 .1 .0 .0)
 
 start-verdict-requires : tie.Need-start-verdict-requires
-start-verdict-requires c κs = (c .before .before .before .before .before .before .before .before .before .before .before .before .before .before .before .before .before .before .before .before .before .before .pre .0 .ready, (c .before .before .before .before .before .before .before .before .before .before .before .before .before .before .before .before .before .before .before .before .before .before .pre .0 .ends, (c .before .before .before .before .before .before .before .before .before .before .before .before .before .before .before .before .before .before .before .before .before .before .pre .0 .closed, ((c .before .before .before .before .before .before .before .before .before .before .before .before .before .before .before .before .before .before .before .before .before .before .pre .1 .0 .counted, omega (arith, c .before .before .before .before .before .before .before .before .before .before .before .before .before .before .before .before .before .before .before .before .before .before .pre .1 .0 .counted, c .before .before .before .before .before .before .before .before .before .before .before .before .before .before .before .before .before .before .before .before .before .before .pre .0 .few)), c .before .before .before .before .before .fill-limits .ensures .0))))
+start-verdict-requires c κs =
+    let p = c .before .before .before .before .before .before .before .before .before .before .before .before .before .before .before .before .before .before .before .before .before .before .pre in
+    let t = p .0 in
+    (record { ready = t .ready; ends = t .ends; closed = t .closed; counted = record { counters = p .1 .0 .counted; few = omega (arith, p .1 .0 .counted, t .few) } }, c .before .before .before .before .before .fill-limits .ensures .0)
 
 returns : tie.Need-returns
 unfolding below-ceilings
@@ -32,7 +35,12 @@ part-met-verdict-start : tie.Need-part-met-verdict-start
 part-met-verdict-start c = omega (arith, long _ _ _ _ _ _ (c .before .before .before .before .before .before .before .before .before .before .before .before .before .before .before .before .before .before .before .before .before .before .before .before .before .pre .0))
 
 met-verdict-requires : tie.Need-met-verdict-requires
-met-verdict-requires c κs = (c .before .before .before .before .before .before .before .before .before .before .before .before .before .before .before .before .before .before .before .before .before .before .before .before .before .before .before .before .pre .0 .ready, (c .before .before .before .before .before .before .before .before .before .before .before .before .before .before .before .before .before .before .before .before .before .before .before .before .before .before .before .before .pre .1 .0 .bads, (lent-letters _ _ _ _ _ _ (c .before .before .before .before .before .before .before .before .before .before .before .before .before .before .before .before .before .before .before .before .before .before .before .before .before .before .before .before .pre .0), (c .before .before .before .before .before .before .before .before .before .before .before .before .before .before .before .before .before .before .before .before .before .before .before .before .before .before .before .before .pre .0 .letter-sets, ((c .before .before .before .before .before .before .before .before .before .before .before .before .before .before .before .before .before .before .before .before .before .before .before .before .before .before .before .before .pre .1 .0 .counted, omega (arith, c .before .before .before .before .before .before .before .before .before .before .before .before .before .before .before .before .before .before .before .before .before .before .before .before .before .before .before .before .pre .1 .0 .counted, c .before .before .before .before .before .before .before .before .before .before .before .before .before .before .before .before .before .before .before .before .before .before .before .before .before .before .before .before .pre .0 .few)), (c .before .before .before .before .before .before .before .before .before .before .before .fill-limits .ensures .0, c .before .before .before .before .before .before .before .before .before .before .before .before .before .before .before .before .before .before .before .before .before .before .before .before .before .before .before .before .pre .1 .1 .0 .1))))))
+met-verdict-requires c κs =
+    let p = c .before .before .before .before .before .before .before .before .before .before .before .before .before .before .before .before .before .before .before .before .before .before .before .before .before .before .before .before .pre in
+    let t = p .0 in (
+      (record { ready = t .ready; class-letters = lent-letters _ _ _ _ _ _ t; letter-sets = t .letter-sets }, p .1 .0 .bads),
+      ((record { counters = p .1 .0 .counted; few = omega (arith, p .1 .0 .counted, t .few) }, c .before .before .before .before .before .before .before .before .before .before .before .fill-limits .ensures .0), p .1 .1 .0 .1),
+    )
 
 returns-2 : tie.Need-returns-2
 unfolding below-ceilings

@@ -1,4 +1,3 @@
-use native.Mathlib.Omega.{arith}
 use borrow.Author.Needs.{needs}
 use Rattle.closure.proofs.fill_tables.Statement.{statement}
 use Rattle.closure.proofs.fill_tables.Tie as tie
@@ -16,7 +15,9 @@ fill-builds-requires : tie.Need-fill-builds-requires
 fill-builds-requires c κs = search needs
 
 fill-patterns-requires : tie.Need-fill-patterns-requires
-fill-patterns-requires c κs = (c .before .before .before .before .before .before .before .before .before .before .before .before .before .before .before .before .before .before .before .before .before .before .before .before .before .before .before .before .before .before .before .before .before .pre .0, (c .before .before .before .before .before .before .before .before .before .before .before .before .before .before .before .before .before .before .before .before .before .before .before .before .before .before .before .before .before .before .before .before .before .pre .1 .0, (c .before .before .before .before .before .before .before .before .before .before .before .before .before .before .before .before .before .before .fill-flow .ensures, (c .before .before .before .before .before .before .before .before .before .fill-builds .ensures, ((c .before .before .before .before .before .before .before .before .before .before .before .before .before .before .before .before .before .before .before .before .before .before .before .before .before .before .before .before .before .before .before .before .before .pre .1 .1 .1 .may-room, c .before .before .before .before .before .before .before .before .before .before .before .before .before .before .before .before .before .before .before .before .before .before .before .before .before .before .before .before .before .before .before .before .before .pre .1 .1 .1 .held-room), (c .before .before .before .before .before .before .before .before .before .before .before .before .before .before .before .before .before .before .before .before .before .before .before .before .before .before .before .before .before .before .before .before .before .pre .1 .1 .1 .may-empty, c .before .before .before .before .before .before .before .before .before .before .before .before .before .before .before .before .before .before .before .before .before .before .before .before .before .before .before .before .before .before .before .before .before .pre .1 .1 .1 .held-empty))))))
+fill-patterns-requires c κs =
+    let h = c .before .before .before .before .before .before .before .before .before .before .before .before .before .before .before .before .before .before .before .before .before .before .before .before .before .before .before .before .before .before .before .before .before .pre in
+    (record { ready = h .0 .0 .ready; layout = h .0 .0 .layout; names = c .before .before .before .before .before .before .before .before .before .before .before .before .before .before .before .before .before .before .fill-flow .ensures; builds = c .before .before .before .before .before .before .before .before .before .fill-builds .ensures }, h .1 .1 .patterns)
 
 same-length : tie.Need-same-length
 same-length c = search needs
@@ -40,7 +41,9 @@ same-length-7 : tie.Need-same-length-7
 same-length-7 c = search needs
 
 returns : tie.Need-returns
-returns c = (c .before .before .before .before .before .before .before .before .before .before .before .before .before .before .before .before .before .before .before .before .before .before .before .before .before .before .before .fill-starts .ensures, (c .before .before .before .before .before .before .before .before .before .before .before .before .before .before .before .before .before .before .before .before .before .before .before .fill-flow .ensures, (c .before .before .before .before .before .before .before .before .before .before .before .before .before .before .before .before .before .before .before .fill-mail .ensures, c .before .before .before .before .fill-patterns .ensures)))
+returns c =
+    let h = c .before .before .before .before .before .before .before .before .before .before .before .before .before .before .before .before .before .before .before .before .before .before .before .before .before .before .before .before .before .before .before .before .before .before .before .before .before .before .pre .0 .0 in
+    record { ready = h .ready; layout = h .layout; begins = c .before .before .before .before .before .before .before .before .before .before .before .before .before .before .before .before .before .before .before .before .before .before .before .before .before .before .before .fill-starts .ensures; names = c .before .before .before .before .before .before .before .before .before .before .before .before .before .before .before .before .before .before .before .before .before .before .before .fill-flow .ensures; classes = c .before .before .before .before .before .before .before .before .before .before .before .before .before .before .before .before .before .before .before .fill-mail .ensures; patterns = c .before .before .before .before .fill-patterns .ensures }
 
 pub fill-tables-spec : {M : Type 1} → statement M
 fill-tables-spec =

@@ -1,5 +1,5 @@
 use Prim.Native.Nat.{_-_}
-use mathlib.Core.Path.{_≡_, refl, sym, _∙_}
+use mathlib.Core.Path.{_≡_, refl, _∙_}
 use native.Mathlib.Omega.{arith}
 use lib.ListN.{length}
 use Rattle.model.specs.Words.{columns}
@@ -18,13 +18,13 @@ abbrev μ-loop : tie.MeasureT-loop
 μ-loop ws s afters starts flow mail may held codes₀ at₀ branches₀ i₀ codes at branches i = s .states - i
 
 loop-holds : tie.Need-loop-holds Inv-loop μ-loop
-loop-holds c = (opens-begin _, ((refl, refl), (c .before .before .before .before .before .before .before .before .before .before .pre .1 .1 .1 .1 .1 .1 .1, refl)))
+loop-holds c = (opens-begin _, ((refl, refl), (c .before .before .before .before .before .before .before .before .before .before .pre .1 .1, refl)))
 
 guess-class-requires : tie.Need-guess-class-requires Inv-loop μ-loop
 guess-class-requires c κs = search needs
 
 settled-bits-requires : tie.Need-settled-bits-requires Inv-loop μ-loop
-settled-bits-requires c κs = let h = c .before .before .before .before .before .before .before .before .before .before .before .before .before .before .before .before .before .before .before .pre in (h .0, (h .1 .0, (h .1 .1 .0, (h .1 .1 .1 .0, (h .1 .1 .1 .1 .0, (h .1 .1 .1 .1 .1 .0, (c .before .before .before .before .before .before .before .before .loop .inv .1 .1 .0, search needs)))))))
+settled-bits-requires c κs = (c .before .before .before .before .before .before .before .before .before .before .before .before .before .before .before .before .before .before .before .pre .0, (c .before .before .before .before .before .before .before .before .loop .inv .1 .1 .0, search needs))
 
 same-length : tie.Need-same-length Inv-loop μ-loop
 same-length c = search needs
@@ -43,20 +43,20 @@ cast-branches : tie.Need-cast-branches Inv-loop μ-loop
 cast-branches c = omega (arith, c .before .before .before .settled-bits .ensures .0 .most, c .if2 .left)
 
 mul-branches : tie.Need-mul-branches Inv-loop μ-loop
-mul-branches c = omega (arith, c .before .before .before .before .before .before .before .before .before .before .before .before .before .before .before .before .before .before .before .before .before .before .before .pre .0 .limits .states)
+mul-branches c = omega (arith, c .before .before .before .before .before .before .before .before .before .before .before .before .before .before .before .before .before .before .before .before .before .before .before .pre .0 .ready .limits .states)
 
 slice-write-branches : tie.Need-slice-write-branches Inv-loop μ-loop
-slice-write-branches c = omega (arith, c .before .before .before .before .before .before .before .before .before .before .before .before .loop .inv .1 .0 .1, c .before .before .before .before .before .before .before .before .before .before .before .before .before .before .before .before .before .before .before .before .before .before .before .pre .1 .1 .1 .1 .1 .1 .0)
+slice-write-branches c = omega (arith, c .before .before .before .before .before .before .before .before .before .before .before .before .loop .inv .1 .0 .1, c .before .before .before .before .before .before .before .before .before .before .before .before .before .before .before .before .before .before .before .before .before .before .before .pre .1 .0)
 
 add-i : tie.Need-add-i Inv-loop μ-loop
-add-i c = omega (arith, c .before .before .before .before .before .before .before .before .before .before .before .before .before .before .before .before .before .before .before .before .before .before .before .pre .0 .limits .states)
+add-i c = omega (arith, c .before .before .before .before .before .before .before .before .before .before .before .before .before .before .before .before .before .before .before .before .before .before .before .pre .0 .ready .limits .states)
 
 loop-less : tie.Need-loop-less Inv-loop μ-loop
 loop-less c = search needs
 
 loop-again : tie.Need-loop-again Inv-loop μ-loop
 unfolding tables entries columns
-loop-again c = (opens-next (c .before .before .before .before .before .before .before .before .before .before .before .before .loop .inv .0) (search needs) _ (c .before .before .before .settled-bits .ensures .0) (c .if2 .left) (omega (arith, c .before .before .before .before .before .before .before .before .before .before .before .before .loop .inv .1 .0 .1, c .before .before .before .before .before .before .before .before .before .before .before .before .before .before .before .before .before .before .before .before .before .before .before .pre .1 .1 .1 .1 .1 .1 .0)), ((search needs, search needs), (c .before .before .before .settled-bits .ensures .1, search needs)))
+loop-again c = (opens-next (c .before .before .before .before .before .before .before .before .before .before .before .before .loop .inv .0) (search needs) _ (c .before .before .before .settled-bits .ensures .0) (c .if2 .left) (omega (arith, c .before .before .before .before .before .before .before .before .before .before .before .before .loop .inv .1 .0 .1, c .before .before .before .before .before .before .before .before .before .before .before .before .before .before .before .before .before .before .before .before .before .before .before .pre .1 .0)), ((search needs, search needs), (c .before .before .before .settled-bits .ensures .1, search needs)))
 
 same-length-4 : tie.Need-same-length-4 Inv-loop μ-loop
 same-length-4 c = search needs

@@ -10,12 +10,12 @@ state-location-requires c κs = search needs
 code-at-requires : tie.Need-code-at-requires
 code-at-requires c κs =
     let h = c .before .before .before .before .before .before .before .before .before .before .before .pre in
-    (h .0, (h .1 .0, (h .1 .1 .0, (h .1 .1 .1 .0, (h .1 .1 .1 .1 .0, (h .1 .1 .1 .1 .1 .0, (h .1 .1 .1 .1 .1 .1 .0, row-below (h .0) _ (head-some (h .0) _ _ (h .1 .1 .1 .1 .1 .1 .1) (c .before .state-location .ensures) .0) .0)))))))
+    (h .0, (h .1 .0, row-below (h .0 .ready) _ (head-some (h .0 .ready) _ _ (h .1 .1) (c .before .state-location .ensures) .0) .0))
 
 state-bits-requires : tie.Need-state-bits-requires
 state-bits-requires c κs =
     let h = c .before .before .before .before .before .before .before .before .before .before .before .before .before .before .pre in
-    (h .0, (h .1 .0, (h .1 .1 .0, (h .1 .1 .1 .0, (h .1 .1 .1 .1 .0, (h .1 .1 .1 .1 .1 .0, ((h .1 .1 .1 .1 .1 .1 .1, c .before .before .before .before .state-location .ensures), c .before .before .code-at .ensures .0)))))))
+    (h .0, record { low = h .1 .1; location = c .before .before .before .before .state-location .ensures; settled = c .before .before .code-at .ensures .0 })
 
 same-length : tie.Need-same-length
 same-length c = search needs

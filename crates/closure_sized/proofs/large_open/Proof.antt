@@ -10,7 +10,7 @@ open-check-requires : tie.Need-open-check-requires
 unfolding width
 open-check-requires c κs =
     let p = c .before .before .before .before .before .before .before .before .before .before .before .before .before .before .before .before .before .before .before .before .before .before .pre in
-    lends _ _ _ _ _ _ maxRows maxNames _ _ _ _ _ _ _ _ _ _ _ p (p .0 .limits .rows .1) (p .0 .limits .names .1) (c .before .before .before .before .before .before .before .before .before .before .before .before .before .before .before .before .name-sets .ensures) (c .before .before .before .before .before .before .before .before .before .before .before .before .before .before .before .name-sets2 .ensures) (c .before .before .before .before .before .before .before .before .before .before .before .before .before .before .words16-66 .ensures) (c .before .before .before .before .before .before .before .before .before .before .before .before .before .row-words16 .ensures) (c .before .before .before .before .before .before .before .before .before .before .before .before .row-sets .ensures) (c .before .before .before .before .before .before .before .before .before .before .before .row-sets2 .ensures) (c .before .before .before .before .before .before .before .before .before .before .row-words32 .ensures) (omega arith) (omega arith) (omega arith) (omega arith)
+    (p, lends _ maxRows maxNames _ _ _ _ _ _ _ _ _ _ _ (p .ready .limits) (p .ready .limits .rows .1) (p .ready .limits .names .1) (c .before .before .before .before .before .before .before .before .before .before .before .before .before .before .before .before .name-sets .ensures) (c .before .before .before .before .before .before .before .before .before .before .before .before .before .before .before .name-sets2 .ensures) (c .before .before .before .before .before .before .before .before .before .before .before .before .before .before .words16-66 .ensures) (c .before .before .before .before .before .before .before .before .before .before .before .before .before .row-words16 .ensures) (c .before .before .before .before .before .before .before .before .before .before .before .before .row-sets .ensures) (c .before .before .before .before .before .before .before .before .before .before .before .row-sets2 .ensures) (c .before .before .before .before .before .before .before .before .before .before .row-words32 .ensures) (omega arith) (omega arith) (omega arith) (omega arith))
 
 pub large-open-spec : {M : Type 1} → statement M
 large-open-spec =

@@ -9,7 +9,7 @@ open-check-requires : tie.Need-open-check-requires
 unfolding width
 open-check-requires c κs =
     let p = c .before .before .before .before .before .before .before .before .before .before .before .before .before .before .before .before .before .before .before .before .before .before .pre in
-    lends _ _ _ _ _ _ 64 64 _ _ _ _ _ _ _ _ _ _ _ (p .1) (p .0 .0) (p .0 .1) (c .before .before .before .before .before .before .before .before .before .before .before .before .before .before .before .before .words64-130 .ensures) (c .before .before .before .before .before .before .before .before .before .before .before .before .before .before .before .words64-1302 .ensures) (c .before .before .before .before .before .before .before .before .before .before .before .before .before .before .words16-66 .ensures) (c .before .before .before .before .before .before .before .before .before .before .before .before .before .words16-662 .ensures) (c .before .before .before .before .before .before .before .before .before .before .before .before .words64-1303 .ensures) (c .before .before .before .before .before .before .before .before .before .before .before .words64-1304 .ensures) (c .before .before .before .before .before .before .before .before .before .before .words32-66 .ensures) (omega arith) (omega arith) (omega arith) (omega arith)
+    (p .1, lends _ 64 64 _ _ _ _ _ _ _ _ _ _ _ (p .1 .ready .limits) (p .0 .0) (p .0 .1) (c .before .before .before .before .before .before .before .before .before .before .before .before .before .before .before .before .words64-130 .ensures) (c .before .before .before .before .before .before .before .before .before .before .before .before .before .before .before .words64-1302 .ensures) (c .before .before .before .before .before .before .before .before .before .before .before .before .before .before .words16-66 .ensures) (c .before .before .before .before .before .before .before .before .before .before .before .before .before .words16-662 .ensures) (c .before .before .before .before .before .before .before .before .before .before .before .before .words64-1303 .ensures) (c .before .before .before .before .before .before .before .before .before .before .before .words64-1304 .ensures) (c .before .before .before .before .before .before .before .before .before .before .words32-66 .ensures) (omega arith) (omega arith) (omega arith) (omega arith))
 
 pub small-open-spec : {M : Type 1} → statement M
 small-open-spec =

@@ -2,19 +2,20 @@ use mathlib.Core.Path.{sym, _∙_}
 use Rattle.model.specs.Words.{columns}
 use Rattle.model.specs.Rows.{program}
 use Rattle.matching.proofs.Subpatterns.{pattern-within}
-use Rattle.state_rules.proofs.Letters.{set-room}
+use Rattle.lettered_rules.proofs.Letters.{set-room}
+use Rattle.branch_letters.proofs.Keeping.{kept-tables}
 use borrow.Author.Needs.{needs}
 use Rattle.kept_letters.proofs.keep_branch.Statement.{statement}
 use Rattle.kept_letters.proofs.keep_branch.Tie as tie
 
 returns : tie.Need-returns
-returns c = (c .before .before .before .before .before .before .before .before .pre .1 .1 .1 .1 .1 .1 .0, c .before .before .before .before .before .before .before .before .pre .1 .1 .1 .1 .1 .1 .1)
+returns c = (c .before .before .before .before .before .before .before .before .pre .0 .pattern-tables .letter-tables .letter-sets, c .before .before .before .before .before .before .before .before .pre .0 .reads)
 
 state-class-requires : tie.Need-state-class-requires
-state-class-requires c κs = c .before .before .before .before .before .before .before .before .pre .0 .ready
+state-class-requires c κs = c .before .before .before .before .before .before .before .before .pre .0 .pattern-tables .match-tables .ready
 
 returns-2 : tie.Need-returns-2
-returns-2 c = (c .before .before .before .before .before .before .before .before .before .before .pre .1 .1 .1 .1 .1 .1 .0, c .before .before .before .before .before .before .before .before .before .before .pre .1 .1 .1 .1 .1 .1 .1)
+returns-2 c = (c .before .before .before .before .before .before .before .before .before .before .pre .0 .pattern-tables .letter-tables .letter-sets, c .before .before .before .before .before .before .before .before .before .before .pre .0 .reads)
 
 before-requires : tie.Need-before-requires
 before-requires c κs = search needs
@@ -26,14 +27,22 @@ slice-aggregate-branch-letters-2 : tie.Need-slice-aggregate-branch-letters-2
 slice-aggregate-branch-letters-2 c = search needs
 
 branch-letters-requires : tie.Need-branch-letters-requires
-branch-letters-requires c κs = (c .before .before .before .before .before .before .before .before .before .before .before .before .before .before .pre .0, (c .before .before .before .before .before .before .before .before .before .before .before .before .before .before .pre .1 .0, (c .before .before .before .before .before .before .before .before .before .before .before .before .before .before .pre .1 .1 .0, (c .before .before .before .before .before .before .before .before .before .before .before .before .before .before .pre .1 .1 .1 .1 .1 .1 .0, (c .before .before .before .before .before .before .before .before .before .before .before .before .before .before .pre .1 .1 .1 .1 .1 .1 .1, (c .before .before .before .before .before .before .before .before .before .before .before .before .before .before .pre .1 .1 .1 .1 .0, (c .before .before .before .before .before .before .before .before .before .before .before .before .before .before .pre .1 .1 .1 .1 .1 .0, (set-room (c .before .before .before .before .before .before .before .before .before .before .before .before .before .before .pre .0 .ready) _ (c .before .before .before .before .before .before .before .before .before .before .before .before .before .before .pre .1 .1 .1 .0) (search needs), set-room (c .before .before .before .before .before .before .before .before .before .before .before .before .before .before .pre .0 .ready) _ (c .before .before .before .before .before .before .before .before .before .before .before .before .before .before .pre .1 .1 .1 .0) (search needs)))))))))
+branch-letters-requires c κs = (
+  c .before .before .before .before .before .before .before .before .before .before .before .before .before .before .pre .0,
+  record {
+    class = c .before .before .before .before .before .before .before .before .before .before .before .before .before .before .pre .1 .0;
+    pattern = c .before .before .before .before .before .before .before .before .before .before .before .before .before .before .pre .1 .1;
+    part-row = set-room (c .before .before .before .before .before .before .before .before .before .before .before .before .before .before .pre .0 .pattern-tables .letter-tables .ready) _ (c .before .before .before .before .before .before .before .before .before .before .before .before .before .before .pre .0 .pattern-tables .letter-tables .few) (search needs);
+    found-row = set-room (c .before .before .before .before .before .before .before .before .before .before .before .before .before .before .pre .0 .pattern-tables .letter-tables .ready) _ (c .before .before .before .before .before .before .before .before .before .before .before .before .before .before .pre .0 .pattern-tables .letter-tables .few) (search needs);
+  },
+)
 
 slice-aggregate-keep-letters : tie.Need-slice-aggregate-keep-letters
 slice-aggregate-keep-letters c = search needs
 
 keep-letters-requires : tie.Need-keep-letters-requires
 unfolding program columns
-keep-letters-requires c κs = (c .before .before .before .before .before .before .before .before .before .before .before .before .before .before .before .before .before .before .before .pre .0 .ready, (c .before .before .before .before .before .before .before .before .before .before .before .before .before .before .before .before .before .before .before .pre .1 .1 .0, (c .before .before .before .before .before .before .before .before .before .before .before .before .before .before .before .before .before .before .before .pre .1 .1 .1 .1 .1 .1 .0, (c .before .before .before .before .before .before .before .before .before .before .before .before .before .before .before .before .before .before .before .pre .1 .1 .1 .1 .1 .1 .1, ((search needs, sym (c .before .before .before .before .before .before .before .before .before .before .state-class .ensures) ∙ c .before .before .before .before .before .before .before .before .before .if2 .left, pattern-within (c .before .before .before .before .before .before .before .before .before .before .before .before .before .before .before .before .before .before .before .pre .1 .1 .1 .1 .1 .0)), c .before .before .before .before .branch-letters .ensures)))))
+keep-letters-requires c κs = (kept-tables (c .before .before .before .before .before .before .before .before .before .before .before .before .before .before .before .before .before .before .before .pre .0), ((search needs, sym (c .before .before .before .before .before .before .before .before .before .before .state-class .ensures) ∙ c .before .before .before .before .before .before .before .before .before .if2 .left, pattern-within (c .before .before .before .before .before .before .before .before .before .before .before .before .before .before .before .before .before .before .before .pre .1 .1)), c .before .before .before .before .branch-letters .ensures))
 
 same-length : tie.Need-same-length
 same-length c = search needs

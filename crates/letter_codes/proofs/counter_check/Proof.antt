@@ -1,5 +1,4 @@
 use borrow.Author.Needs.{needs}
-use borrow.Author.Needs.{needs}
 use native.Mathlib.Omega.{arith}
 use Rattle.model.specs.Message.{tables-at}
 use Rattle.letter_codes.proofs.Capped.{capped-most, states-told, counters-safe, counters-many}

@@ -14,10 +14,10 @@ abbrev μ-loop : tie.MeasureT-loop
 μ-loop ws letter-at codes letters₀ n w heads y₀ letters y = n - y
 
 letter-count-requires : tie.Need-letter-count-requires Inv-loop μ-loop
-letter-count-requires c κs = search needs
+letter-count-requires c κs = (c .before .before .before .before .pre .0 .ready, c .before .before .before .before .pre .0 .class-letters)
 
 letter-width-requires : tie.Need-letter-width-requires Inv-loop μ-loop
-letter-width-requires c κs = search needs
+letter-width-requires c κs = (c .before .before .before .before .before .pre .0 .ready, c .before .before .before .before .before .pre .0 .class-letters)
 
 add-heads : tie.Need-add-heads Inv-loop μ-loop
 add-heads c = search needs
@@ -29,10 +29,10 @@ mul-put-digits : tie.Need-mul-put-digits Inv-loop μ-loop
 mul-put-digits c = search needs
 
 shared-slice-read-put-digits : tie.Need-shared-slice-read-put-digits Inv-loop μ-loop
-shared-slice-read-put-digits c = omega (arith, c .before .before .before .before .before .before .before .before .before .before .pre .1 .1 .0 .room)
+shared-slice-read-put-digits c = omega (arith, c .before .before .before .before .before .before .before .before .before .before .pre .0 .coded .room)
 
 put-digits-requires : tie.Need-put-digits-requires Inv-loop μ-loop
-put-digits-requires c κs = digit-rows (c .before .before .before .before .before .before .before .before .before .before .before .pre .0) _ _ _ _ _ _ _ _ (c .before .before .before .before .before .letter-width .ensures) refl (c .before .before .loop-test .taken) (c .before .before .before .before .before .before .letter-count .ensures .0) (c .before .before .before .before .before .before .before .before .before .before .before .pre .1 .1 .0) refl (c .before .before .before .before .before .before .before .before .before .before .before .pre .1 .1 .1) (c .before .before .before .loop .inv .0 .long)
+put-digits-requires c κs = digit-rows (c .before .before .before .before .before .before .before .before .before .before .before .pre .0 .ready) _ _ _ _ _ _ _ _ (c .before .before .before .before .before .letter-width .ensures) refl (c .before .before .loop-test .taken) (c .before .before .before .before .before .before .letter-count .ensures .0) (c .before .before .before .before .before .before .before .before .before .before .before .pre .0 .coded) refl (c .before .before .before .before .before .before .before .before .before .before .before .pre .1) (c .before .before .before .loop .inv .0 .long)
 
 add-y : tie.Need-add-y Inv-loop μ-loop
 add-y c = search needs
@@ -47,7 +47,7 @@ same-length : tie.Need-same-length Inv-loop μ-loop
 same-length c = c .before .loop .inv .0 .long
 
 returns : tie.Need-returns Inv-loop μ-loop
-returns c = digits-filled (c .before .before .before .before .before .before .before .before .before .pre .0) _ _ _ _ _ _ _ (c .before .before .before .letter-width .ensures) refl (c .before .loop .inv .0) (search needs) (c .before .before .before .before .letter-count .ensures .0)
+returns c = digits-filled (c .before .before .before .before .before .before .before .before .before .pre .0 .ready) _ _ _ _ _ _ _ (c .before .before .before .letter-width .ensures) refl (c .before .loop .inv .0) (search needs) (c .before .before .before .before .letter-count .ensures .0)
 
 pub fill-digits-spec : {M : Type 1} → statement M
 fill-digits-spec =

@@ -26,19 +26,19 @@ letter-width-requires : tie.Need-letter-width-requires Inv-loop μ-loop
 letter-width-requires c κs = search needs
 
 clear-requires : tie.Need-clear-requires Inv-loop μ-loop
-clear-requires c κs = rw (c .before .letter-width .ensures) (c .before .before .before .before .before .before .before .pre .1 .1 .1 .1 .1 .1)
+clear-requires c κs = rw (c .before .letter-width .ensures) (c .before .before .before .before .before .before .before .pre .1 .1)
 
 word-requires : tie.Need-word-requires Inv-loop μ-loop
-word-requires c κs = omega (arith, c .before .before .before .before .before .before .before .before .before .before .pre .1 .0 .room, c .before .before .before .before .before .before .before .before .before .before .pre .1 .1 .1 .1 .0)
+word-requires c κs = omega (arith, c .before .before .before .before .before .before .before .before .before .before .pre .0 .flow-starts .room, c .before .before .before .before .before .before .before .before .before .before .pre .1 .0 .name)
 
 add-word : tie.Need-add-word Inv-loop μ-loop
-add-word c = omega (arith, c .before .before .before .before .before .before .before .before .before .before .before .pre .0 .limits .names, c .before .before .before .before .before .before .before .before .before .before .before .pre .1 .1 .1 .1 .0)
+add-word c = omega (arith, c .before .before .before .before .before .before .before .before .before .before .before .pre .0 .letter-tables .ready .limits .names, c .before .before .before .before .before .before .before .before .before .before .before .pre .1 .0 .name)
 
 word-requires-2 : tie.Need-word-requires-2 Inv-loop μ-loop
-word-requires-2 c κs = omega (arith, c .before .before .before .before .before .before .before .before .before .before .before .pre .1 .0 .room, c .before .before .before .before .before .before .before .before .before .before .before .pre .1 .1 .1 .1 .0)
+word-requires-2 c κs = omega (arith, c .before .before .before .before .before .before .before .before .before .before .before .pre .0 .flow-starts .room, c .before .before .before .before .before .before .before .before .before .before .before .pre .1 .0 .name)
 
 loop-holds : tie.Need-loop-holds Inv-loop μ-loop
-loop-holds c = let (e, f) = (name-starts (c .before .before .before .before .before .before .before .before .before .before .before .before .pre .0) _ _ _ _ (c .before .before .before .before .before .before .before .before .before .before .before .before .pre .1 .0) (c .before .before .before .before .before .before .before .before .before .before .before .before .pre .1 .1 .1 .1 .0) (c .before .word .ensures .0) (c .word2 .ensures .0)) in (search needs, flow-order (c .before .before .before .before .before .before .before .before .before .before .before .before .pre .0) _ _ _ e f .0, refl, found-start _ _ _ _ _ _ _ _ (c .before .before .before .before .before .before .letter-width .ensures) (c .before .before .before .before .before .before .before .before .before .before .before .before .pre .1 .1 .1 .1 .1 .1) (c .before .before .before .before .clear .ensures))
+loop-holds c = let (e, f) = (name-starts (c .before .before .before .before .before .before .before .before .before .before .before .before .pre .0 .letter-tables .ready) _ _ _ _ (c .before .before .before .before .before .before .before .before .before .before .before .before .pre .0 .flow-starts) (c .before .before .before .before .before .before .before .before .before .before .before .before .pre .1 .0 .name) (c .before .word .ensures .0) (c .word2 .ensures .0)) in (search needs, flow-order (c .before .before .before .before .before .before .before .before .before .before .before .before .pre .0 .letter-tables .ready) _ _ _ e f .0, refl, found-start _ _ _ _ _ _ _ _ (c .before .before .before .before .before .before .letter-width .ensures) (c .before .before .before .before .before .before .before .before .before .before .before .before .pre .1 .1) (c .before .before .before .before .clear .ensures))
 
 flow-value-requires : tie.Need-flow-value-requires Inv-loop μ-loop
 flow-value-requires c κs = search needs
@@ -47,14 +47,14 @@ mail-requires : tie.Need-mail-requires Inv-loop μ-loop
 mail-requires c κs = search needs
 
 place-requires : tie.Need-place-requires Inv-loop μ-loop
-place-requires c κs = mail-usable (c .before .before .before .before .before .before .before .before .before .before .before .before .before .before .before .before .pre .0) (c .mail .result) (c .mail .ensures)
+place-requires c κs = mail-usable (c .before .before .before .before .before .before .before .before .before .before .before .before .before .before .before .before .pre .0 .letter-tables .ready) (c .mail .result) (c .mail .ensures)
 
 entry-set-requires : tie.Need-entry-set-requires Inv-loop μ-loop
-entry-set-requires c κs = (c .before .before .before .before .before .before .before .before .before .before .before .before .before .before .before .before .before .pre .0 .limits, (mailed-at (c .before .before .before .before .before .before .before .before .before .before .before .before .before .before .before .before .before .pre .0) _ _ _ _ _ _ _ (c .before .before .before .before .before .before .before .before .before .before .before .before .before .before .before .before .before .pre .1 .1 .1 .1 .1 .0) ((name-starts (c .before .before .before .before .before .before .before .before .before .before .before .before .before .before .before .before .before .pre .0) _ _ _ _ (c .before .before .before .before .before .before .before .before .before .before .before .before .before .before .before .before .before .pre .1 .0) (c .before .before .before .before .before .before .before .before .before .before .before .before .before .before .before .before .before .pre .1 .1 .1 .1 .0) (c .before .before .before .before .before .before .word .ensures .0) (c .before .before .before .before .before .word2 .ensures .0)) .0) ((name-starts (c .before .before .before .before .before .before .before .before .before .before .before .before .before .before .before .before .before .pre .0) _ _ _ _ (c .before .before .before .before .before .before .before .before .before .before .before .before .before .before .before .before .before .pre .1 .0) (c .before .before .before .before .before .before .before .before .before .before .before .before .before .before .before .before .before .pre .1 .1 .1 .1 .0) (c .before .before .before .before .before .before .word .ensures .0) (c .before .before .before .before .before .word2 .ensures .0)) .1) (omega (arith, c .before .before .before .before .loop .inv .0)) (omega (arith, c .before .before .before .before .loop .inv .0, c .before .before .before .loop-test .taken)) (c .before .before .flow-value .ensures) (mail-placed _ _ _ _ _ (c .place .ensures) (c .before .mail .ensures))) .0)
+entry-set-requires c κs = (c .before .before .before .before .before .before .before .before .before .before .before .before .before .before .before .before .before .pre .0 .letter-tables .ready .limits, (mailed-at (c .before .before .before .before .before .before .before .before .before .before .before .before .before .before .before .before .before .pre .0 .letter-tables .ready) _ _ _ _ _ _ _ (c .before .before .before .before .before .before .before .before .before .before .before .before .before .before .before .before .before .pre .1 .0 .mailed) ((name-starts (c .before .before .before .before .before .before .before .before .before .before .before .before .before .before .before .before .before .pre .0 .letter-tables .ready) _ _ _ _ (c .before .before .before .before .before .before .before .before .before .before .before .before .before .before .before .before .before .pre .0 .flow-starts) (c .before .before .before .before .before .before .before .before .before .before .before .before .before .before .before .before .before .pre .1 .0 .name) (c .before .before .before .before .before .before .word .ensures .0) (c .before .before .before .before .before .word2 .ensures .0)) .0) ((name-starts (c .before .before .before .before .before .before .before .before .before .before .before .before .before .before .before .before .before .pre .0 .letter-tables .ready) _ _ _ _ (c .before .before .before .before .before .before .before .before .before .before .before .before .before .before .before .before .before .pre .0 .flow-starts) (c .before .before .before .before .before .before .before .before .before .before .before .before .before .before .before .before .before .pre .1 .0 .name) (c .before .before .before .before .before .before .word .ensures .0) (c .before .before .before .before .before .word2 .ensures .0)) .1) (omega (arith, c .before .before .before .before .loop .inv .0)) (omega (arith, c .before .before .before .before .loop .inv .0, c .before .before .before .loop-test .taken)) (c .before .before .flow-value .ensures) (mail-placed _ _ _ _ _ (c .place .ensures) (c .before .mail .ensures))) .0)
 
 join-into-requires : tie.Need-join-into-requires Inv-loop μ-loop
 unfolding tables entries columns
-join-into-requires c κs = let (l, e, f) = (mailed-at (c .before .before .before .before .before .before .before .before .before .before .before .before .before .before .before .before .before .before .before .pre .0) _ _ _ _ _ _ _ (c .before .before .before .before .before .before .before .before .before .before .before .before .before .before .before .before .before .before .before .pre .1 .1 .1 .1 .1 .0) ((name-starts (c .before .before .before .before .before .before .before .before .before .before .before .before .before .before .before .before .before .before .before .pre .0) _ _ _ _ (c .before .before .before .before .before .before .before .before .before .before .before .before .before .before .before .before .before .before .before .pre .1 .0) (c .before .before .before .before .before .before .before .before .before .before .before .before .before .before .before .before .before .before .before .pre .1 .1 .1 .1 .0) (c .before .before .before .before .before .before .before .before .word .ensures .0) (c .before .before .before .before .before .before .before .word2 .ensures .0)) .0) ((name-starts (c .before .before .before .before .before .before .before .before .before .before .before .before .before .before .before .before .before .before .before .pre .0) _ _ _ _ (c .before .before .before .before .before .before .before .before .before .before .before .before .before .before .before .before .before .before .before .pre .1 .0) (c .before .before .before .before .before .before .before .before .before .before .before .before .before .before .before .before .before .before .before .pre .1 .1 .1 .1 .0) (c .before .before .before .before .before .before .before .before .word .ensures .0) (c .before .before .before .before .before .before .before .word2 .ensures .0)) .1) (omega (arith, c .before .before .before .before .before .before .loop .inv .0)) (omega (arith, c .before .before .before .before .before .before .loop .inv .0, c .before .before .before .before .before .loop-test .taken)) (c .before .before .before .before .flow-value .ensures) (mail-placed _ _ _ _ _ (c .before .before .place .ensures) (c .before .before .before .mail .ensures))) in (wide-row _ _ _ (c .before .before .before .before .before .before .before .before .before .before .before .before .before .letter-width .ensures) (c .before .before .before .before .before .before .loop .inv .3 .row), entry-room _ _ _ _ (c .before .before .before .before .before .before .before .before .before .before .before .before .before .before .before .before .before .before .before .pre .1 .1 .1 .0) _ _ _ _ (c .before .before .before .before .before .before .before .before .before .before .before .before .before .letter-width .ensures) (entry-number _ _ _ _ (c .before .entry-set .ensures)) l e f)
+join-into-requires c κs = let (l, e, f) = (mailed-at (c .before .before .before .before .before .before .before .before .before .before .before .before .before .before .before .before .before .before .before .pre .0 .letter-tables .ready) _ _ _ _ _ _ _ (c .before .before .before .before .before .before .before .before .before .before .before .before .before .before .before .before .before .before .before .pre .1 .0 .mailed) ((name-starts (c .before .before .before .before .before .before .before .before .before .before .before .before .before .before .before .before .before .before .before .pre .0 .letter-tables .ready) _ _ _ _ (c .before .before .before .before .before .before .before .before .before .before .before .before .before .before .before .before .before .before .before .pre .0 .flow-starts) (c .before .before .before .before .before .before .before .before .before .before .before .before .before .before .before .before .before .before .before .pre .1 .0 .name) (c .before .before .before .before .before .before .before .before .word .ensures .0) (c .before .before .before .before .before .before .before .word2 .ensures .0)) .0) ((name-starts (c .before .before .before .before .before .before .before .before .before .before .before .before .before .before .before .before .before .before .before .pre .0 .letter-tables .ready) _ _ _ _ (c .before .before .before .before .before .before .before .before .before .before .before .before .before .before .before .before .before .before .before .pre .0 .flow-starts) (c .before .before .before .before .before .before .before .before .before .before .before .before .before .before .before .before .before .before .before .pre .1 .0 .name) (c .before .before .before .before .before .before .before .before .word .ensures .0) (c .before .before .before .before .before .before .before .word2 .ensures .0)) .1) (omega (arith, c .before .before .before .before .before .before .loop .inv .0)) (omega (arith, c .before .before .before .before .before .before .loop .inv .0, c .before .before .before .before .before .loop-test .taken)) (c .before .before .before .before .flow-value .ensures) (mail-placed _ _ _ _ _ (c .before .before .place .ensures) (c .before .before .before .mail .ensures))) in (wide-row _ _ _ (c .before .before .before .before .before .before .before .before .before .before .before .before .before .letter-width .ensures) (c .before .before .before .before .before .before .loop .inv .3 .row), entry-room _ _ _ _ (c .before .before .before .before .before .before .before .before .before .before .before .before .before .before .before .before .before .before .before .pre .0 .letter-tables .letter-sets) _ _ _ _ (c .before .before .before .before .before .before .before .before .before .before .before .before .before .letter-width .ensures) (entry-number _ _ _ _ (c .before .entry-set .ensures)) l e f)
 
 add-i : tie.Need-add-i Inv-loop μ-loop
 add-i c = search needs
@@ -64,13 +64,13 @@ loop-less c = search needs
 
 loop-again : tie.Need-loop-again Inv-loop μ-loop
 unfolding tables entries columns
-loop-again c = let (l, e, f) = (mailed-at (c .before .before .before .before .before .before .before .before .before .before .before .before .before .before .before .before .before .before .before .before .before .before .pre .0) _ _ _ _ _ _ _ (c .before .before .before .before .before .before .before .before .before .before .before .before .before .before .before .before .before .before .before .before .before .before .pre .1 .1 .1 .1 .1 .0) ((name-starts (c .before .before .before .before .before .before .before .before .before .before .before .before .before .before .before .before .before .before .before .before .before .before .pre .0) _ _ _ _ (c .before .before .before .before .before .before .before .before .before .before .before .before .before .before .before .before .before .before .before .before .before .before .pre .1 .0) (c .before .before .before .before .before .before .before .before .before .before .before .before .before .before .before .before .before .before .before .before .before .before .pre .1 .1 .1 .1 .0) (c .before .before .before .before .before .before .before .before .before .before .before .word .ensures .0) (c .before .before .before .before .before .before .before .before .before .before .word2 .ensures .0)) .0) ((name-starts (c .before .before .before .before .before .before .before .before .before .before .before .before .before .before .before .before .before .before .before .before .before .before .pre .0) _ _ _ _ (c .before .before .before .before .before .before .before .before .before .before .before .before .before .before .before .before .before .before .before .before .before .before .pre .1 .0) (c .before .before .before .before .before .before .before .before .before .before .before .before .before .before .before .before .before .before .before .before .before .before .pre .1 .1 .1 .1 .0) (c .before .before .before .before .before .before .before .before .before .before .before .word .ensures .0) (c .before .before .before .before .before .before .before .before .before .before .word2 .ensures .0)) .1) (c .before .before .before .before .before .before .before .before .before .loop .inv .0) (search needs) (c .before .before .before .before .before .before .before .flow-value .ensures) (mail-placed _ _ _ _ _ (c .before .before .before .before .before .place .ensures) (c .before .before .before .before .before .before .mail .ensures))) in (search needs, search needs, c .before .before .join-into .ensures .long ∙ c .before .before .before .before .before .before .before .before .before .loop .inv .2, found-sent _ _ _ _ (c .before .before .before .before .before .before .before .before .before .before .before .before .before .before .before .before .before .before .before .before .before .before .pre .1 .1 .1 .0) _ _ _ _ (c .before .before .before .before .before .before .before .before .before .before .before .before .before .before .before .before .letter-width .ensures) (entry-number _ _ _ _ (c .before .before .before .before .entry-set .ensures)) l e f _ _ _ _ _ (c .before .before .before .before .before .before .before .before .before .loop .inv .0) (ap (letters-allowed _ _) (sym (c .before .before .before .before .before .before .before .flow-value .ensures))) (c .before .before .before .before .before .before .before .before .before .loop .inv .3) (c .before .before .join-into .ensures))
+loop-again c = let (l, e, f) = (mailed-at (c .before .before .before .before .before .before .before .before .before .before .before .before .before .before .before .before .before .before .before .before .before .before .pre .0 .letter-tables .ready) _ _ _ _ _ _ _ (c .before .before .before .before .before .before .before .before .before .before .before .before .before .before .before .before .before .before .before .before .before .before .pre .1 .0 .mailed) ((name-starts (c .before .before .before .before .before .before .before .before .before .before .before .before .before .before .before .before .before .before .before .before .before .before .pre .0 .letter-tables .ready) _ _ _ _ (c .before .before .before .before .before .before .before .before .before .before .before .before .before .before .before .before .before .before .before .before .before .before .pre .0 .flow-starts) (c .before .before .before .before .before .before .before .before .before .before .before .before .before .before .before .before .before .before .before .before .before .before .pre .1 .0 .name) (c .before .before .before .before .before .before .before .before .before .before .before .word .ensures .0) (c .before .before .before .before .before .before .before .before .before .before .word2 .ensures .0)) .0) ((name-starts (c .before .before .before .before .before .before .before .before .before .before .before .before .before .before .before .before .before .before .before .before .before .before .pre .0 .letter-tables .ready) _ _ _ _ (c .before .before .before .before .before .before .before .before .before .before .before .before .before .before .before .before .before .before .before .before .before .before .pre .0 .flow-starts) (c .before .before .before .before .before .before .before .before .before .before .before .before .before .before .before .before .before .before .before .before .before .before .pre .1 .0 .name) (c .before .before .before .before .before .before .before .before .before .before .before .word .ensures .0) (c .before .before .before .before .before .before .before .before .before .before .word2 .ensures .0)) .1) (c .before .before .before .before .before .before .before .before .before .loop .inv .0) (search needs) (c .before .before .before .before .before .before .before .flow-value .ensures) (mail-placed _ _ _ _ _ (c .before .before .before .before .before .place .ensures) (c .before .before .before .before .before .before .mail .ensures))) in (search needs, search needs, c .before .before .join-into .ensures .long ∙ c .before .before .before .before .before .before .before .before .before .loop .inv .2, found-sent _ _ _ _ (c .before .before .before .before .before .before .before .before .before .before .before .before .before .before .before .before .before .before .before .before .before .before .pre .0 .letter-tables .letter-sets) _ _ _ _ (c .before .before .before .before .before .before .before .before .before .before .before .before .before .before .before .before .letter-width .ensures) (entry-number _ _ _ _ (c .before .before .before .before .entry-set .ensures)) l e f _ _ _ _ _ (c .before .before .before .before .before .before .before .before .before .loop .inv .0) (ap (letters-allowed _ _) (sym (c .before .before .before .before .before .before .before .flow-value .ensures))) (c .before .before .before .before .before .before .before .before .before .loop .inv .3) (c .before .before .join-into .ensures))
 
 same-length : tie.Need-same-length Inv-loop μ-loop
 same-length c = c .before .loop .inv .2 ∙ c .before .before .before .before .before .before .clear .ensures .long
 
 returns : tie.Need-returns Inv-loop μ-loop
-returns c = let (e, f) = (name-starts (c .before .before .before .before .before .before .before .before .before .before .before .before .before .before .pre .0) _ _ _ _ (c .before .before .before .before .before .before .before .before .before .before .before .before .before .before .pre .1 .0) (c .before .before .before .before .before .before .before .before .before .before .before .before .before .before .pre .1 .1 .1 .1 .0) (c .before .before .before .word .ensures .0) (c .before .before .word2 .ensures .0)) in found-end _ _ _ _ (flow-rises (c .before .before .before .before .before .before .before .before .before .before .before .before .before .before .pre .0)) _ _ _ _ _ _ e f (search needs) (c .before .loop .inv .3)
+returns c = let (e, f) = (name-starts (c .before .before .before .before .before .before .before .before .before .before .before .before .before .before .pre .0 .letter-tables .ready) _ _ _ _ (c .before .before .before .before .before .before .before .before .before .before .before .before .before .before .pre .0 .flow-starts) (c .before .before .before .before .before .before .before .before .before .before .before .before .before .before .pre .1 .0 .name) (c .before .before .before .word .ensures .0) (c .before .before .word2 .ensures .0)) in found-end _ _ _ _ (flow-rises (c .before .before .before .before .before .before .before .before .before .before .before .before .before .before .pre .0 .letter-tables .ready)) _ _ _ _ _ _ e f (search needs) (c .before .loop .inv .3)
 
 pub sent-letters-spec : {M : Type 1} → statement M
 sent-letters-spec =

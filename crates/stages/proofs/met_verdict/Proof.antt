@@ -17,7 +17,10 @@ slice-aggregate-fill-items-2 : tie.Need-slice-aggregate-fill-items-2
 slice-aggregate-fill-items-2 c = search needs
 
 fill-items-requires : tie.Need-fill-items-requires
-fill-items-requires c κs = let n = c .before .before .before .before .before .before .before .before .before .pre .1 .1 .1 .1 .0 in (c .before .before .before .before .before .before .before .before .before .pre .0, (c .before .before .before .before .before .before .before .before .before .pre .1 .1 .0, (c .before .before .before .before .before .before .before .before .before .pre .1 .1 .1 .0, (omega (arith, n .0, n .1), (omega (arith, c .before .before .before .before .before .before .before .before .before .pre .0 .limits .badrows .1, c .before .before .before .words16-258 .ensures .room), omega (arith, c .before .before .before .before .before .before .before .before .before .pre .0 .limits .badrows .1, c .before .before .words16-2582 .ensures .room))))))
+fill-items-requires c κs =
+    let p = c .before .before .before .before .before .before .before .before .before .pre in
+    let rows = p .0 .0 .ready .limits .badrows .1 in
+    (p .0 .0, record { few = omega (arith, p .1 .0 .0 .counters, p .1 .0 .0 .few); from-room = omega (arith, rows, c .before .before .before .words16-258 .ensures .room); to-room = omega (arith, rows, c .before .before .words16-2582 .ensures .room) })
 
 slice-aggregate-met-check : tie.Need-slice-aggregate-met-check
 slice-aggregate-met-check c = search needs
@@ -27,15 +30,15 @@ slice-aggregate-met-check-2 c = search needs
 
 met-check-requires : tie.Need-met-check-requires
 met-check-requires c κs =
-    let n = c .before .before .before .before .before .before .before .before .before .before .before .before .before .before .before .pre .1 .1 .1 .1 .0 in (
+    let p = c .before .before .before .before .before .before .before .before .before .before .before .before .before .before .before .pre in (
       record {
-        whole = ceilings-of-ready _ _ (c .before .before .before .before .before .before .before .before .before .before .before .before .before .before .before .pre .0);
-        counters = n .0;
-        counters-low = n .1;
-        limits-table = c .before .before .before .before .before .before .before .before .before .before .before .before .before .before .before .pre .1 .1 .1 .1 .1 .0;
+        whole = ceilings-of-ready _ _ (p .0 .0 .ready);
+        counters = p .1 .0 .0 .counters;
+        counters-low = p .1 .0 .0 .few;
+        limits-table = p .1 .0 .1;
         items-table = c .before .before .before .before .before .fill-items .ensures;
       },
-      (c .before .before .before .before .before .before .before .before .before .before .before .before .before .before .before .pre .1 .0, c .before .before .before .before .before .before .before .before .before .before .before .before .before .before .before .pre .1 .1 .1 .1 .1 .1),
+      (p .0 .1, p .1 .1),
     )
 
 same-length : tie.Need-same-length

@@ -5,14 +5,14 @@ use Rattle.stages.proofs.start_verdict.Statement.{statement}
 use Rattle.stages.proofs.start_verdict.Tie as tie
 
 start-counter-requires : tie.Need-start-counter-requires
-start-counter-requires c κs = search needs
+start-counter-requires c κs = let p = c .before .before .before .pre .0 in (p .ready, p .ends)
 
 start-check-requires : tie.Need-start-check-requires
 start-check-requires c κs =
     let x = c .start-counter .ensures in
     let p = c .before .before .before .before .pre in
-    let low = start-counted _ _ _ (p .1 .1 .0) in
-    (ceilings-of-ready _ _ (p .0), (p .1 .1 .1 .0 .1, (p .1 .1 .1 .1, (x, omega (arith, x, low, p .1 .1 .1 .0 .0)))))
+    let low = start-counted _ _ _ (p .0 .closed) in
+    (ceilings-of-ready _ _ (p .0 .ready), (p .0 .counted .few, (p .1, (x, omega (arith, x, low, p .0 .counted .counters)))))
 
 returns : tie.Need-returns
 returns c = search needs

@@ -1,7 +1,7 @@
 use mathlib.Core.Path.{sym, _∙_, ap}
 use borrow.Author.Needs.{needs}
 use Rattle.model.specs.Rows.{tag, kind, send, receive}
-use Rattle.state_rules.proofs.Done.{state-open}
+use Rattle.state_rules.proofs.Rooms.{send-tables, receive-tables}
 use Rattle.state_rules.proofs.Within.{plain-within, lettered-within}
 use Rattle.state_rules.proofs.rules_within.Statement.{statement}
 use Rattle.state_rules.proofs.rules_within.Tie as tie
@@ -13,14 +13,24 @@ tag-requires : tie.Need-tag-requires
 tag-requires c κs = c .before .before .before .before .before .before .before .before .before .before .before .before .before .pre .0 .ready .whole
 
 send-rules-requires : tie.Need-send-rules-requires
-send-rules-requires c κs =
-    let p = c .before .before .before .before .before .before .before .before .before .before .before .before .before .before .before .before .before .pre in
-    (p .0 .ready, (p .0 .ends, (p .0 .flow-starts, (p .0 .class-letters, (p .0 .letter-sets, ((p .1 .0, c .before .before .before .before .state-location .ensures), (sym (c .before .before .before .tag .ensures) ∙ c .before .before .match .keys1, (state-open (p .0 .ready) (c .before .before .before .before .before .before .before .before .before .before .before .before .before .before .before .before .before .args .i) (p .0 .closed) (p .1 .0), (p .0 .few, (p .1 .1 .1, p .1 .1 .0))))))))))
+send-rules-requires c κs = (
+  send-tables (c .before .before .before .before .before .before .before .before .before .before .before .before .before .before .before .before .before .pre .0),
+  record {
+    state = record { low = c .before .before .before .before .before .before .before .before .before .before .before .before .before .before .before .before .before .pre .1 .0; row = c .before .before .before .before .state-location .ensures; head = sym (c .before .before .before .tag .ensures) ∙ c .before .before .match .keys1 };
+    within-row = c .before .before .before .before .before .before .before .before .before .before .before .before .before .before .before .before .before .pre .1 .1 .0;
+    room = c .before .before .before .before .before .before .before .before .before .before .before .before .before .before .before .before .before .pre .1 .1 .1;
+  },
+)
 
 receive-rules-requires : tie.Need-receive-rules-requires
-receive-rules-requires c κs =
-    let p = c .before .before .before .before .before .before .before .before .before .before .before .before .before .before .before .before .before .pre in
-    (p .0 .ready, (p .0 .ends, (p .0 .class-letters, (p .0 .letter-sets, (p .0 .reads, (p .0 .branch-bits, (sym (c .before .before .before .tag .ensures) ∙ c .before .before .match .keys2, ((p .1 .0, c .before .before .before .before .state-location .ensures), (p .1 .1 .1, (p .0 .few, (p .1 .1 .0, record { ready = p .0 .ready; name-width = p .0 .name-width; fitting-sets = p .0 .fitting-sets; name-heads = p .0 .name-heads })))))))))))
+receive-rules-requires c κs = (
+  receive-tables (c .before .before .before .before .before .before .before .before .before .before .before .before .before .before .before .before .before .pre .0),
+  record {
+    state = record { low = c .before .before .before .before .before .before .before .before .before .before .before .before .before .before .before .before .before .pre .1 .0; row = c .before .before .before .before .state-location .ensures; head = sym (c .before .before .before .tag .ensures) ∙ c .before .before .match .keys2 };
+    within-row = c .before .before .before .before .before .before .before .before .before .before .before .before .before .before .before .before .before .pre .1 .1 .0;
+    room = c .before .before .before .before .before .before .before .before .before .before .before .before .before .before .before .before .before .pre .1 .1 .1;
+  },
+)
 
 state-rules-requires : tie.Need-state-rules-requires
 state-rules-requires c κs = let p = c .before .before .before .before .before .before .before .before .before .before .before .before .before .before .before .before .before .pre in (p .0, (p .1 .0, p .1 .1 .1))

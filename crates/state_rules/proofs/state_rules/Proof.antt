@@ -5,10 +5,12 @@ use borrow.Author.Needs.{needs}
 use Rattle.model.specs.Rows.{program, tag, give, call, send, spawn, case, receive, kind}
 use Rattle.rules.specs.Listed.{kind-effect}
 use Rattle.rules.proofs.States.{state-head}
-use Rattle.state_rules.proofs.Done.{state-open, quiet-done, loud-done, plain-done}
+use Rattle.state_rules.proofs.Done.{quiet-done, loud-done, plain-done}
 use Rattle.plain_rules.specs.Heads.{Plain}
 use Rattle.rules.proofs.Adding.{added-same}
-use Rattle.state_rules.proofs.Within.{all-pass, letters-row}
+use Rattle.rules.proofs.Within.{all-pass}
+use Rattle.state_rules.proofs.Rooms.{send-tables, receive-tables}
+use Rattle.state_rules.proofs.Within.{letters-row}
 use Rattle.state_rules.proofs.state_rules.Statement.{statement}
 use Rattle.state_rules.proofs.state_rules.Tie as tie
 
@@ -29,7 +31,14 @@ call-rules-requires : tie.Need-call-rules-requires
 call-rules-requires c κs = (c .before .before .before .before .before .before .before .before .before .before .before .before .before .before .before .pre .0 .ready, (c .before .before .before .before .before .before .before .before .before .before .before .before .before .before .before .pre .0 .flow-starts, ((c .before .before .before .before .before .before .before .before .before .before .before .before .before .before .before .pre .1 .0, c .before .before .before .state-location .ensures), ((sym (c .before .before .tag .ensures) ∙ c .before .match .keys2), c .before .before .before .before .before .before .before .before .before .before .before .before .before .before .before .pre .1 .1 .values))))
 
 send-rules-requires : tie.Need-send-rules-requires
-send-rules-requires c κs = (c .before .before .before .before .before .before .before .before .before .before .before .before .before .before .before .before .pre .0 .ready, (c .before .before .before .before .before .before .before .before .before .before .before .before .before .before .before .before .pre .0 .ends, (c .before .before .before .before .before .before .before .before .before .before .before .before .before .before .before .before .pre .0 .flow-starts, (c .before .before .before .before .before .before .before .before .before .before .before .before .before .before .before .before .pre .0 .class-letters, (c .before .before .before .before .before .before .before .before .before .before .before .before .before .before .before .before .pre .0 .letter-sets, ((c .before .before .before .before .before .before .before .before .before .before .before .before .before .before .before .before .pre .1 .0, c .before .before .before .before .state-location .ensures), ((sym (c .before .before .before .tag .ensures) ∙ c .before .before .match .keys3), (state-open (c .before .before .before .before .before .before .before .before .before .before .before .before .before .before .before .before .pre .0 .ready) (c .before .before .before .before .before .before .before .before .before .before .before .before .before .before .before .before .args .i) (c .before .before .before .before .before .before .before .before .before .before .before .before .before .before .before .before .pre .0 .closed) (c .before .before .before .before .before .before .before .before .before .before .before .before .before .before .before .before .pre .1 .0), (c .before .before .before .before .before .before .before .before .before .before .before .before .before .before .before .before .pre .0 .few, (c .before .before .before .before .before .before .before .before .before .before .before .before .before .before .before .before .pre .1 .1, letters-row (c .before .before .before .before .before .before .before .before .before .before .before .before .before .before .before .before .pre .0 .letter-sets)))))))))))
+send-rules-requires c κs = (
+  send-tables (c .before .before .before .before .before .before .before .before .before .before .before .before .before .before .before .before .pre .0),
+  record {
+    state = record { low = c .before .before .before .before .before .before .before .before .before .before .before .before .before .before .before .before .pre .1 .0; row = c .before .before .before .before .state-location .ensures; head = sym (c .before .before .before .tag .ensures) ∙ c .before .before .match .keys3 };
+    within-row = letters-row (c .before .before .before .before .before .before .before .before .before .before .before .before .before .before .before .before .pre .0 .letter-sets);
+    room = c .before .before .before .before .before .before .before .before .before .before .before .before .before .before .before .before .pre .1 .1;
+  },
+)
 
 spawn-rules-requires : tie.Need-spawn-rules-requires
 spawn-rules-requires c κs = (c .before .before .before .before .before .before .before .before .before .before .before .before .before .before .before .before .pre .0 .ready, (c .before .before .before .before .before .before .before .before .before .before .before .before .before .before .before .before .pre .0 .ends, (c .before .before .before .before .before .before .before .before .before .before .before .before .before .before .before .before .pre .0 .flow-starts, ((c .before .before .before .before .before .before .before .before .before .before .before .before .before .before .before .before .pre .1 .0, c .before .before .before .before .state-location .ensures), ((sym (c .before .before .before .tag .ensures) ∙ c .before .before .match .keys4), c .before .before .before .before .before .before .before .before .before .before .before .before .before .before .before .before .pre .1 .1)))))
@@ -38,7 +47,14 @@ case-rules-requires : tie.Need-case-rules-requires
 case-rules-requires c κs = (c .before .before .before .before .before .before .before .before .before .before .before .before .before .before .before .pre .0 .ready, (c .before .before .before .before .before .before .before .before .before .before .before .before .before .before .before .pre .0 .ends, (c .before .before .before .before .before .before .before .before .before .before .before .before .before .before .before .pre .0 .branch-bits, ((sym (c .before .before .tag .ensures) ∙ c .before .match .keys5), ((c .before .before .before .before .before .before .before .before .before .before .before .before .before .before .before .pre .1 .0, c .before .before .before .state-location .ensures), omega (arith, c .before .before .before .before .before .before .before .before .before .before .before .before .before .before .before .pre .1 .1 .letters))))))
 
 receive-rules-requires : tie.Need-receive-rules-requires
-receive-rules-requires c κs = (c .before .before .before .before .before .before .before .before .before .before .before .before .before .before .before .before .pre .0 .ready, (c .before .before .before .before .before .before .before .before .before .before .before .before .before .before .before .before .pre .0 .ends, (c .before .before .before .before .before .before .before .before .before .before .before .before .before .before .before .before .pre .0 .class-letters, (c .before .before .before .before .before .before .before .before .before .before .before .before .before .before .before .before .pre .0 .letter-sets, (c .before .before .before .before .before .before .before .before .before .before .before .before .before .before .before .before .pre .0 .reads, (c .before .before .before .before .before .before .before .before .before .before .before .before .before .before .before .before .pre .0 .branch-bits, ((sym (c .before .before .before .tag .ensures) ∙ c .before .before .match .keys6), ((c .before .before .before .before .before .before .before .before .before .before .before .before .before .before .before .before .pre .1 .0, c .before .before .before .before .state-location .ensures), (c .before .before .before .before .before .before .before .before .before .before .before .before .before .before .before .before .pre .1 .1, (c .before .before .before .before .before .before .before .before .before .before .before .before .before .before .before .before .pre .0 .few, (letters-row (c .before .before .before .before .before .before .before .before .before .before .before .before .before .before .before .before .pre .0 .letter-sets), record { ready = c .before .before .before .before .before .before .before .before .before .before .before .before .before .before .before .before .pre .0 .ready; name-width = c .before .before .before .before .before .before .before .before .before .before .before .before .before .before .before .before .pre .0 .name-width; fitting-sets = c .before .before .before .before .before .before .before .before .before .before .before .before .before .before .before .before .pre .0 .fitting-sets; name-heads = c .before .before .before .before .before .before .before .before .before .before .before .before .before .before .before .before .pre .0 .name-heads })))))))))))
+receive-rules-requires c κs = (
+  receive-tables (c .before .before .before .before .before .before .before .before .before .before .before .before .before .before .before .before .pre .0),
+  record {
+    state = record { low = c .before .before .before .before .before .before .before .before .before .before .before .before .before .before .before .before .pre .1 .0; row = c .before .before .before .before .state-location .ensures; head = sym (c .before .before .before .tag .ensures) ∙ c .before .before .match .keys6 };
+    within-row = letters-row (c .before .before .before .before .before .before .before .before .before .before .before .before .before .before .before .before .pre .0 .letter-sets);
+    room = c .before .before .before .before .before .before .before .before .before .before .before .before .before .before .before .before .pre .1 .1;
+  },
+)
 
 rest-rules-requires : tie.Need-rest-rules-requires
 rest-rules-requires c κs = (c .before .before .before .before .before .before .before .before .before .before .before .before .before .before .before .pre .0 .ready, (c .before .before .before .before .before .before .before .before .before .before .before .before .before .before .before .pre .0 .ends, ((c .before .before .before .before .before .before .before .before .before .before .before .before .before .before .before .pre .1 .0, c .before .before .before .state-location .ensures), (plain (c .before), omega (arith, c .before .before .before .before .before .before .before .before .before .before .before .before .before .before .before .pre .1 .1 .values)))))

@@ -18,10 +18,10 @@ loop-holds : tie.Need-loop-holds Inv-loop μ-loop
 loop-holds c = (none-filled (c .before .before .before .before .before .args .ws .now) (c .before .before .before .before .before .args .s) (c .before .before .before .before .before .args .froms .now) (c .before .before .before .before .before .args .tos .now), search needs, refl, refl)
 
 item-counters-requires : tie.Need-item-counters-requires Inv-loop μ-loop
-item-counters-requires c κs = search needs
+item-counters-requires c κs = (c .before .before .before .before .before .before .before .pre .0, c .loop-test .taken)
 
 cast-froms : tie.Need-cast-froms Inv-loop μ-loop
-cast-froms c = omega (arith, own-low (c .before .before .before .before .before .before .before .before .before .args .ws .now) (c .before .before .before .before .before .before .before .before .before .args .s) (c .before .before .before .before .before .before .before .before .before .pre .1 .1 .1 .0) _ _ _ (c .before .item-counters .ensures) .0)
+cast-froms c = omega (arith, own-low (c .before .before .before .before .before .before .before .before .before .args .ws .now) (c .before .before .before .before .before .before .before .before .before .args .s) (c .before .before .before .before .before .before .before .before .before .pre .1 .few) _ _ _ (c .before .item-counters .ensures) .0)
 
 mul-froms : tie.Need-mul-froms Inv-loop μ-loop
 mul-froms c = search needs
@@ -30,7 +30,7 @@ slice-write-froms : tie.Need-slice-write-froms Inv-loop μ-loop
 slice-write-froms c = search needs
 
 cast-tos : tie.Need-cast-tos Inv-loop μ-loop
-cast-tos c = omega (arith, own-low (c .before .before .before .before .before .before .before .before .before .before .args .ws .now) (c .before .before .before .before .before .before .before .before .before .before .args .s) (c .before .before .before .before .before .before .before .before .before .before .pre .1 .1 .1 .0) _ _ _ (c .before .before .item-counters .ensures) .1)
+cast-tos c = omega (arith, own-low (c .before .before .before .before .before .before .before .before .before .before .args .ws .now) (c .before .before .before .before .before .before .before .before .before .before .args .s) (c .before .before .before .before .before .before .before .before .before .before .pre .1 .few) _ _ _ (c .before .before .item-counters .ensures) .1)
 
 mul-tos : tie.Need-mul-tos Inv-loop μ-loop
 mul-tos c = search needs

@@ -11,19 +11,19 @@ bad-number-requires : tie.Need-bad-number-requires
 bad-number-requires c κs = search needs
 
 returns : tie.Need-returns
-returns c = digit-high (c .before .before .before .before .before .pre .0) _ (c .before .before .before .before .before .pre .1 .0) _ _ _ _ _ _ (c .before .before .before .before .before .pre .1 .1 .0) (c .before .before .before .before .before .pre .1 .1 .1 .0) (c .before .before .before .before .before .pre .1 .1 .1 .1) (c .before .bad-number .ensures .0) refl (c .if1 .taken)
+returns c = digit-high (c .before .before .before .before .before .pre .0 .ready) (c .before .before .before .before .before .pre .0) _ _ _ _ _ (c .before .before .before .before .before .pre .1) (c .before .bad-number .ensures .0) refl (c .if1 .taken)
 
 mul-set : tie.Need-mul-set
-mul-set c = let h = set-small (c .before .before .before .before .before .pre .0) _ (c .before .before .before .before .before .pre .1 .0) _ _ _ _ _ _ (c .before .before .before .before .before .pre .1 .1 .0) (c .before .before .before .before .before .pre .1 .1 .1 .0) (c .before .before .before .before .before .pre .1 .1 .1 .1) (c .before .bad-number .ensures .0) refl in search needs
+mul-set c = let h = set-small (c .before .before .before .before .before .pre .0 .ready) (c .before .before .before .before .before .pre .0) _ _ _ _ _ (c .before .before .before .before .before .pre .1) (c .before .bad-number .ensures .0) refl in search needs
 
 add-set : tie.Need-add-set
-add-set c = let h = set-small (c .before .before .before .before .before .pre .0) _ (c .before .before .before .before .before .pre .1 .0) _ _ _ _ _ _ (c .before .before .before .before .before .pre .1 .1 .0) (c .before .before .before .before .before .pre .1 .1 .1 .0) (c .before .before .before .before .before .pre .1 .1 .1 .1) (c .before .bad-number .ensures .0) refl in search needs
+add-set c = let h = set-small (c .before .before .before .before .before .pre .0 .ready) (c .before .before .before .before .before .pre .0) _ _ _ _ _ (c .before .before .before .before .before .pre .1) (c .before .bad-number .ensures .0) refl in search needs
 
 holds-requires : tie.Need-holds-requires
-holds-requires c κs = digit-room (c .before .before .before .before .before .pre .0) _ (c .before .before .before .before .before .pre .1 .0) _ _ _ _ _ _ (c .before .before .before .before .before .pre .1 .1 .0) (c .before .before .before .before .before .pre .1 .1 .1 .0) (c .before .before .before .before .before .pre .1 .1 .1 .1) (c .before .bad-number .ensures .0) refl (c .if1 .left)
+holds-requires c κs = digit-room (c .before .before .before .before .before .pre .0 .ready) (c .before .before .before .before .before .pre .0) _ _ _ _ _ (c .before .before .before .before .before .pre .1) (c .before .bad-number .ensures .0) refl (c .if1 .left)
 
 returns-2 : tie.Need-returns-2
-returns-2 c = digit-told (c .before .before .before .before .before .before .pre .0) _ (c .before .before .before .before .before .before .pre .1 .0) _ _ _ _ _ _ (c .before .before .before .before .before .before .pre .1 .1 .0) (c .before .before .before .before .before .before .pre .1 .1 .1 .0) (c .before .before .before .before .before .before .pre .1 .1 .1 .1) (c .before .before .bad-number .ensures .0) refl (c .before .if1 .left) _ (c .holds .ensures)
+returns-2 c = digit-told (c .before .before .before .before .before .before .pre .0 .ready) (c .before .before .before .before .before .before .pre .0) _ _ _ _ _ (c .before .before .before .before .before .before .pre .1) (c .before .before .bad-number .ensures .0) refl (c .before .if1 .left) _ (c .holds .ensures)
 
 pub is-digit-spec : {M : Type 1} → statement M
 is-digit-spec =

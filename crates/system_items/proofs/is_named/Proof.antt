@@ -22,7 +22,7 @@ sub-is-digit : tie.Need-sub-is-digit Inv-loop μ-loop
 sub-is-digit c = search needs
 
 is-digit-requires : tie.Need-is-digit-requires Inv-loop μ-loop
-is-digit-requires c κs = (c .before .before .before .before .pre .0, (c .before .before .before .before .pre .1 .0, (c .before .before .before .before .pre .1 .1 .0, (omega (arith, c .before .loop .inv .1, c .loop-test .taken, c .before .before .before .before .pre .1 .1 .1 .0), c .before .before .before .before .pre .1 .1 .1 .1))))
+is-digit-requires c κs = (c .before .before .before .before .pre .0, (omega (arith, c .before .loop .inv .1, c .loop-test .taken, c .before .before .before .before .pre .1 .0), c .before .before .before .before .pre .1 .1))
 
 returns : tie.Need-returns Inv-loop μ-loop
 returns c = let a = c .before .before .before .before .before .before .args in digit-wrong (program (a .ws .now) (a .s)) (tables (a .ws .now) (a .s)) (bad-rows (a .ws .now) (a .s)) (a .from) (a .to) (a .y) _ (c .before .before .before .loop .inv .0) _ (c .before .is-digit .ensures) (c .before .before .loop-test .taken) (c .if1 .taken)

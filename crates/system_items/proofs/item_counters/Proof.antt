@@ -23,10 +23,10 @@ head-counters-requires : tie.Need-head-counters-requires
 head-counters-requires c κs = search needs
 
 returns : tie.Need-returns
-returns c = item-head (c .before .before .before .before .before .before .before .before .pre .0) _ _ _ _ _ _ (c .before .before .before .before .bad-tag .ensures) (c .before .before .before .if1 .taken) (c .before .before .bad-number .ensures .0) (c .before .bad-number2 .ensures .0) (c .head-counters .ensures .0) (c .head-counters .ensures .1)
+returns c = item-head (c .before .before .before .before .before .before .before .before .pre .0 .ready) _ _ _ _ _ _ (c .before .before .before .before .bad-tag .ensures) (c .before .before .before .if1 .taken) (c .before .before .bad-number .ensures .0) (c .before .bad-number2 .ensures .0) (c .head-counters .ensures .0) (c .head-counters .ensures .1)
 
 letter-counters-requires : tie.Need-letter-counters-requires
-letter-counters-requires c κs = (c .before .before .before .before .before .pre .0, (c .before .before .before .before .before .pre .1 .0, (c .before .before .before .before .before .pre .1 .1 .0, (c .before .before .before .before .before .pre .1 .1 .1, λ z. c .if1 .left (c .before .bad-tag .ensures ∙ z)))))
+letter-counters-requires c κs = (c .before .before .before .before .before .pre .0, (c .before .before .before .before .before .pre .1, λ z. c .if1 .left (c .before .bad-tag .ensures ∙ z)))
 
 returns-2 : tie.Need-returns-2
 returns-2 c = search needs

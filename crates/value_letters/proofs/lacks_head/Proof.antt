@@ -22,13 +22,13 @@ add-num : tie.Need-add-num Inv-loop μ-loop
 add-num c = search needs
 
 add-num-2 : tie.Need-add-num-2 Inv-loop μ-loop
-add-num-2 c = record { fits = omega (arith, c .before .before .before .before .pre .1 .1 .0 .few, c .before .before .before .before .pre .1 .1 .1) }
+add-num-2 c = record { fits = omega (arith, c .before .before .before .before .pre .1 .arguments .few, c .before .before .before .before .pre .1 .low) }
 
 num-requires : tie.Need-num-requires Inv-loop μ-loop
 num-requires c κs = search needs
 
 meets-requires : tie.Need-meets-requires Inv-loop μ-loop
-meets-requires c κs = let r = argument-row (c .before .before .before .before .before .pre .0) (c .before .before .before .before .before .pre .1 .0) (c .before .before .before .before .before .pre .1 .1 .0) _ _ (c .num .ensures) (omega arith) in (r, r)
+meets-requires c κs = let r = argument-row (c .before .before .before .before .before .pre .0) (c .before .before .before .before .before .pre .1 .arguments) _ _ (c .num .ensures) (omega arith) in (r, r)
 
 returns : tie.Need-returns Inv-loop μ-loop
 returns c = (λ z. lacking _ _ _ _ _ _ (c .before .before .num .ensures) (omega arith) (c .before .meets .ensures) (not-true _ (c .if1 .taken)), λ z. true-false refl z)

@@ -1,5 +1,4 @@
 use borrow.Author.Needs.{needs}
-use borrow.Author.Needs.{needs}
 use Rattle.value_letters.proofs.Values.{arity-built, arity-plain}
 use Rattle.value_letters.proofs.value_arity.Statement.{statement}
 use Rattle.value_letters.proofs.value_arity.Tie as tie

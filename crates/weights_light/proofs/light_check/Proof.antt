@@ -44,7 +44,7 @@ unfolding bads-at
 returns c = let a = c .before .before .before .before .before .before .before .before .before .before .before .before .before .args in let v = c .before .before .before .before .before .before .loop .inv in light-refused (a .ws .now) (a .s) (a .n) (c .before .before .before .before .before .before .loop .j) (c .before .before .before .before .before .before .loop .r) _ (v .0 ∙ first-hit _ _ _ (search needs) (unsettled-at (a .ws .now) (a .s) (a .n) _ _ _ (v .1) (c .before .before .before .is-settled .ensures) ∙ c .if1 .taken)) (search needs) (v .1) refl
 
 next-bad-requires : tie.Need-next-bad-requires Inv-loop μ-loop
-next-bad-requires c κs = let a = c .before .before .before .before .before .before .before .before .before .before .before .before .before .args in let v = c .before .before .before .before .before .before .loop .inv in (c .before .before .before .before .before .before .before .before .before .before .before .before .before .pre .0 .whole, (bads-inside (a .ws .now) (a .s) _ _ (v .1), bads-stand (a .ws .now) (a .s) _ _ (v .1) (search needs)))
+next-bad-requires c κs = let a = c .before .before .before .before .before .before .before .before .before .before .before .before .before .args in let v = c .before .before .before .before .before .before .loop .inv in (c .before .before .before .before .before .before .before .before .before .before .before .before .before .pre .0 .whole, bads-stand (a .ws .now) (a .s) _ _ (v .1) (search needs))
 
 add-j : tie.Need-add-j Inv-loop μ-loop
 add-j c = search needs

@@ -18,7 +18,7 @@ fill-weights-requires c κs =
     let p = c .before .before .before .before .before .before .before .before .before .before .before .before .before .pre in
     let l = p .1 .0 in
     let r = p .1 .1 .0 .0 in
-    (ceilings-of-ready _ _ (p .0 .ready), (l .some, (l .in-form, ((λ z h. r .blank z), (r .cells, r .firsts)))))
+    ((ceilings-of-ready _ _ (p .0 .ready), l .some, l .in-form), r)
 
 rise-check-requires : tie.Need-rise-check-requires
 rise-check-requires c κs =
@@ -40,8 +40,10 @@ light-verdict-requires : tie.Need-light-verdict-requires
 light-verdict-requires c κs =
     let p = c .before .before .before .before .before .before .before .before .before .before .before .before .before .before .before .before .before .before .before .before .before .before .before .before .before .before .before .before .before .before .before .before .before .before .before .pre in
     let t = p .0 in
-    let l = p .1 .0 in
-    (t .ready, (t .ends, (t .closed, (l .bads, (lent-letters _ _ _ _ _ _ t, (t .letter-sets, ((l .counted, omega (arith, l .counted, t .few)), (c .before .before .before .before .before .before .before .before .before .before .before .before .before .before .before .before .before .before .before .before .before .fill-weights .ensures .0, p .1 .1 .0 .1))))))))
+    let l = p .1 .0 in (
+      record { ready = t .ready; ends = t .ends; closed = t .closed; counted = record { counters = l .counted; few = omega (arith, l .counted, t .few) } },
+      ((record { ready = t .ready; class-letters = lent-letters _ _ _ _ _ _ t; letter-sets = t .letter-sets }, l .bads), (c .before .before .before .before .before .before .before .before .before .before .before .before .before .before .before .before .before .before .before .before .before .fill-weights .ensures .0, p .1 .1 .0 .1)),
+    )
 
 same-length-5 : tie.Need-same-length-5
 same-length-5 c = c .before .before .before .before .before .before .before .before .before .before .before .before .before .before .before .before .before .before .before .before .before .before .before .before .before .before .fill-weights .kept .1 .1 .1 .0

@@ -19,10 +19,9 @@ use Rattle.model.proofs.Exact.Entries.{bad-none}
 use Rattle.answers.proofs.Passing.{passed, safe-only}
 use Rattle.rooms.specs.Rooms.{rule-words}
 use Rattle.lists.specs.Ready.{Ready}
-use Rattle.layout.specs.Tables.{Ends}
 use Rattle.stages.specs.Order.{taken, from-3, from-4, from-5, from-6, from-7, from-8, from-22}
 use Rattle.stages.proofs.Answering.{in-order, goes-by, ends-with, scopes-refuse}
-use Rattle.checks.proofs.Laying.{program-passes, ready, ceilings-whole, ends, closed-tables}
+use Rattle.checks.proofs.Laying.{program-passes, ready, ceilings-whole, closed-tables}
 use borrow.Author.Needs.{needs}
 use Rattle.checks.proofs.order.words_verdict.Statement.{statement}
 use Rattle.checks.proofs.order.words_verdict.Tie as tie
@@ -48,7 +47,7 @@ goes-4 c = goes-by _ _ _ (in-order _ _ _) (rows-pass c)
 
 name-check-requires : tie.Need-name-check-requires
 name-check-requires c κs =
-    (c .before .before .before .before .before .before .before .before .pre .0 .program, (rows-pass (c .before .before), omega (arith, c .before .before .before .before .before .before .before .before .pre .0 .limits .names .1, c .before .words16-512 .ensures .room)))
+    (record { whole = c .before .before .before .before .before .before .before .before .pre .0 .program; fits = rows-pass (c .before .before) }, omega (arith, c .before .before .before .before .before .before .before .before .pre .0 .limits .names .1, c .before .words16-512 .ensures .room))
 
 returns-2 : tie.Need-returns-2
 unfolding from-4
@@ -67,7 +66,7 @@ goes-5 c = goes-by _ _ _ (goes-4 (c .before .before .before .before .before .bef
 
 scope-check-requires : tie.Need-scope-check-requires
 scope-check-requires c κs =
-    (c .before .before .before .before .before .before .before .before .before .before .before .before .before .before .before .before .before .before .pre .0 .program, (rows-pass (c .before .before .before .before .before .before .before .before .before .before .before .before), (c .before .before .before .fill-ends .ensures, c .before .before .before .before .before .before .before .before .before .name-check .ensures .1)))
+    (record { whole = c .before .before .before .before .before .before .before .before .before .before .before .before .before .before .before .before .before .before .pre .0 .program; fits = rows-pass (c .before .before .before .before .before .before .before .before .before .before .before .before) }, (c .before .before .before .fill-ends .ensures, c .before .before .before .before .before .before .before .before .before .name-check .ensures .1))
 
 returns-3 : tie.Need-returns-3
 unfolding from-5
@@ -111,15 +110,23 @@ narrow-long c = c .fill-ends .kept .1 .1 .0 ∙ c .before .before .rule-words16 
 
 open-verdict-requires : tie.Need-open-verdict-requires
 open-verdict-requires c κs =
-    let r = c .before .before .before .before .before .before .before .before .before .before .before .before .before .before .before .before .before .before .before .before .before .before .before .before .before .before .before .before .before .before .before .before .before .pre .0 .limits in
-    (omega arith, (all-ready (c .before .before .before .before .before .before), (ends _ _ _ (omega (arith, r .rows .1, narrow-long (c .before .before .before .before .before .before .before .before .before .before .before .before .before .before .before .before .before .before))) (c .before .before .before .before .before .before .before .before .before .before .before .before .before .before .before .before .before .before .fill-ends .ensures), (c .before .before .before .before .before .before .before .before .before .before .before .before .before .before .before .before .before .before .before .before .before .before .before .before .before .before .before .before .before .before .before .before .before .pre .1, (omega (arith, r .names .1, c .before .before .before .before .before .row-words16 .ensures .room), omega (arith, r .states, c .before .before .before .before .row-words162 .ensures .room))))))
+    let r = c .before .before .before .before .before .before .before .before .before .before .before .before .before .before .before .before .before .before .before .before .before .before .before .before .before .before .before .before .before .before .before .before .before .pre .0 .limits in (
+      omega arith,
+      record {
+        ready = all-ready (c .before .before .before .before .before .before);
+        layout = c .before .before .before .before .before .before .before .before .before .before .before .before .before .before .before .before .before .before .fill-ends .ensures;
+        unfitted = c .before .before .before .before .before .before .before .before .before .before .before .before .before .before .before .before .before .before .before .before .before .before .before .before .before .before .before .before .before .before .before .before .before .pre .1;
+        names = omega (arith, r .names .1, c .before .before .before .before .before .row-words16 .ensures .room);
+        states = omega (arith, r .states, c .before .before .before .before .row-words162 .ensures .room);
+      },
+    )
 
 returns-6 : tie.Need-returns-6
 unfolding from-8
-returns-6 c = ends-with _ _ _ _ _ _ _ _ (goes-8 (c .before .before .before .before .before .before .before .before .before .before .before .before .before)) (c .before .before .before .before .before .before .open-verdict .ensures .0) (c .before .is-safe6 .ensures) (not-true _ (c .if6 .taken))
+returns-6 c = ends-with _ _ _ _ _ _ _ _ (goes-8 (c .before .before .before .before .before .before .before .before .before .before .before .before .before)) (c .before .before .before .before .before .before .open-verdict .ensures .says) (c .before .is-safe6 .ensures) (not-true _ (c .if6 .taken))
 
 closed-pass : (c : tie.Else6) → Passes (c .before .before .before .before .before .before .before .before .before .before .before .before .before .before .before .before .before .before .before .before .before .before .before .before .before .before .before .before .before .before .before .before .before .before .before .before .before .before .before .before) (λ ws s. open-check s (program ws s) (tables ws s))
-closed-pass c = passed _ _ _ (open-refuses _ _ _) (c .before .before .before .before .before .before .open-verdict .ensures .0) (c .before .is-safe6 .ensures) (not-false _ (c .if6 .left))
+closed-pass c = passed _ _ _ (open-refuses _ _ _) (c .before .before .before .before .before .before .open-verdict .ensures .says) (c .before .is-safe6 .ensures) (not-false _ (c .if6 .left))
 
 goes-22 : (c : tie.Else6) → Goes (c .before .before .before .before .before .before .before .before .before .before .before .before .before .before .before .before .before .before .before .before .before .before .before .before .before .before .before .before .before .before .before .before .before .before .before .before .before .before .before .before) from-22
 unfolding from-8
@@ -147,8 +154,8 @@ system-verdict-requires : tie.Need-system-verdict-requires
 system-verdict-requires c κs =
     let safe = safe-only _ (sym (c .before .before .before .before .before .before .before .before .before .is-safe6 .ensures) ∙ not-false _ (c .before .before .before .before .before .before .before .before .if6 .left)) in
     let long = narrow-long (c .before .before .before .before .before .before .before .before .before .before .before .before .before .before .before .before .before .before .before .before .before .before .before .before .before .before .before .before .before .before .before .before .before) in
-    let found = c .before .before .before .before .before .before .before .before .before .before .before .before .before .before .open-verdict .ensures .1 in
-    closed-tables _ _ _ _ _ _ _ (all-ready (c .before .before .before .before .before .before .before .before .before .before .before .before .before .before .before .before .before .before .before .before .before)) (ceilings-whole _ _ (c .before .before .before .before .before .before .before .before .before .before .before .before .before .before .before .before .before .before .before .before .before .before .before .before .before .before .before .before .before .before .before .before .before .before .before .before .before .before .before .before .before .before .before .before .before .before .before .before .pre .0)) (bad-none _ _ _ .0 (bads-pass (c .before .before .before .before .before .before .before .before .before .before .before .before .before .before .before .before .before .before .before .before .before .before .before .before))) (closed-pass (c .before .before .before .before .before .before .before .before)) long (ends _ _ _ (omega (arith, c .before .before .before .before .before .before .before .before .before .before .before .before .before .before .before .before .before .before .before .before .before .before .before .before .before .before .before .before .before .before .before .before .before .before .before .before .before .before .before .before .before .before .before .before .before .before .before .before .pre .0 .limits .rows .1, long)) (c .before .before .before .before .before .before .before .before .before .before .before .before .before .before .before .before .before .before .before .before .before .before .before .before .before .before .before .before .before .before .before .before .before .fill-ends .ensures)) (found .0 safe) (found .1 .0 safe) (found .1 .1 safe) (c .before .before .before .before .join-tables .ensures)
+    let found = c .before .before .before .before .before .before .before .before .before .before .before .before .before .before .open-verdict .ensures in
+    closed-tables _ _ _ _ _ _ _ (all-ready (c .before .before .before .before .before .before .before .before .before .before .before .before .before .before .before .before .before .before .before .before .before)) (ceilings-whole _ _ (c .before .before .before .before .before .before .before .before .before .before .before .before .before .before .before .before .before .before .before .before .before .before .before .before .before .before .before .before .before .before .before .before .before .before .before .before .before .before .before .before .before .before .before .before .before .before .before .before .pre .0)) (bad-none _ _ _ .0 (bads-pass (c .before .before .before .before .before .before .before .before .before .before .before .before .before .before .before .before .before .before .before .before .before .before .before .before))) (closed-pass (c .before .before .before .before .before .before .before .before)) long (c .before .before .before .before .before .before .before .before .before .before .before .before .before .before .before .before .before .before .before .before .before .before .before .before .before .before .before .before .before .before .before .before .before .fill-ends .ensures) (found .begins safe) (found .fits safe) (found .bits safe) (c .before .before .before .before .join-tables .ensures)
 
 same-length-2 : tie.Need-same-length-2
 same-length-2 c = c .before .before .before .before .before .before .before .before .before .before .before .before .before .before .before .before .before .before .open-verdict .kept .1 .1 .1 .1 .1 .0

@@ -15,13 +15,19 @@ fill-letters-requires : tie.Need-fill-letters-requires
 fill-letters-requires c κs =
     let p = c .before .before .before .before .before .before .before .before .before .pre in
     let l = p .0 in
-    (l .closed-tables .ready, (l .name-heads, (lent-classes _ _ _ _ _ _ _ l, (l .coded, (p .1 .0, p .1 .1 .0)))))
+    (record { heads = record { ready = l .closed-tables .ready; name-heads = l .name-heads }; class-letters = lent-classes _ _ _ _ _ _ _ l; coded = l .coded }, record { room = p .1 .1 .0; empty = p .1 .0 })
 
 fill-reads-requires : tie.Need-fill-reads-requires
 fill-reads-requires c κs =
     let p = c .before .before .before .before .before .before .before .before .before .before .before .before .before .before .pre in
-    let l = p .0 in
-    (match-tables _ _ _ _ _ _ _ l _ (c .before .name-width .ensures), (l .closed-tables .ends, (lent-classes _ _ _ _ _ _ _ l, (counters-few _ _ _ _ _ _ _ l, (c .before .before .before .before .fill-letters .ensures, owners-kept _ _ _ _ (p .1 .1 .1) (search needs))))))
+    let l = p .0 in (
+      record {
+        match-tables = match-tables _ _ _ _ _ _ _ l _ (c .before .name-width .ensures);
+        ends = l .closed-tables .ends;
+        letter-tables = record { ready = l .closed-tables .ready; few = counters-few _ _ _ _ _ _ _ l; class-letters = lent-classes _ _ _ _ _ _ _ l; letter-sets = c .before .before .before .before .fill-letters .ensures };
+      },
+      owners-kept _ _ _ _ (p .1 .1 .1) (search needs),
+    )
 
 bounds-verdict-requires : tie.Need-bounds-verdict-requires
 bounds-verdict-requires c κs =

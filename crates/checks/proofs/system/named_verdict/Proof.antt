@@ -22,7 +22,9 @@ part-fill-codes-start : tie.Need-part-fill-codes-start
 part-fill-codes-start c = omega (arith, c .before .before .before .before .before .before .before .before .before .before .before .pre .0 .room)
 
 fill-codes-requires : tie.Need-fill-codes-requires
-fill-codes-requires c κs = (c .before .before .before .before .before .before .before .before .before .before .before .before .before .pre .0 .ready, (c .before .before .before .before .before .before .fill-names .ensures, ((omega arith, omega (arith, c .before .before .before .letter-codes .ensures .room)), letters-fit _ _ _ _ (c .before .before .before .before .before .before .before .before .before .before .before .before .before .pre .0))))
+fill-codes-requires c κs =
+    let k = c .before .before .before .before .before .before .before .before .before .before .before .before .before .pre .0 in
+    (record { ready = k .ready; name-heads = c .before .before .before .before .before .before .fill-names .ensures }, record { few = omega arith; starts = letters-fit _ _ _ _ k; numbers = omega (arith, c .before .before .before .letter-codes .ensures .room) })
 
 counters-verdict-requires : tie.Need-counters-verdict-requires
 counters-verdict-requires c κs = (c .before .before .before .before .before .before .before .before .before .before .before .before .before .before .before .before .before .pre .0 .ready, c .before .before .before .fill-codes .ensures .0)

@@ -24,17 +24,17 @@ num-requires c κs = search needs
 
 mul-u-end : tie.Need-mul-u-end Inv-loop μ-loop
 unfolding width
-mul-u-end c = omega (arith, c .before .before .before .before .before .before .before .pre .0 .whole .rows)
+mul-u-end c = omega (arith, c .before .before .before .before .before .before .before .pre .0 .ready .whole .rows)
 
 loop-holds : tie.Need-loop-holds Inv-loop μ-loop
 loop-holds c = (equals-begin _ _ _ _ _ _, search needs)
 
 holds-requires : tie.Need-holds-requires Inv-loop μ-loop
-holds-requires c κs = (search needs, row-kept (c .before .before .before .width .ensures) (held-row (c .before .before .before .before .before .before .before .before .before .pre .0) _ _ _ (c .before .before .before .before .before .before .before .before .before .pre .1 .0) (c .before .before .before .before .before .before .before .before .before .pre .1 .1 .1 .1 .1 .0) (c .before .before .before .before .before .before .before .before .before .pre .1 .1 .1 .1 .1 .1) (c .before .before .num .ensures) .row) refl)
+holds-requires c κs = (search needs, row-kept (c .before .before .before .width .ensures) (held-row (c .before .before .before .before .before .before .before .before .before .pre .0 .ready) (c .before .before .before .before .before .before .before .before .before .pre .1) _ (c .before .before .num .ensures) .row) refl)
 
 add-u : tie.Need-add-u Inv-loop μ-loop
 unfolding width
-add-u c = omega (arith, c .before .before .before .before .before .width .ensures, c .before .before .before .before .before .before .before .before .before .before .before .pre .0 .whole .rows)
+add-u c = omega (arith, c .before .before .before .before .before .width .ensures, c .before .before .before .before .before .before .before .before .before .before .before .pre .0 .ready .whole .rows)
 
 loop-less : tie.Need-loop-less Inv-loop μ-loop
 loop-less c = search needs
@@ -43,11 +43,11 @@ loop-again : tie.Need-loop-again Inv-loop μ-loop
 loop-again c = (equals-skip _ _ _ _ _ _ _ (c .before .before .before .loop .inv .0) (c .before .holds .ensures) (not-true _ (c .if1 .taken)), search needs)
 
 put-equals-requires : tie.Need-put-equals-requires Inv-loop μ-loop
-put-equals-requires c κs = (c .before .before .before .before .before .before .before .before .before .before .before .before .pre .0, (c .before .before .before .before .before .before .before .before .before .before .before .before .pre .1 .1 .0, (omega (arith, c .before .before .before .before .before .before .width .ensures), (row-kept refl (c .before .before .before .before .before .before .before .before .before .before .before .before .pre .1 .1 .1 .0) (c .before .before .before .before .loop .inv .0 .long), held-alike _ _ _ _ _ _ _ (c .before .before .before .before .before .before .width .ensures) (c .before .before .before .before .loop .inv .0) (c .before .before .before .before .before .before .before .before .before .before .before .before .pre .1 .1 .1 .1 .0)))))
+put-equals-requires c κs = (c .before .before .before .before .before .before .before .before .before .before .before .before .pre .0, record { low = omega (arith, c .before .before .before .before .before .before .width .ensures); row = row-kept refl (c .before .before .before .before .before .before .before .before .before .before .before .before .pre .1 .row) (c .before .before .before .before .loop .inv .0 .long); alike = held-alike _ _ _ _ _ _ _ (c .before .before .before .before .before .before .width .ensures) (c .before .before .before .before .loop .inv .0) (c .before .before .before .before .before .before .before .before .before .before .before .before .pre .1 .clear) })
 
 add-u-2 : tie.Need-add-u-2 Inv-loop μ-loop
 unfolding width
-add-u-2 c = omega (arith, c .before .before .before .before .before .before .before .before .before .width .ensures, c .before .before .before .before .before .before .before .before .before .before .before .before .before .before .before .pre .0 .whole .rows)
+add-u-2 c = omega (arith, c .before .before .before .before .before .before .before .before .before .width .ensures, c .before .before .before .before .before .before .before .before .before .before .before .before .before .before .before .pre .0 .ready .whole .rows)
 
 loop-less-2 : tie.Need-loop-less-2 Inv-loop μ-loop
 loop-less-2 c = search needs
@@ -59,7 +59,7 @@ same-length : tie.Need-same-length Inv-loop μ-loop
 same-length c = c .before .loop .inv .0 .long
 
 returns : tie.Need-returns Inv-loop μ-loop
-returns c = held-over _ _ _ _ _ _ _ (c .before .before .before .width .ensures) (c .before .loop .inv .0) (held-row (c .before .before .before .before .before .before .before .before .before .pre .0) _ _ _ (c .before .before .before .before .before .before .before .before .before .pre .1 .0) (c .before .before .before .before .before .before .before .before .before .pre .1 .1 .1 .1 .1 .0) (c .before .before .before .before .before .before .before .before .before .pre .1 .1 .1 .1 .1 .1) (c .before .before .num .ensures)) (c .before .before .num .ensures) (search needs)
+returns c = held-over _ _ _ _ _ _ _ (c .before .before .before .width .ensures) (c .before .loop .inv .0) (held-row (c .before .before .before .before .before .before .before .before .before .pre .0 .ready) (c .before .before .before .before .before .before .before .before .before .pre .1) _ (c .before .before .num .ensures)) (c .before .before .num .ensures) (search needs)
 
 pub fill-equals-spec : {M : Type 1} → statement M
 fill-equals-spec =

@@ -21,7 +21,7 @@ width-requires : tie.Need-width-requires Inv-loop μ-loop
 width-requires c κs = search needs
 
 add-num : tie.Need-add-num Inv-loop μ-loop
-add-num c = omega (arith, c .before .before .before .before .before .pre .0 .whole .rows, c .before .before .before .before .before .pre .1 .1 .0 .1)
+add-num c = omega (arith, c .before .before .before .before .before .pre .0 .ready .whole .rows, c .before .before .before .before .before .pre .1 .1 .1)
 
 num-requires : tie.Need-num-requires Inv-loop μ-loop
 num-requires c κs = search needs
@@ -29,33 +29,33 @@ num-requires c κs = search needs
 word-requires : tie.Need-word-requires Inv-loop μ-loop
 unfolding program
 word-requires c κs =
-    omega (arith, c .before .before .before .before .before .before .pre .1 .0 .first-room, made-low (c .before .before .before .before .before .before .pre .0) _ _ _ refl (c .before .before .before .before .before .before .pre .1 .1 .0 .0) (c .num .ensures))
+    omega (arith, c .before .before .before .before .before .before .pre .0 .builds .first-room, made-low (c .before .before .before .before .before .before .pre .0 .ready) _ _ _ refl (c .before .before .before .before .before .before .pre .1 .1 .0) (c .num .ensures))
 
 loop-holds : tie.Need-loop-holds Inv-loop μ-loop
 unfolding program
-loop-holds c = building-begin _ _ _ _ _ _ (build-first (c .before .before .before .before .before .before .before .pre .1 .0) _ _ _ (c .before .num .ensures) (made-low (c .before .before .before .before .before .before .before .pre .0) _ _ _ refl (c .before .before .before .before .before .before .before .pre .1 .1 .0 .0) refl) (c .word .ensures .0))
+loop-holds c = building-begin _ _ _ _ _ _ (build-first (c .before .before .before .before .before .before .before .pre .0 .builds) _ _ _ (c .before .num .ensures) (made-low (c .before .before .before .before .before .before .before .pre .0 .ready) _ _ _ refl (c .before .before .before .before .before .before .before .pre .1 .1 .0) refl) (c .word .ensures .0))
 
 put-requires : tie.Need-put-requires Inv-loop μ-loop
-put-requires c κs = (rw (c .before .before .before .before .before .before .width .ensures) (width-above _ _ (search needs)), row-kept (c .before .before .before .before .before .before .width .ensures) (c .before .before .before .before .before .before .before .before .before .before .before .pre .1 .1 .1) (c .before .before .before .loop .inv .joined .long))
+put-requires c κs = (rw (c .before .before .before .before .before .before .width .ensures) (width-above _ _ (search needs)), row-kept (c .before .before .before .before .before .before .width .ensures) (c .before .before .before .before .before .before .before .before .before .before .before .pre .1 .0) (c .before .before .before .loop .inv .joined .long))
 
 word-requires-2 : tie.Need-word-requires-2 Inv-loop μ-loop
 unfolding program columns
-word-requires-2 c κs = omega (arith, c .before .before .before .before .before .before .before .before .before .before .before .before .before .before .pre .1 .0 .next-room)
+word-requires-2 c κs = omega (arith, c .before .before .before .before .before .before .before .before .before .before .before .before .before .before .pre .0 .builds .next-room)
 
 loop-less : tie.Need-loop-less Inv-loop μ-loop
 unfolding program columns
-loop-less c = omega (arith, build-next (c .before .before .before .before .before .before .before .before .before .before .before .before .before .before .before .pre .1 .0) _ _ _ (search needs) (c .before .before .before .before .before .before .before .loop .inv .here (search needs)) (c .word2 .ensures .0) .1)
+loop-less c = omega (arith, build-next (c .before .before .before .before .before .before .before .before .before .before .before .before .before .before .before .pre .0 .builds) _ _ _ (search needs) (c .before .before .before .before .before .before .before .loop .inv .here (search needs)) (c .word2 .ensures .0) .1)
 
 loop-again : tie.Need-loop-again Inv-loop μ-loop
 unfolding program columns
-loop-again c = building-next _ _ _ _ _ _ _ _ _ (c .before .before .before .before .before .before .before .loop .inv) (search needs) (c .before .before .before .put .ensures) (build-next (c .before .before .before .before .before .before .before .before .before .before .before .before .before .before .before .pre .1 .0) _ _ _ (search needs) (c .before .before .before .before .before .before .before .loop .inv .here (search needs)) (c .word2 .ensures .0) .0)
+loop-again c = building-next _ _ _ _ _ _ _ _ _ (c .before .before .before .before .before .before .before .loop .inv) (search needs) (c .before .before .before .put .ensures) (build-next (c .before .before .before .before .before .before .before .before .before .before .before .before .before .before .before .pre .0 .builds) _ _ _ (search needs) (c .before .before .before .before .before .before .before .loop .inv .here (search needs)) (c .word2 .ensures .0) .0)
 
 same-length : tie.Need-same-length Inv-loop μ-loop
 same-length c = c .before .before .loop .inv .joined .long
 
 returns : tie.Need-returns Inv-loop μ-loop
 unfolding program columns
-returns c = building-over _ _ (columns-whole (c .before .before .before .before .before .before .before .before .before .before .pre .0)) _ _ _ _ _ _ (c .before .before .before .before .before .width .ensures) (c .before .before .loop .inv) (search needs)
+returns c = building-over _ _ (columns-whole (c .before .before .before .before .before .before .before .before .before .before .pre .0 .ready)) _ _ _ _ _ _ (c .before .before .before .before .before .width .ensures) (c .before .before .loop .inv) (search needs)
 
 pub put-builds-spec : {M : Type 1} → statement M
 put-builds-spec =

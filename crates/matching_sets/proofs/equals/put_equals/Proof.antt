@@ -17,7 +17,7 @@ is-class-requires : tie.Need-is-class-requires
 is-class-requires c κs = search needs
 
 put-requires : tie.Need-put-requires
-put-requires c κs = (rw (c .before .before .before .width .ensures) (c .before .before .before .before .before .before .before .before .pre .1 .1 .0), row-kept (c .before .before .before .width .ensures) (c .before .before .before .before .before .before .before .before .pre .1 .1 .1 .0) refl)
+put-requires c κs = (rw (c .before .before .before .width .ensures) (c .before .before .before .before .before .before .before .before .pre .1 .low), row-kept (c .before .before .before .width .ensures) (c .before .before .before .before .before .before .before .before .pre .1 .row) refl)
 
 same-length : tie.Need-same-length
 same-length c = search needs
@@ -32,17 +32,17 @@ returns-2 : tie.Need-returns-2
 returns-2 c = put-none _ _ _ _ 0 _ _ _ (c .before .before .before .is-class .ensures) _ (c .before .tag .ensures) (c .before .before .if1 .left) (c .if2 .taken) refl
 
 holds-requires : tie.Need-holds-requires
-holds-requires c κs = (rw (c .before .before .before .before .before .width .ensures) (c .before .before .before .before .before .before .before .before .before .before .pre .1 .1 .0), row-kept (c .before .before .before .before .before .width .ensures) (c .before .before .before .before .before .before .before .before .before .before .pre .1 .1 .1 .0) refl)
+holds-requires c κs = (rw (c .before .before .before .before .before .width .ensures) (c .before .before .before .before .before .before .before .before .before .before .pre .1 .low), row-kept (c .before .before .before .before .before .width .ensures) (c .before .before .before .before .before .before .before .before .before .before .pre .1 .row) refl)
 
 same-length-2 : tie.Need-same-length-2
 same-length-2 c = search needs
 
 returns-3 : tie.Need-returns-3
-returns-3 c = put-there _ _ _ _ _ _ _ _ (c .before .before .before .before .before .before .is-class .ensures) _ (c .before .before .before .before .tag .ensures) (c .before .before .before .before .before .if1 .left) _ (c .before .before .before .before .before .before .before .width .ensures) (c .before .before .before .before .before .before .before .before .before .before .before .before .pre .1 .1 .0) (c .before .before .before .before .before .before .before .before .before .before .before .before .pre .1 .1 .1 .1) (c .before .before .before .if2 .left) (c .before .holds .ensures) (c .if3 .taken) refl
+returns-3 c = put-there _ _ _ _ _ _ _ _ (c .before .before .before .before .before .before .is-class .ensures) _ (c .before .before .before .before .tag .ensures) (c .before .before .before .before .before .if1 .left) _ (c .before .before .before .before .before .before .before .width .ensures) (c .before .before .before .before .before .before .before .before .before .before .before .before .pre .1 .low) (c .before .before .before .before .before .before .before .before .before .before .before .before .pre .1 .alike) (c .before .before .before .if2 .left) (c .before .holds .ensures) (c .if3 .taken) refl
 
 put-builds-requires : tie.Need-put-builds-requires
 unfolding program columns
-put-builds-requires c κs = (c .before .before .before .before .before .before .before .before .before .before .before .before .before .pre .0, (c .before .before .before .before .before .before .before .before .before .before .before .before .before .pre .1 .0, ((sym (c .before .before .before .before .before .tag .ensures) ∙ c .before .before .before .before .if2 .left, row-within (columns-whole (c .before .before .before .before .before .before .before .before .before .before .before .before .before .pre .0)) _ (omega (arith, c .before .before .before .before .before .tag .ensures, c .before .before .before .before .if2 .left))), c .before .before .before .before .before .before .before .before .before .before .before .before .before .pre .1 .1 .1 .0)))
+put-builds-requires c κs = (c .before .before .before .before .before .before .before .before .before .before .before .before .before .pre .0, (c .before .before .before .before .before .before .before .before .before .before .before .before .before .pre .1 .row, (sym (c .before .before .before .before .before .tag .ensures) ∙ c .before .before .before .before .if2 .left, row-within (columns-whole (c .before .before .before .before .before .before .before .before .before .before .before .before .before .pre .0 .ready)) _ (omega (arith, c .before .before .before .before .before .tag .ensures, c .before .before .before .before .if2 .left)))))
 
 same-length-3 : tie.Need-same-length-3
 same-length-3 c = search needs

@@ -9,7 +9,7 @@ use Rattle.values.proofs.Gathered.{width-above, room-row}
 use Rattle.matching.specs.Patterns.{is-build}
 use Rattle.matching.proofs.Chains.{build-first, build-next}
 use Rattle.matching.proofs.Subpatterns.{pattern-stands, pattern-constructor}
-use Rattle.matching_sets.proofs.Filling.{Filling, filling-begin, filling-next, filling-over, still, still-clear, same-room}
+use Rattle.matching_sets.proofs.Filling.{fill-match, Filling, filling-begin, filling-next, filling-over, still, still-clear, same-room}
 use borrow.Author.Needs.{needs}
 use Rattle.matching_sets.proofs.patterns.fill_pattern.Statement.{statement}
 use Rattle.matching_sets.proofs.patterns.fill_pattern.Tie as tie
@@ -24,37 +24,39 @@ width-requires : tie.Need-width-requires Inv-loop μ-loop
 width-requires c κs = search needs
 
 num-requires : tie.Need-num-requires Inv-loop μ-loop
-num-requires c κs = c .before .before .before .before .before .before .before .before .pre .0 .whole
+num-requires c κs = c .before .before .before .before .before .before .before .before .pre .0 .ready .whole
 
 word-requires : tie.Need-word-requires Inv-loop μ-loop
 unfolding program columns
-word-requires c κs = let z = pattern-constructor (pattern-stands (rows-fit (c .before .before .before .before .before .before .before .before .before .pre .0)) _ (c .before .before .before .before .before .before .before .before .before .pre .1 .1 .1 .1 .1 .1 .1 .1) (c .before .before .before .before .before .before .before .before .before .pre .1 .1 .1 .1 .1 .1 .1 .0)) (c .before .before .before .before .before .before .before .before .before .pre .1 .1 .1 .1 .1 .1 .1 .0) in omega (arith, z, (c .before .before .before .before .before .before .before .before .before .pre .1 .1 .1 .0) .first-room, c .num .ensures)
+word-requires c κs = let z = pattern-constructor (pattern-stands (rows-fit (c .before .before .before .before .before .before .before .before .before .pre .0 .ready)) _ (c .before .before .before .before .before .before .before .before .before .pre .1 .1 .1) (c .before .before .before .before .before .before .before .before .before .pre .1 .1 .0)) (c .before .before .before .before .before .before .before .before .before .pre .1 .1 .0) in omega (arith, z, (c .before .before .before .before .before .before .before .before .before .pre .0 .builds) .first-room, c .num .ensures)
 
 loop-holds : tie.Need-loop-holds Inv-loop μ-loop
 unfolding program columns
-loop-holds c = let z = pattern-constructor (pattern-stands (rows-fit (c .before .before .before .before .before .before .before .before .before .before .pre .0)) _ (c .before .before .before .before .before .before .before .before .before .before .pre .1 .1 .1 .1 .1 .1 .1 .1) (c .before .before .before .before .before .before .before .before .before .before .pre .1 .1 .1 .1 .1 .1 .1 .0)) (c .before .before .before .before .before .before .before .before .before .before .pre .1 .1 .1 .1 .1 .1 .1 .0) in filling-begin _ _ _ _ (c .before .before .before .before .before .before .before .before .before .before .pre .1 .1 .1 .1 .1 .1 .1 .0) _ _ _ (rw (c .before .before .width .ensures) (c .before .before .before .before .before .before .before .before .before .before .pre .1 .1 .1 .1 .1 .0 .0)) (rw (c .before .before .width .ensures) (c .before .before .before .before .before .before .before .before .before .before .pre .1 .1 .1 .1 .1 .0 .1)) (build-first (c .before .before .before .before .before .before .before .before .before .before .pre .1 .1 .1 .0) _ _ _ (c .before .num .ensures) z (c .word .ensures .0))
+loop-holds c = let z = pattern-constructor (pattern-stands (rows-fit (c .before .before .before .before .before .before .before .before .before .before .pre .0 .ready)) _ (c .before .before .before .before .before .before .before .before .before .before .pre .1 .1 .1) (c .before .before .before .before .before .before .before .before .before .before .pre .1 .1 .0)) (c .before .before .before .before .before .before .before .before .before .before .pre .1 .1 .0) in filling-begin _ _ _ _ (c .before .before .before .before .before .before .before .before .before .before .pre .1 .1 .0) _ _ _ (rw (c .before .before .width .ensures) (c .before .before .before .before .before .before .before .before .before .before .pre .1 .0 .may-clear)) (rw (c .before .before .width .ensures) (c .before .before .before .before .before .before .before .before .before .before .pre .1 .0 .held-clear)) (build-first (c .before .before .before .before .before .before .before .before .before .before .pre .0 .builds) _ _ _ (c .before .num .ensures) z (c .word .ensures .0))
 
 arguments-code-requires : tie.Need-arguments-code-requires Inv-loop μ-loop
 unfolding program columns is-build same-constructor
-arguments-code-requires c κs = (c .before .before .before .before .before .before .before .before .before .before .before .before .before .before .before .pre .0, (c .before .before .before .before .before .before .before .before .before .before .before .before .before .before .before .pre .1 .0, (c .before .before .before .before .before .before .before .before .before .before .before .before .before .before .before .pre .1 .1 .0, (still _ _ _ _ (c .before .before .before .before .before .before .before .before .before .before .before .before .before .before .before .pre .1 .1 .1 .1 .1 .1 .1 .0) _ _ _ _ _ (c .before .before .before .before .before .before .before .width .ensures) (c .before .before .before .before .loop .inv) (c .before .before .before .before .before .before .before .before .before .before .before .before .before .before .before .pre .1 .1 .1 .1 .1 .1 .0), (pattern-stands (rows-fit (c .before .before .before .before .before .before .before .before .before .before .before .before .before .before .before .pre .0)) _ (c .before .before .before .before .before .before .before .before .before .before .before .before .before .before .before .pre .1 .1 .1 .1 .1 .1 .1 .1) (c .before .before .before .before .before .before .before .before .before .before .before .before .before .before .before .pre .1 .1 .1 .1 .1 .1 .1 .0), ((c .before .before .before .before .before .before .before .before .before .before .before .before .before .before .before .pre .1 .1 .1 .1 .1 .1 .1 .0), c .before .before .before .before .loop .inv .here (search needs)))))))
+arguments-code-requires c κs =
+    let h = c .before .before .before .before .before .before .before .before .before .before .before .before .before .before .before .pre in
+    (fill-match (h .0) (still _ _ _ _ (h .1 .1 .0) _ _ _ _ _ (c .before .before .before .before .before .before .before .width .ensures) (c .before .before .before .before .loop .inv) (h .1 .0 .patterns)), record { stands = pattern-stands (rows-fit (h .0 .ready)) _ (h .1 .1 .1) (h .1 .1 .0); made = h .1 .1 .0; same = c .before .before .before .before .loop .inv .here (search needs) })
 
 put-if-requires : tie.Need-put-if-requires Inv-loop μ-loop
-put-if-requires c κs = (rw (c .before .before .before .before .before .before .before .before .before .width .ensures) (width-above _ _ (search needs)), room-row _ _ _ _ _ _ (c .before .before .before .before .before .before .before .before .before .width .ensures) (c .before .before .before .before .before .before .before .before .before .before .before .before .before .before .before .before .before .pre .1 .1 .1 .1 .0 .0) (c .before .before .before .before .before .before .loop .inv .may-long) (c .before .before .before .before .before .before .before .before .before .before .before .before .before .before .before .before .before .pre .1 .1 .1 .1 .1 .1 .1 .1))
+put-if-requires c κs = (rw (c .before .before .before .before .before .before .before .before .before .width .ensures) (width-above _ _ (search needs)), room-row _ _ _ _ _ _ (c .before .before .before .before .before .before .before .before .before .width .ensures) (c .before .before .before .before .before .before .before .before .before .before .before .before .before .before .before .before .before .pre .1 .0 .may-room) (c .before .before .before .before .before .before .loop .inv .may-long) (c .before .before .before .before .before .before .before .before .before .before .before .before .before .before .before .before .before .pre .1 .1 .1))
 
 put-if-requires-2 : tie.Need-put-if-requires-2 Inv-loop μ-loop
-put-if-requires-2 c κs = (rw (c .before .before .before .before .before .before .before .before .before .before .before .before .before .width .ensures) (width-above _ _ (search needs)), room-row _ _ _ _ _ _ (c .before .before .before .before .before .before .before .before .before .before .before .before .before .width .ensures) (c .before .before .before .before .before .before .before .before .before .before .before .before .before .before .before .before .before .before .before .before .before .pre .1 .1 .1 .1 .0 .1) (c .before .before .before .before .before .before .before .before .before .before .loop .inv .held-long) (c .before .before .before .before .before .before .before .before .before .before .before .before .before .before .before .before .before .before .before .before .before .pre .1 .1 .1 .1 .1 .1 .1 .1))
+put-if-requires-2 c κs = (rw (c .before .before .before .before .before .before .before .before .before .before .before .before .before .width .ensures) (width-above _ _ (search needs)), room-row _ _ _ _ _ _ (c .before .before .before .before .before .before .before .before .before .before .before .before .before .width .ensures) (c .before .before .before .before .before .before .before .before .before .before .before .before .before .before .before .before .before .before .before .before .before .pre .1 .0 .held-room) (c .before .before .before .before .before .before .before .before .before .before .loop .inv .held-long) (c .before .before .before .before .before .before .before .before .before .before .before .before .before .before .before .before .before .before .before .before .before .pre .1 .1 .1))
 
 word-requires-2 : tie.Need-word-requires-2 Inv-loop μ-loop
 unfolding program columns
-word-requires-2 c κs = omega (arith, (c .before .before .before .before .before .before .before .before .before .before .before .before .before .before .before .before .before .before .before .before .before .before .before .before .pre .1 .1 .1 .0) .next-room)
+word-requires-2 c κs = omega (arith, (c .before .before .before .before .before .before .before .before .before .before .before .before .before .before .before .before .before .before .before .before .before .before .before .before .pre .0 .builds) .next-room)
 
 loop-less : tie.Need-loop-less Inv-loop μ-loop
 unfolding program columns
-loop-less c = omega (arith, build-next (c .before .before .before .before .before .before .before .before .before .before .before .before .before .before .before .before .before .before .before .before .before .before .before .before .before .pre .1 .1 .1 .0) _ _ _ (search needs) (c .before .before .before .before .before .before .before .before .before .before .before .before .before .before .loop .inv .here (search needs)) (c .word2 .ensures .0) .1)
+loop-less c = omega (arith, build-next (c .before .before .before .before .before .before .before .before .before .before .before .before .before .before .before .before .before .before .before .before .before .before .before .before .before .pre .0 .builds) _ _ _ (search needs) (c .before .before .before .before .before .before .before .before .before .before .before .before .before .before .loop .inv .here (search needs)) (c .word2 .ensures .0) .1)
 
 loop-again : tie.Need-loop-again Inv-loop μ-loop
 unfolding program columns
-loop-again c = filling-next _ _ _ _ (c .before .before .before .before .before .before .before .before .before .before .before .before .before .before .before .before .before .before .before .before .before .before .before .before .before .pre .1 .1 .1 .1 .1 .1 .1 .0) _ _ _ _ _ _ _ _ (c .before .before .before .before .before .before .before .before .before .before .before .before .before .before .loop .inv) (c .before .before .before .before .before .before .before .before .before .arguments-code .ensures) (rw (c .before .before .before .before .before .before .before .before .before .before .before .before .before .before .before .before .before .width .ensures) (width-above _ _ (search needs))) (c .before .before .before .before .before .before .before .put-if .ensures) (c .before .before .before .put-if2 .ensures) _ (search needs) (build-next (c .before .before .before .before .before .before .before .before .before .before .before .before .before .before .before .before .before .before .before .before .before .before .before .before .before .pre .1 .1 .1 .0) _ _ _ (search needs) (c .before .before .before .before .before .before .before .before .before .before .before .before .before .before .loop .inv .here (search needs)) (c .word2 .ensures .0) .0)
+loop-again c = filling-next _ _ _ _ (c .before .before .before .before .before .before .before .before .before .before .before .before .before .before .before .before .before .before .before .before .before .before .before .before .before .pre .1 .1 .0) _ _ _ _ _ _ _ _ (c .before .before .before .before .before .before .before .before .before .before .before .before .before .before .loop .inv) (c .before .before .before .before .before .before .before .before .before .arguments-code .ensures) (rw (c .before .before .before .before .before .before .before .before .before .before .before .before .before .before .before .before .before .width .ensures) (width-above _ _ (search needs))) (c .before .before .before .before .before .before .before .put-if .ensures) (c .before .before .before .put-if2 .ensures) _ (search needs) (build-next (c .before .before .before .before .before .before .before .before .before .before .before .before .before .before .before .before .before .before .before .before .before .before .before .before .before .pre .0 .builds) _ _ _ (search needs) (c .before .before .before .before .before .before .before .before .before .before .before .before .before .before .loop .inv .here (search needs)) (c .word2 .ensures .0) .0)
 
 same-length : tie.Need-same-length Inv-loop μ-loop
 same-length c = c .before .before .loop .inv .may-long
@@ -64,7 +66,19 @@ same-length-2 c = c .before .before .loop .inv .held-long
 
 returns : tie.Need-returns Inv-loop μ-loop
 unfolding program columns
-returns c = let f = c .before .before .loop .inv in let a = same-room _ _ (f .may-long) (c .before .before .before .before .before .before .before .before .before .before .before .before .before .pre .1 .1 .1 .1 .0 .0) in let b = same-room _ _ (f .held-long) (c .before .before .before .before .before .before .before .before .before .before .before .before .before .pre .1 .1 .1 .1 .0 .1) in ((a, b), ((rw (← c .before .before .before .before .before .width .ensures) (still-clear (f .may-others) (rw (c .before .before .before .before .before .width .ensures) (c .before .before .before .before .before .before .before .before .before .before .before .before .before .pre .1 .1 .1 .1 .1 .0 .0))), rw (← c .before .before .before .before .before .width .ensures) (still-clear (f .held-others) (rw (c .before .before .before .before .before .width .ensures) (c .before .before .before .before .before .before .before .before .before .before .before .before .before .pre .1 .1 .1 .1 .1 .0 .1)))), filling-over _ _ _ _ (c .before .before .before .before .before .before .before .before .before .before .before .before .before .pre .1 .1 .1 .1 .1 .1 .1 .0) (columns-whole (c .before .before .before .before .before .before .before .before .before .before .before .before .before .pre .0)) _ _ _ _ _ f (search needs) (c .before .before .before .before .before .width .ensures) (c .before .before .before .before .before .before .before .before .before .before .before .before .before .pre .1 .1 .1 .1 .1 .1 .0) a b))
+returns c =
+    let h = c .before .before .before .before .before .before .before .before .before .before .before .before .before .pre in
+    let f = c .before .before .loop .inv in
+    let w = c .before .before .before .before .before .width .ensures in
+    let a = same-room _ _ (f .may-long) (h .1 .0 .may-room) in
+    let b = same-room _ _ (f .held-long) (h .1 .0 .held-room) in
+    record {
+      may-room = a;
+      held-room = b;
+      may-clear = rw (← w) (still-clear (f .may-others) (rw w (h .1 .0 .may-clear)));
+      held-clear = rw (← w) (still-clear (f .held-others) (rw w (h .1 .0 .held-clear)));
+      patterns = filling-over _ _ _ _ (h .1 .1 .0) (columns-whole (h .0 .ready)) _ _ _ _ _ f (search needs) w (h .1 .0 .patterns) a b;
+    }
 
 pub fill-pattern-spec : {M : Type 1} → statement M
 fill-pattern-spec =

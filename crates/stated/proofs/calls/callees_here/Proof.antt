@@ -21,31 +21,31 @@ abbrev μ-loop : tie.MeasureT-loop
 μ-loop ws s starts at i r callee count j₀ to j = to - j
 
 add-num : tie.Need-add-num Inv-loop μ-loop
-add-num c = omega (arith, row-below (c .before .before .before .pre .0) (c .before .before .before .args .r) (omega (arith, c .before .before .before .pre .1 .1)) .1)
+add-num c = omega (arith, row-below (c .before .before .before .pre .0 .ready) (c .before .before .before .args .r) (omega (arith, c .before .before .before .pre .1)) .1)
 
 num-requires : tie.Need-num-requires Inv-loop μ-loop
-num-requires c κs = c .before .before .before .pre .0 .whole
+num-requires c κs = c .before .before .before .pre .0 .ready .whole
 
 add-num-2 : tie.Need-add-num-2 Inv-loop μ-loop
-add-num-2 c = omega (arith, row-below (c .before .before .before .before .pre .0) (c .before .before .before .before .args .r) (omega (arith, c .before .before .before .before .pre .1 .1)) .1)
+add-num-2 c = omega (arith, row-below (c .before .before .before .before .pre .0 .ready) (c .before .before .before .before .args .r) (omega (arith, c .before .before .before .before .pre .1)) .1)
 
 num-requires-2 : tie.Need-num-requires-2 Inv-loop μ-loop
-num-requires-2 c κs = c .before .before .before .before .pre .0 .whole
+num-requires-2 c κs = c .before .before .before .before .pre .0 .ready .whole
 
 word-requires : tie.Need-word-requires Inv-loop μ-loop
 unfolding program
-word-requires c κs = omega (arith, (read-name (c .before .before .before .before .before .pre .0) (c .before .before .before .before .before .args .r) _ (omega (arith, c .before .before .before .before .before .pre .1 .1)) (omega (arith, c .before .before .before .before .before .pre .1 .1)) (c .before .num .ensures)), c .before .before .before .before .before .pre .1 .0 .room)
+word-requires c κs = omega (arith, (read-name (c .before .before .before .before .before .pre .0 .ready) (c .before .before .before .before .before .args .r) _ (omega (arith, c .before .before .before .before .before .pre .1)) (omega (arith, c .before .before .before .before .before .pre .1)) (c .before .num .ensures)), c .before .before .before .before .before .pre .0 .begins .room)
 
 add-word : tie.Need-add-word Inv-loop μ-loop
 unfolding program
-add-word c = omega (arith, (read-name (c .before .before .before .before .before .before .pre .0) (c .before .before .before .before .before .before .args .r) _ (omega (arith, c .before .before .before .before .before .before .pre .1 .1)) (omega (arith, c .before .before .before .before .before .before .pre .1 .1)) (c .before .before .num .ensures)), c .before .before .before .before .before .before .pre .0 .limits .names)
+add-word c = omega (arith, (read-name (c .before .before .before .before .before .before .pre .0 .ready) (c .before .before .before .before .before .before .args .r) _ (omega (arith, c .before .before .before .before .before .before .pre .1)) (omega (arith, c .before .before .before .before .before .before .pre .1)) (c .before .before .num .ensures)), c .before .before .before .before .before .before .pre .0 .ready .limits .names)
 
 word-requires-2 : tie.Need-word-requires-2 Inv-loop μ-loop
 unfolding program
-word-requires-2 c κs = omega (arith, (read-name (c .before .before .before .before .before .before .pre .0) (c .before .before .before .before .before .before .args .r) _ (omega (arith, c .before .before .before .before .before .before .pre .1 .1)) (omega (arith, c .before .before .before .before .before .before .pre .1 .1)) (c .before .before .num .ensures)), c .before .before .before .before .before .before .pre .1 .0 .room)
+word-requires-2 c κs = omega (arith, (read-name (c .before .before .before .before .before .before .pre .0 .ready) (c .before .before .before .before .before .before .args .r) _ (omega (arith, c .before .before .before .before .before .before .pre .1)) (omega (arith, c .before .before .before .before .before .before .pre .1)) (c .before .before .num .ensures)), c .before .before .before .before .before .before .pre .0 .begins .room)
 
 loop-holds : tie.Need-loop-holds Inv-loop μ-loop
-loop-holds c = (callees-all _ _ _ _ _ _ (c .before .before .before .num .ensures) (starts-range (c .before .before .before .before .before .before .before .pre .0) (c .before .before .before .before .before .before .before .pre .1 .0) _ _ _ (read-name (c .before .before .before .before .before .before .before .pre .0) (c .before .before .before .before .before .before .before .args .r) _ (omega (arith, c .before .before .before .before .before .before .before .pre .1 .1)) (omega (arith, c .before .before .before .before .before .before .before .pre .1 .1)) (c .before .before .before .num .ensures)) (c .before .word .ensures .0) (c .word2 .ensures .0) _ .0), omega (arith, c .word2 .ensures .1))
+loop-holds c = (callees-all _ _ _ _ _ _ (c .before .before .before .num .ensures) (starts-range (c .before .before .before .before .before .before .before .pre .0 .ready) (c .before .before .before .before .before .before .before .pre .0 .begins) _ _ _ (read-name (c .before .before .before .before .before .before .before .pre .0 .ready) (c .before .before .before .before .before .before .before .args .r) _ (omega (arith, c .before .before .before .before .before .before .before .pre .1)) (omega (arith, c .before .before .before .before .before .before .before .pre .1)) (c .before .before .before .num .ensures)) (c .before .word .ensures .0) (c .word2 .ensures .0) _ .0), omega (arith, c .word2 .ensures .1))
 
 flow-value-requires : tie.Need-flow-value-requires Inv-loop μ-loop
 flow-value-requires c κs = search needs

@@ -1,4 +1,3 @@
-use borrow.Author.Needs.{needs}
 use Rattle.stated.proofs.Dispatch.{here-lacks, here-kept, here-lost}
 use Rattle.stated.proofs.states.branches_here.Statement.{statement}
 use Rattle.stated.proofs.states.branches_here.Tie as tie
@@ -7,7 +6,7 @@ returns : tie.Need-returns
 returns c = here-lacks _ _ _ _ _ (c .if1 .taken)
 
 bodies-closed-requires : tie.Need-bodies-closed-requires
-bodies-closed-requires c κs = (c .before .before .before .before .pre .0, (c .before .before .before .before .pre .1 .0, (c .before .before .before .before .pre .1 .1 .0, c .before .before .before .before .pre .1 .1 .1)))
+bodies-closed-requires c κs = (c .before .before .before .before .pre .0, c .before .before .before .before .pre .1)
 
 returns-2 : tie.Need-returns-2
 returns-2 c = here-kept _ _ _ _ _ _ (c .before .bodies-closed .ensures) (c .if2 .taken) (c .before .before .if1 .left)

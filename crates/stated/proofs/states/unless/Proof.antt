@@ -1,5 +1,4 @@
 use Rattle.stated.proofs.Dispatch.{flag-so, flag-not}
-use borrow.Author.Needs.{needs}
 use Rattle.stated.proofs.states.unless.Statement.{statement}
 use Rattle.stated.proofs.states.unless.Tie as tie
 

@@ -9,7 +9,7 @@ use borrow.Author.Tests.{not-true, not-false}
 use Rattle.bits.specs.Bits.{member, Row}
 use Rattle.model.specs.declared.Sizes.{Sizes}
 use Rattle.model.specs.Index.{any}
-use Rattle.model.specs.Words.{right, columns}
+use Rattle.model.specs.Words.{columns}
 use Rattle.model.specs.Keys.{ascending}
 use Rattle.model.specs.Rows.{Program, program, size}
 use Rattle.model.specs.Heads.{is-class}
@@ -26,9 +26,9 @@ use Rattle.lists.specs.Ready.{Ready}
 use Rattle.values.proofs.Names.{class-upto}
 use Rattle.system_letters.specs.Letters.{Class-letters, letter-width, class-at}
 use Rattle.system_letters.proofs.Classes.{class-there}
-use Rattle.state_rules.specs.Heads.{letter-rules, send-turn}
-use Rattle.state_rules.specs.Within.{letter-passes, only-passing, Asked-letters}
-use Rattle.state_rules.proofs.Letters.{class-range, class-order, sent-there}
+use Rattle.lettered_rules.specs.Turns.{letter-rules, sent-turn}
+use Rattle.rules.specs.Within.{letter-passes, only-passing, Asked-letters}
+use Rattle.lettered_rules.proofs.Letters.{class-range, class-order, sent-there}
 
 -- rules none of which passes
 only-none : (f : ℕ → Bool) (ρs : List Rule) → ((ρ : Rule) → List·Memᴰ ρ ρs → letter-passes f (ρ .effect) ≡ false) → only-passing f ρs ≡ []
@@ -52,7 +52,7 @@ module _ {ws : List ℕ} {s : Sizes} (h : Ready ws s) where
   class-asked starts g d low w wide within row =
       (omega (arith, g .room), (rw wide (omega (arith, class-order h starts g d low)), rw wide row))
 
-  module _ (m to i j d : ℕ) (b : Bool) (same : d ≡ right (t .flow) j) (e : b ≡ is-class p d) (f : ℕ → Bool) (starts : List ℕ) (g : Class-letters p t starts) (narrow : Bool) (within : List ℕ) (w : ℕ) (asks : Bool) (wide : w ≡ letter-width p t) (o : Asked-letters p t narrow within f) (all : each (t .flow) m (has (t .mail) d) ≡ true) (n : not b ≡ false) where
+  module _ (m to d : ℕ) (b : Bool) (e : b ≡ is-class p d) (f : ℕ → Bool) (starts : List ℕ) (g : Class-letters p t starts) (narrow : Bool) (within : List ℕ) (w : ℕ) (asks : Bool) (wide : w ≡ letter-width p t) (o : Asked-letters p t narrow within f) (all : each (t .flow) m (has (t .mail) d) ≡ true) (n : not b ≡ false) where
     -- the counter of a letter of the class that is not asked for does not pass
     letter-fails : d ≤ size p → not narrow ≡ false → any (getD starts d 0) (getD starts (d + 1) 0) (member within w 0) ≡ false → (l : Letter) → List·Memᴰ l (from-each (t .flow) m (letters-allowed p t)) → f (letter-index p t d l) ≡ false
     unfolding counter-count class-at
@@ -72,13 +72,12 @@ module _ {ws : List ℕ} {s : Sizes} (h : Ready ws s) where
         let same-x : t .states .size + y ≡ x = omega arith in
         ap f (sym same-x) ∙ (sym (o .has y low) ∙ rw (asked, ← wide) absent)
 
-    pub send-unasked : asks ≡ (not narrow || any (getD starts d 0) (getD starts (d + 1) 0) (member within w 0)) → not asks ≡ true → only-passing f (send-turn p t m to i j) ≡ []
-    unfolding send-turn letter-rules letter-passes program columns
-    send-unasked is none =
+    pub sent-unasked : asks ≡ (not narrow || any (getD starts d 0) (getD starts (d + 1) 0) (member within w 0)) → not asks ≡ true → (i : ℕ) → only-passing f (sent-turn p t m to d i) ≡ []
+    unfolding sent-turn letter-rules letter-passes program columns
+    sent-unasked is none i =
         let class = sym e ∙ not-false b n in
         let (asked, absent) = or-neither (not narrow) _ (sym is ∙ not-true asks none) in
-        let z : is-class p (right (t .flow) j) ≡ true = ap (is-class p) (sym same) ∙ class in
-        rw (z, send-turn, ← same)
+        rw (class, sent-turn)
         (only-none f _
         (each-map (λ ρ. letter-passes f (ρ .effect) ≡ false) (ascending (from-each (t .flow) m (letters-allowed p t))) (λ l. rule i to (puts (letter-index p t d l)))
         (λ l mem. letter-fails (class-upto h d class) asked absent l (ascending-from l (from-each (t .flow) m (letters-allowed p t)) mem))))

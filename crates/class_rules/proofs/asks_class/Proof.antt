@@ -7,8 +7,8 @@ use borrow.Author.Needs.{needs}
 use Rattle.bits.specs.Bits.{member}
 use Rattle.model.specs.Index.{any}
 use Rattle.model.proofs.Index.{any-end, any-hit, any-miss}
-use Rattle.state_rules.proofs.asks_class.Statement.{statement}
-use Rattle.state_rules.proofs.asks_class.Tie as tie
+use Rattle.class_rules.proofs.asks_class.Statement.{statement}
+use Rattle.class_rules.proofs.asks_class.Tie as tie
 
 abbrev Inv-loop : tie.InvT-loop
 Inv-loop narrow letter-at within words d from to y₀ y = (any from to (member within words 0) ≡ any y to (member within words 0)) × (from ≤ y)

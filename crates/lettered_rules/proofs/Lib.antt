@@ -1,0 +1,3 @@
+pub mod Letters
+mod Unasked
+mod Turns
