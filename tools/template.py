@@ -1,4 +1,4 @@
-# template.py LOG CRATE FN: writes the help's template for FN with every hole as `search needs`
+# template.py LOG PROOF: writes into PROOF the template that `rt dev` printed into LOG for its function, every hole as `search needs`.
 import re,sys
 log,proof=sys.argv[1:3]
 ls=open(log).read().split('\n')
