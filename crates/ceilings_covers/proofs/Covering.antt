@@ -28,7 +28,7 @@ use Rattle.ceilings_masks.specs.Compared.{allows, most, exceeds, exceeds-by-one
 use Rattle.ceilings_masks.proofs.Turning.{more-as}
 use Rattle.steps.specs.Steps.{raised, limit-after}
 use Rattle.steps.proofs.Raising.{as-limit-below, stepped-decides}
-use Rattle.ceilings_covers.specs.Covers.{Beside, covers, moved, passes, Left, Candidates, Raised, Exact, sure, Step-apart, reading, named}
+use Rattle.ceilings_covers.specs.Covers.{covers, moved, passes, Left, Candidates, Raised, Exact, sure, Step-apart, reading, named}
 use Rattle.ceilings_covers.proofs.Exceeding.{none-others, others-none, one-others, others-one, two-others, others-two}
 
 -- a limit that allows a count allows a lower one

@@ -1,11 +1,10 @@
 -- Which ceilings cover the counts after a step from the highest counts of a ceiling.
-use Prim.Native.Nat.{ℕ, _*_, _-_, _≤_, _<_}
+use Prim.Native.Nat.{ℕ, _-_, _≤_, _<_}
 use mathlib.Core.Path.{_≡_}
 use mathlib.Core.Bool.{Bool, true, false, not, _&&_, _||_}
 use mathlib.Core.List.{List, [], _∷_}
 use lib.Dec.{eqb, ltb}
-use lib.ListN.{length, getD}
-use Rattle.model.specs.Limits.{maxCeilings}
+use lib.ListN.{getD}
 use Rattle.model.specs.Rules.{Rule}
 use Rattle.model.specs.Markings.{fire}
 use Rattle.model.specs.Ceilings.{allowed, highest, under}
@@ -14,18 +13,7 @@ use Rattle.masks.specs.Masks.{has}
 use Rattle.steps.specs.declared.Step.{Step}
 use Rattle.steps.specs.Steps.{rule-of-step, takes-other}
 use Rattle.ceilings.specs.Table.{held}
-use Rattle.ceilings_masks.specs.declared.Over.{Over}
-use Rattle.ceilings_masks.specs.Compared.{Holders, most, exceeds, takes-more, Counted, Neighbours}
-
--- the tables of one ceiling beside all others
-pub record Beside (limits : List ℕ) (ceilings n k : ℕ) (holders : List ℕ) (over : Over) (near : List ℕ) : Type 0 where
-  pub room : n * ceilings ≤ length limits
-  pub few : ceilings ≤ maxCeilings
-  pub ceiling : k < ceilings
-  pub held-by : Holders limits ceilings n holders
-  pub counted : Counted limits ceilings n k over
-  pub neighbours : Neighbours limits ceilings n k near
-  pub near-room : n * 8 ≤ length near
+use Rattle.ceilings_masks.specs.Compared.{most, exceeds, takes-more}
 
 -- ceiling k′ covers the counts after a rule from the highest counts of ceiling k
 unfoldable pub covers : List ℕ → ℕ → ℕ → ℕ → Rule → ℕ → Bool

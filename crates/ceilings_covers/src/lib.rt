@@ -29,9 +29,8 @@ ghost use Rattle.model.specs.Markings.{usable};
 ghost use Rattle.model.specs.Ceilings.{highest};
 ghost use Rattle.steps.specs.Steps.{rule-of-step, adds-other};
 ghost use Rattle.ceilings.specs.Table.{held};
-ghost use Rattle.ceilings_masks.specs.Compared.{takes-more};
+ghost use Rattle.ceilings_masks.specs.Compared.{takes-more, Beside};
 ghost use Rattle.ceilings_covers.specs.Covers.{
-  Beside,
   Left,
   Candidates,
   Raised,

@@ -31,8 +31,8 @@ ghost use Rattle.model.specs.Counters.{counter-count};
 ghost use Rattle.lists.specs.Ready.{Ready};
 ghost use Rattle.positions.specs.Positions.{Ends};
 ghost use Rattle.system_letters.specs.Letters.{letter-width};
-ghost use Rattle.ceilings_masks.specs.Compared.{takes-more};
-ghost use Rattle.ceilings_covers.specs.Covers.{Beside, Left};
+ghost use Rattle.ceilings_masks.specs.Compared.{takes-more, Beside};
+ghost use Rattle.ceilings_covers.specs.Covers.{Left};
 ghost use Rattle.ceilings_letters.specs.Letters.{Letters-room, is-held, Held-set, One-more, Open-set, Narrowed};
 
 // The letters that ceiling k holds, as a set, where they are asked for. Else nothing is promised of the set, nor ever

@@ -8,7 +8,7 @@ left-reading-requires : tie.Need-left-reading-requires
 left-reading-requires c κs =
     let p = c .before .before .before .before .before .pre in
     let shape = p .1 .0 in
-    (record { room = omega (arith, shape .from, p .0 .near-room) }, record { room = omega (arith, shape .read (c .if1 .taken) .0, p .0 .near-room) })
+    (record { room = omega (arith, shape .from, p .0 .room) }, record { room = omega (arith, shape .read (c .if1 .taken) .0, p .0 .room) })
 
 returns : tie.Need-returns
 returns c =
@@ -16,7 +16,7 @@ returns c =
     let a = c .before .before .before .before .before .before .args in
     let shape = p .1 .0 in
     let one = c .before .if1 .taken in (
-      taken-reading _ _ _ _ _ shape _ (p .0 .few) (p .0 .counted) _ (p .1 .1 .0) one _
+      taken-reading _ _ _ _ _ shape _ (p .0 .held-by .few) (p .0 .counted) _ (p .1 .1 .0) one _
           (λ j h. c .left-reading .ensures j h ∙ reading-as _ _ _ _ _ _ _ j (p .0 .neighbours .by-one _ j (shape .from) (usable-from (a .limits .now) (a .ceilings) (a .k) (a .step) (p .1 .1 .1)) h) (p .0 .neighbours .by-one _ j (shape .read one .0) (usable-read (a .limits .now) (a .ceilings) (a .k) (a .step) one (p .1 .1 .1)) h)),
       λ quiet. absurd (quiet one),
     )

@@ -13,7 +13,7 @@ by-added-requires c κs = (c .before .before .before .before .pre .0, (c .before
 returns : tie.Need-returns
 returns c =
     let p = c .before .before .before .before .before .before .before .pre in
-    (c .before .before .by-added .ensures .0, exact-is _ _ _ _ _ _ _ _ _ (p .0 .few) (p .1 .0 .kind) (p .1 .1 .0) (c .before .before .before .by-taken .ensures .1) (c .before .before .by-added .ensures .1) (λ two. absurd (omega (arith, two, c .if1 .taken))) (λ j h. h))
+    (c .before .before .by-added .ensures .0, exact-is _ _ _ _ _ _ _ _ _ (p .0 .held-by .few) (p .1 .0 .kind) (p .1 .1 .0) (c .before .before .before .by-taken .ensures .1) (c .before .before .by-added .ensures .1) (λ two. absurd (omega (arith, two, c .if1 .taken))) (λ j h. h))
 
 by-added-requires-2 : tie.Need-by-added-requires-2
 by-added-requires-2 c κs = (c .before .before .before .before .before .before .before .pre .0, (c .before .before .before .before .before .before .before .pre .1 .0, (adds-it (c .before .before .before .before .before .before .before .args .step) (search needs), c .before .before .by-added .ensures .0)))
@@ -21,7 +21,7 @@ by-added-requires-2 c κs = (c .before .before .before .before .before .before .
 returns-2 : tie.Need-returns-2
 returns-2 c =
     let p = c .before .before .before .before .before .before .before .before .pre in
-    (c .by-added2 .ensures .0, exact-is _ _ _ _ _ _ _ _ _ (p .0 .few) (p .1 .0 .kind) (p .1 .1 .0) (c .before .before .before .before .by-taken .ensures .1) (c .before .before .before .by-added .ensures .1) (λ two. c .by-added2 .ensures .1) (c .by-added2 .ensures .1 .within))
+    (c .by-added2 .ensures .0, exact-is _ _ _ _ _ _ _ _ _ (p .0 .held-by .few) (p .1 .0 .kind) (p .1 .1 .0) (c .before .before .before .before .by-taken .ensures .1) (c .before .before .before .by-added .ensures .1) (λ two. c .by-added2 .ensures .1) (c .by-added2 .ensures .1 .within))
 
 pub candidates-spec : {M : Type 1} → statement M
 candidates-spec =
