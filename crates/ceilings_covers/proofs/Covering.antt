@@ -24,11 +24,11 @@ use Rattle.steps.proofs.Stepping.{fire-alone, fire-untouched, fire-held, fire-l
 use Rattle.ceilings_form.proofs.Limited.{highest-limit}
 use Rattle.ceilings.specs.Table.{held}
 use Rattle.ceilings_masks.specs.declared.Over.{Over}
-use Rattle.ceilings_masks.specs.Compared.{allows, most, exceeds, exceeds-by-one, takes-more, Counted, Neighbours}
+use Rattle.ceilings_masks.specs.Compared.{allows, most, exceeds, exceeds-by-one, takes-more, Counted, Beside}
 use Rattle.ceilings_masks.proofs.Turning.{more-as}
 use Rattle.steps.specs.Steps.{raised, limit-after}
 use Rattle.steps.proofs.Raising.{as-limit-below, stepped-decides}
-use Rattle.ceilings_covers.specs.Covers.{Beside, covers, moved, passes, Left, Candidates, Raised, Exact, sure, Step-apart, reading, named}
+use Rattle.ceilings_covers.specs.Covers.{covers, moved, passes, Left, Candidates, Raised, Exact, sure, Step-apart, Taken, reading, named}
 use Rattle.ceilings_covers.proofs.Exceeding.{none-others, others-none, one-others, others-one, two-others, others-two}
 
 -- a limit that allows a count allows a lower one
@@ -277,6 +277,20 @@ reading-as left twice thrice a b c d j e f = rw (e, f)
 pub reading-is : (left near pair first once : Mask) (t h : Mask) (r s : Mask) (a b : ℕ → Bool) (j : ℕ) → has near j ≡ b j → has first j ≡ a j → has once j ≡ (has near j && not (has t j)) → has pair j ≡ (has first j && has near j) → has s j ≡ (has pair j && not (has h j)) → (o : Mask) → has o j ≡ (has left j || has once j) → has r j ≡ (has o j || has s j) → has r j ≡ reading (has left) (has t) (has h) a b j
 unfolding reading
 reading-is left near pair first once t h r s a b j n f x p y o u v = rw (v, u, x, y, p, n, f)
+
+-- the candidates by the counters that a step takes from
+module _ (over : Over) (near : List ℕ) (left : Mask) (σ : Step) (r : Mask) (taken : Taken over near left σ r) where
+  pub taken-within : (σ .kind ≡ 1 → ⊥) → (j : ℕ) → has r j ≡ true → has left j ≡ true
+  taken-within quiet j h = subst (λ m. has m j ≡ true) (taken .quiet quiet) h
+
+  pub taken-is : (limits : List ℕ) (ceilings n k : ℕ) (holders : List ℕ) → Beside limits ceilings n k holders over near → Step-apart n σ → Left limits ceilings n k (σ .from) left → usable (rule-of-step σ) (highest (held limits ceilings k)) ≡ true → Candidates limits ceilings n k σ r
+  taken-is limits ceilings n k holders b shape l u = elim (ℕ-discrete (σ .kind) 1) [
+    | yes e ↦ taken-reading limits ceilings n k σ shape over (b .held-by .few) (b .counted) left l e r
+        (λ j h. taken .reads e j h ∙ reading-as _ _ _ _ _ _ _ j
+        (b .neighbours .by-one (σ .from) j (shape .from) (usable-from limits ceilings k σ u) h)
+        (b .neighbours .by-one (σ .other) j (shape .read e .0) (usable-read limits ceilings k σ e u) h))
+    | no e ↦ subst (λ m. Candidates limits ceilings n k σ m) (sym (taken .quiet e)) (taken-quiet limits ceilings n k σ shape left e l)
+  ]
 
 -- a step adds to where it leads, and to what it puts or starts
 pub adds-to : (σ : Step) → (eqb (σ .to) (σ .to) || adds-other σ (σ .to)) ≡ true

@@ -4,28 +4,18 @@ use mathlib.Core.Path.{_≡_}
 use mathlib.Core.Bool.{Bool, true, false, not, _&&_, _||_}
 use mathlib.Core.List.{List, [], _∷_}
 use lib.Dec.{eqb, ltb}
-use lib.ListN.{length, getD}
-use Rattle.model.specs.Limits.{maxCeilings}
+use lib.ListN.{getD}
 use Rattle.model.specs.Rules.{Rule}
 use Rattle.model.specs.Markings.{fire}
 use Rattle.model.specs.Ceilings.{allowed, highest, under}
+use Rattle.bits.specs.Bits.{member}
 use Rattle.masks.specs.declared.Mask.{Mask}
 use Rattle.masks.specs.Masks.{has}
 use Rattle.steps.specs.declared.Step.{Step}
 use Rattle.steps.specs.Steps.{rule-of-step, takes-other}
 use Rattle.ceilings.specs.Table.{held}
 use Rattle.ceilings_masks.specs.declared.Over.{Over}
-use Rattle.ceilings_masks.specs.Compared.{Holders, most, exceeds, takes-more, Counted, Neighbours}
-
--- the tables of one ceiling beside all others
-pub record Beside (limits : List ℕ) (ceilings n k : ℕ) (holders : List ℕ) (over : Over) (near : List ℕ) : Type 0 where
-  pub room : n * ceilings ≤ length limits
-  pub few : ceilings ≤ maxCeilings
-  pub ceiling : k < ceilings
-  pub held-by : Holders limits ceilings n holders
-  pub counted : Counted limits ceilings n k over
-  pub neighbours : Neighbours limits ceilings n k near
-  pub near-room : n * 8 ≤ length near
+use Rattle.ceilings_masks.specs.Compared.{most, exceeds, takes-more}
 
 -- ceiling k′ covers the counts after a rule from the highest counts of ceiling k
 unfoldable pub covers : List ℕ → ℕ → ℕ → ℕ → Rule → ℕ → Bool
@@ -94,3 +84,12 @@ named σ b = getD (σ .to ∷ σ .from ∷ σ .other ∷ []) b 0
 -- only
 unfoldable pub reading : (left twice thrice a b : ℕ → Bool) → ℕ → Bool
 reading left twice thrice a b j = (left j || b j && not (twice j)) || (a j && b j) && not (thrice j)
+
+-- the mask is `left` where the step reads no counter; else it has those of `left`, and those that are exceeded by one
+-- at the counter that it reads and nowhere else, or there and at the counter that it comes from
+pub record Taken (over : Over) (near : List ℕ) (left : Mask) (σ : Step) (r : Mask) : Type 0 where
+  pub quiet : (σ .kind ≡ 1 → ⊥) → r ≡ left
+  pub reads :
+      σ .kind ≡ 1 → (j : ℕ) → j < 256 →
+      has r j ≡ reading (has left) (has (over .twice)) (has (over .thrice)) (member near 4 (2 * σ .from))
+      (member near 4 (2 * σ .other)) j

@@ -22,26 +22,25 @@ ghost use mathlib.Core.Bool.{true, false, _&&_, _||_};
 ghost use Prim.Native.Nat.{ℕ, _+_, _*_, _≤_, _<_};
 ghost use lib.Dec.{eqb};
 ghost use lib.ListN.{length};
-ghost use Rattle.bits.specs.Bits.{member, Row};
+ghost use Rattle.bits.specs.Bits.{Row};
 ghost use Rattle.masks.specs.Masks.{has};
 ghost use Rattle.model.specs.Index.{any};
 ghost use Rattle.model.specs.Markings.{usable};
 ghost use Rattle.model.specs.Ceilings.{highest};
 ghost use Rattle.steps.specs.Steps.{rule-of-step, adds-other};
 ghost use Rattle.ceilings.specs.Table.{held};
-ghost use Rattle.ceilings_masks.specs.Compared.{takes-more};
+ghost use Rattle.ceilings_masks.specs.Compared.{takes-more, Beside};
 ghost use Rattle.ceilings_covers.specs.Covers.{
-  Beside,
   Left,
   Candidates,
   Raised,
   Exact,
   Step-apart,
+  Taken,
   moved,
   passes,
   sure,
   named,
-  reading,
 };
 
 // So many counters are named by a step.
@@ -66,22 +65,6 @@ pub fn left_after(
     let first = 2 * i;
     let by_one = without(load(near, first), over.twice);
     or(whole, by_one)
-}
-
-// The same with one less at counter x too.
-fn left_reading(over: Over, near: &[u64], left: Mask, i: usize, x: usize) -> Mask
-    requires { ⌜ Row (now near) 4 (2 * i) × Row (now near) 4 (2 * x) ⌝ }
-    ensures { λ r. ⌜
-        ((j : ℕ) → j < 256 →
-        has r j ≡ reading (has left) (has (over .twice)) (has (over .thrice)) (member (now (near .entry)) 4 (2 * i))
-        (member (now (near .entry)) 4 (2 * x)) j) ⌝ }
-{
-    let first = 2 * i;
-    let second = 2 * x;
-    let by_one = load(near, second);
-    let once = without(by_one, over.twice);
-    let twice = without(and(load(near, first), by_one), over.thrice);
-    or(or(left, once), twice)
 }
 
 // The ceilings that hold one more than ceiling k at counter y. The table has a set for each counter that ceiling k
@@ -136,29 +119,21 @@ pub fn left_moved(
     and(left, raised)
 }
 
-// The candidates for a step, by the counters that it takes from.
-fn by_taken(
-    limits: &[u16],
-    ceilings: usize,
-    n: usize,
-    holders: &[u64],
-    over: Over,
-    near: &[u64],
-    k: usize,
-    left: Mask,
-    step: Step,
-) -> Mask
-    requires { ⌜ Beside (now limits) ceilings n k (now holders) over (now near) ⌝ }
-    requires { ⌜ Step-apart n step ⌝ }
-    requires { ⌜ Left (now limits) ceilings n k (step .from) left ⌝ }
-    requires { ⌜ usable (rule-of-step step) (highest (held (now limits) ceilings k)) ≡ true ⌝ }
-    ensures { λ r. ⌜ Candidates (now (limits .entry)) ceilings n k step r ⌝ }
-    ensures { λ r. ⌜ ((step .kind ≡ 1 → ⊥) → (j : ℕ) → has r j ≡ true → has left j ≡ true) ⌝ }
+// The candidates for a step, by the counters that it takes from: those of the mask `left`, of the counter that it comes
+// from; and where it reads a counter, those that hold the highest counts with one less there too.
+fn by_taken(over: Over, near: &[u64], left: Mask, step: Step) -> Mask
+    requires { ⌜ (step .kind ≡ 1 → Row (now near) 4 (2 * step .from) × Row (now near) 4 (2 * step .other)) ⌝ }
+    ensures { λ r. ⌜ Taken over (now (near .entry)) left step r ⌝ }
 {
-    if step.kind == 1 {
-        return left_reading(over, near, left, step.from, step.other);
+    if step.kind != 1 {
+        return left;
     }
-    left
+    let from = 2 * step.from;
+    let other = 2 * step.other;
+    let by_one = load(near, other);
+    let once = without(by_one, over.twice);
+    let twice = without(and(load(near, from), by_one), over.thrice);
+    or(or(left, once), twice)
 }
 
 // Of these candidates, those that hold one more at a counter to which the step adds.
@@ -215,7 +190,7 @@ pub fn candidates(
     ensures { λ r. ⌜ Candidates (now (limits .entry)) ceilings n k step r ⌝ }
     ensures { λ r. ⌜ Exact (now (limits .entry)) ceilings n k step r ⌝ }
 {
-    let taken = by_taken(limits, ceilings, n, holders, over, near, k, left, step);
+    let taken = by_taken(over, near, left, step);
     let to = by_added(
         limits,
         ceilings,

@@ -36,33 +36,8 @@ fn open_at(limits: &[u16], ceilings: usize, n: usize, holders: &[u64], low: usiz
     load(holders, third)
 }
 
-// Ceilings that are open from `low` on where a rule of this kind adds: where it leads, and what it puts or starts.
-// None where these are one counter, which then gets two.
-fn open_to(
-    limits: &[u16],
-    ceilings: usize,
-    n: usize,
-    holders: &[u64],
-    low: usize,
-    kind: usize,
-    to: usize,
-    other: usize,
-) -> Mask
-    requires { ⌜ Holders (now limits) ceilings n (now holders) ⌝ }
-    ensures { λ r. ⌜
-        ((k : ℕ) → k < 256 → has r k ≡ true → Open-step (now (limits .entry)) ceilings n low k kind to other) ⌝ }
-{
-    let at_to = open_at(limits, ceilings, n, holders, low, to);
-    if kind < 2 {
-        return at_to;
-    }
-    if to == other {
-        return none();
-    }
-    and(at_to, open_at(limits, ceilings, n, holders, low, other))
-}
-
-// Of the ceilings of a mask those that are open from `low` on where a rule of this kind adds.
+// Of the ceilings of a mask those that are open from `low` on where a rule of this kind adds: where it leads, and what
+// it puts or starts. None where these are one counter, which then gets two.
 fn narrowed(
     all: Mask,
     limits: &[u16],
@@ -79,10 +54,14 @@ fn narrowed(
     ensures { λ r. ⌜
         ((k : ℕ) → k < 256 → has r k ≡ true → Open-step (now (limits .entry)) ceilings n low k kind to other) ⌝ }
 {
-    and(
-        all,
-        open_to(limits, ceilings, n, holders, low, kind, to, other),
-    )
+    let at_to = and(all, open_at(limits, ceilings, n, holders, low, to));
+    if kind < 2 {
+        return at_to;
+    }
+    if to == other {
+        return none();
+    }
+    and(at_to, open_at(limits, ceilings, n, holders, low, other))
 }
 
 // Ceilings without a bound where the m rules add, all of one kind: where they lead, and what they put or start.
@@ -162,37 +141,9 @@ fn sets_to_all(
     }
 }
 
-// The same, but the second and third set are empty where some ceiling has no bound at all: that one is open to every
-// rule and left beside every ceiling, so that they would settle nothing more.
-fn state_sets(
-    boundless: bool,
-    limits: &[u16],
-    ceilings: usize,
-    states: usize,
-    n: usize,
-    holders: &[u64],
-    kind: usize,
-    tos: &[u16],
-    others: &[u16],
-    m: usize,
-) -> Sets
-    requires { ⌜ Holders (now limits) ceilings n (now holders) ⌝ }
-    requires { ⌜ (m ≤ length (now tos)) × (m ≤ length (now others)) ⌝ }
-    ensures { λ r. ⌜ Sets-open (now (limits .entry)) ceilings states n kind (now (tos .entry)) (now (others .entry)) m
-        (has (r .free)) (has (r .lettered)) (has (r .held)) ⌝ }
-{
-    if boundless {
-        let free = open_to_all(limits, ceilings, n, holders, kind, tos, others, m);
-        return Sets {
-            free: free,
-            lettered: none(),
-            held: none(),
-        };
-    }
-    sets_to_all(limits, ceilings, states, n, holders, kind, tos, others, m)
-}
-
-// The three sets of state i, whose m rules are all of this kind, one behind the other.
+// The three sets of state i, whose m rules are all of this kind, one behind the other. The second and third are empty
+// where some ceiling has no bound at all: that one is open to every rule and left beside every ceiling, so that they
+// would settle nothing more.
 pub fn put_group(
     boundless: bool,
     limits: &[u16],
@@ -209,22 +160,16 @@ pub fn put_group(
 )
     requires { ⌜ Holders (now limits) ceilings n (now holders) ⌝ }
     requires { ⌜ (m ≤ length (now tos)) × (m ≤ length (now others)) ⌝ }
-    requires { ⌜ (i < 65536) × (i * 12 + 12 ≤ length (now group)) ⌝ }
+    requires { ⌜ i * 12 + 12 ≤ length (now group) ⌝ }
     ensures { λ _. ⌜ Group-put (now (limits .entry)) ceilings states n kind (now (tos .entry)) (now (others .entry)) m
         i (now (group .entry)) (now (group .exit)) ⌝ }
 {
-    let sets = state_sets(
-        boundless,
-        limits,
-        ceilings,
-        states,
-        n,
-        holders,
-        kind,
-        tos,
-        others,
-        m,
-    );
+    if boundless {
+        let free = open_to_all(limits, ceilings, n, holders, kind, tos, others, m);
+        store_three(group, i, free, none(), none());
+        return;
+    }
+    let sets = sets_to_all(limits, ceilings, states, n, holders, kind, tos, others, m);
     store_three(group, i, sets.free, sets.lettered, sets.held);
 }
 

@@ -41,8 +41,8 @@ use Rattle.ceilings_form.proofs.Limited.{highest-limit}
 use Rattle.ceilings.specs.Table.{held, Limits-table}
 use Rattle.ceilings.proofs.Ahead.{Ahead, Counter-here, ahead-counter, ahead-none}
 use Rattle.ceilings_masks.specs.declared.Over.{Over}
-use Rattle.ceilings_masks.specs.Compared.{Holders, Counted, Above, Neighbours}
-use Rattle.ceilings_covers.specs.Covers.{Beside, covers, passes, named, Candidates, Exact, sure, Step-apart}
+use Rattle.ceilings_masks.specs.Compared.{Above, Beside}
+use Rattle.ceilings_covers.specs.Covers.{covers, passes, named, Candidates, Exact, sure, Step-apart}
 use Rattle.ceilings_covers.proofs.Covering.{covers-pass, pass-covers}
 use Rattle.ceilings_groups.specs.Groups.{table-ceilings, escapes, Open-all, Rules-open, Groups-upto, Group-put, step}
 use Rattle.ceilings_groups.proofs.Settling.{step-open}
@@ -62,10 +62,9 @@ shaped-step n σ small s = record { from = s .0; kind = small; read = λ e. subs
 pub first-low : (a r : ℕ) (f : ℕ → Bool) → a ≤ 256 → r ≡ first a 256 f → a ≤ r
 first-low a r f h e = let z = first-is a 256 f h .from in omega arith
 
--- one ceiling beside the others, by the code's values
-pub beside-at : (limits : List ℕ) (ceilings n k k₀ : ℕ) (holders : List ℕ) (over : Over) (near : List ℕ) → k ≡ k₀ → n * ceilings ≤ length limits → ceilings ≤ 256 → k₀ < ceilings → Holders limits ceilings n holders → Counted limits ceilings n k₀ over → Neighbours limits ceilings n k₀ near → n * 8 ≤ length near → Beside limits ceilings n k holders over near
-beside-at limits ceilings n k k₀ holders over near e room few below h c m a =
-    rw e (record { room = room; few = few; ceiling = below; held-by = h; counted = c; neighbours = m; near-room = a })
+-- one ceiling beside the others, by another name of its number
+pub beside-at : (limits : List ℕ) (ceilings n k k₀ : ℕ) (holders : List ℕ) (over : Over) (near : List ℕ) → k ≡ k₀ → Beside limits ceilings n k₀ holders over near → Beside limits ceilings n k holders over near
+beside-at limits ceilings n k k₀ holders over near e b = rw e b
 
 pub above-at : (limits : List ℕ) (ceilings states n k k₀ : ℕ) (over : Over) → k ≡ k₀ → Above limits ceilings states n k₀ over → Above limits ceilings states n k over
 above-at limits ceilings states n k k₀ over e c = rw e c

@@ -32,9 +32,9 @@ use Rattle.steps.specs.Steps.{rule-of-step, effect-of}
 use Rattle.ceilings.specs.Table.{held}
 use Rattle.ceilings_form.proofs.Limited.{highest-limit}
 use Rattle.ceilings_masks.specs.declared.Over.{Over}
-use Rattle.ceilings_masks.specs.Compared.{takes-more, allows, most}
+use Rattle.ceilings_masks.specs.Compared.{takes-more, allows, most, Beside}
 use Rattle.ceilings_masks.proofs.Comparing.{allows-one}
-use Rattle.ceilings_covers.specs.Covers.{Beside, Left, covers, moved, passes, sure}
+use Rattle.ceilings_covers.specs.Covers.{Left, covers, moved, passes, sure}
 use Rattle.ceilings_covers.proofs.Covering.{exact-at, pass-covers, sure-adds}
 use Rattle.ceilings_groups.specs.Groups.{table-ceilings, escapes}
 use Rattle.ceilings_groups.proofs.Leading.{any-same}
@@ -49,7 +49,7 @@ unfolding takes-more
 more-tables limits ceilings n k holders over near b =
     record {
       holders-room = b .held-by .room;
-      near-room = b .near-room;
+      near-room = b .room;
       not-held = λ x j l z h.
           let none : held limits ceilings k x ≡ 0 = eqb-true _ 0 (not-false _ z) in
           let least : 0 ≡ most limits ceilings k x = highest-limit (held limits ceilings k) x 0 (sym none) (λ u. omega arith) in

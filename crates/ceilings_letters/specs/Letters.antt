@@ -20,8 +20,8 @@ use Rattle.model.specs.Ceilings.{highest}
 use Rattle.state_rules.specs.Within.{letter-passes, Asked-letters}
 use Rattle.ceilings.specs.Table.{held}
 use Rattle.ceilings_masks.specs.declared.Over.{Over}
-use Rattle.ceilings_masks.specs.Compared.{takes-more}
-use Rattle.ceilings_covers.specs.Covers.{Beside, Left}
+use Rattle.ceilings_masks.specs.Compared.{takes-more, Beside}
+use Rattle.ceilings_covers.specs.Covers.{Left}
 use Rattle.ceilings_groups.specs.Groups.{table-ceilings, escapes}
 
 -- what the letters of ceiling k are looked up in, and the set for them: a bit for each counter behind the states
@@ -41,8 +41,8 @@ abbrev pub Held-set : List ℕ → ℕ → ℕ → ℕ → ℕ → ℕ → List 
 Held-set limits ceilings n k states words within =
     (y : ℕ) → states + y < n → member within words 0 y ≡ is-held limits ceilings k (states + y)
 
--- state i under ceiling k of the n counters: what is known of ceiling k beside the others, which are left after one less
--- at i, and, where it is wanted, the letters that ceiling k holds
+-- state i under ceiling k of the n counters: what is known of ceiling k beside the others, which are left after one
+-- less at i, and, where it is wanted, the letters that ceiling k holds
 pub record Under (ws : List ℕ) (s : Sizes) (n k i words : ℕ) (limits holders : List ℕ) (over : Over) (near : List ℕ)
     (left : Mask) (wanted : Bool) (within : List ℕ) : Type 0 where
   pub counted : n ≡ counter-count (program ws s) (tables ws s)

@@ -29,7 +29,8 @@ ghost use Rattle.model.specs.Tables.{tables};
 ghost use Rattle.lists.specs.Ready.{Ready};
 ghost use Rattle.layout.specs.Tables.{Ends};
 ghost use Rattle.ceilings_masks.specs.Compared.{takes-more};
-ghost use Rattle.ceilings_letters.specs.Letters.{Under, Letters-room, is-held, Held-set, One-more, Open-set, Narrowed};
+ghost use Rattle.ceilings_letters.specs.Letters.{Under, Letters-room, is-held, Held-set, One-more};
+ghost use Rattle.ceilings_letters.specs.Letters.{Open-set, Narrowed};
 
 // The letters that ceiling k holds, as a set, where they are asked for. Else nothing is promised of the set, nor ever
 // of bits behind the last letter: no one reads them.

@@ -1,6 +1,7 @@
 -- Ceilings compared at a counter, bit by bit.
 use Prim.Native.Nat.{ℕ, zero, suc, _+_, _*_, _/_, _%_, _^_, _≤_, _<_}
 use native.Mathlib.Decide.{ℕ-discrete, decLt}
+use native.Mathlib.Nat.{suc-mul}
 use native.Mathlib.Omega.{arith}
 use mathlib.Core.Path.{_≡_, refl, sym, _∙_, ap, subst}
 use mathlib.Core.Bool.{Bool, true, false, _&&_, _||_}
@@ -9,10 +10,10 @@ use lib.Bits.{bitOr}
 use lib.Dec.{eqb, leb, ltb}
 use lib.ListN.{getD, length}
 use borrow.Author.Tests.{eq-eqb, ne-eqb, le-leb, lt-leb, lt-ltb, le-ltb, leb-true, leb-false}
-use Rattle.model.specs.Limits.{omega-limit}
+use Rattle.model.specs.Limits.{maxCeilings, omega-limit}
 use Rattle.model.specs.Ceilings.{allowed}
 use Rattle.model.proofs.Logic.{test, and-none, or-none}
-use Rattle.bits.specs.Bits.{bit, member, Set-is}
+use Rattle.bits.specs.Bits.{bit, member, Row, Set-is}
 use Rattle.bits.proofs.Bits.{bit-or, bit-one, bit-zero}
 use Rattle.masks.specs.declared.Mask.{Mask}
 use Rattle.masks.specs.Masks.{words, has}
@@ -149,18 +150,22 @@ three-put i f g h u v w t one two three =
 
 -- the sets of no counter, those of one counter more, and those of all
 module _ (limits : List ℕ) (ceilings : ℕ) where
-  pub holders-none : (t : List ℕ) → Holders limits ceilings 0 t
-  holders-none t =
+  pub holders-none : (t : List ℕ) → ceilings ≤ maxCeilings → Holders limits ceilings 0 t
+  holders-none t few =
       record {
+        few = few;
+        table = omega arith;
         room = omega arith;
         holder = λ y k h. absurd (omega arith);
         holder-of-two = λ y k h. absurd (omega arith);
         no-bound = λ y k h. absurd (omega arith);
       }
 
-  pub holders-next : (x : ℕ) (one two all : Mask) (u t : List ℕ) → Holders limits ceilings x u → Three-put x (has one) (has two) (has all) u t → x * 12 + 12 ≤ length u → ((k : ℕ) → k < 256 → has one k ≡ reaches limits ceilings x 1 k) → ((k : ℕ) → k < 256 → has two k ≡ reaches limits ceilings x 2 k) → ((k : ℕ) → k < 256 → has all k ≡ reaches limits ceilings x omega-limit k) → Holders limits ceilings (x + 1) t
-  holders-next x one two all u t s p room a b c =
+  pub holders-next : (x : ℕ) (one two all : Mask) (u t : List ℕ) → Holders limits ceilings x u → Row limits ceilings x → Three-put x (has one) (has two) (has all) u t → x * 12 + 12 ≤ length u → ((k : ℕ) → k < 256 → has one k ≡ reaches limits ceilings x 1 k) → ((k : ℕ) → k < 256 → has two k ≡ reaches limits ceilings x 2 k) → ((k : ℕ) → k < 256 → has all k ≡ reaches limits ceilings x omega-limit k) → Holders limits ceilings (x + 1) t
+  holders-next x one two all u t s row p room a b c =
       record {
+        few = s .few;
+        table = omega (arith, suc-mul x ceilings, row .room);
         room = omega (arith, p .long, room);
         holder = λ y k h l. elim (ℕ-discrete y x) [
           | yes z ↦ rw z (p .first k l ∙ a k l)

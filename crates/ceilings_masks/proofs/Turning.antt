@@ -23,7 +23,7 @@ use Rattle.ceilings.proofs.Ahead.{Ahead, Counter-here, ahead-counter, ahead-non
 use Rattle.ceilings_masks.specs.declared.Over.{Over}
 use Rattle.steps.specs.Steps.{raised, as-limit}
 use Rattle.steps.proofs.Raising.{next-allowed}
-use Rattle.ceilings_masks.specs.Compared.{Two-put, allows, most, exceeds, exceeds-by-one, takes-more, exceeded, Counted, More-from, More-at, Above, Neighbours}
+use Rattle.ceilings_masks.specs.Compared.{Two-put, Holders, Beside, allows, most, exceeds, exceeds-by-one, takes-more, exceeded, Counted, More-from, More-at, Above, Neighbours}
 
 -- nothing passes from a up to b
 count-gap : (a d : ℕ) (f : ℕ → Bool) → ((y : ℕ) → a ≤ y → y < a + d → f y ≡ false) → count 0 (a + d) f ≡ count 0 a f
@@ -188,10 +188,18 @@ module _ (n : ℕ) (entries : Columns) (limits : List ℕ) (ceilings states k en
     pub turning-counter : (left entries i ≡ n → ⊥) → left entries i < n
     turning-counter h = ahead-counter n entries _ end i _ (t .ahead) h .below
 
-    pub turning-end : left entries i ≡ n → Counted limits ceilings n k over × (Above limits ceilings states n k over × Neighbours limits ceilings n k near)
-    turning-end h =
-        let gap = ahead-none n entries _ end i _ (t .ahead) h in
-        (counted-gap limits ceilings k (t .least) n over (t .low) gap (t .counted), (above-gap limits ceilings k states (t .least) n over gap (t .rising), near-gap limits ceilings k (t .least) n near gap (t .neighbours)))
+    pub turning-end : (holders : List ℕ) → left entries i ≡ n → k < ceilings → Holders limits ceilings n holders → n * 8 ≤ length near → Beside limits ceilings n k holders over near × Above limits ceilings states n k over
+    turning-end holders h low held-by room =
+        let gap = ahead-none n entries _ end i _ (t .ahead) h in (
+          record {
+            ceiling = low;
+            held-by = held-by;
+            counted = counted-gap limits ceilings k (t .least) n over (t .low) gap (t .counted);
+            room = room;
+            neighbours = near-gap limits ceilings k (t .least) n near gap (t .neighbours);
+          },
+          above-gap limits ceilings k states (t .least) n over gap (t .rising),
+        )
 
     pub turning-next : (r : Over) (m next : Mask) (near′ : List ℕ) (x : ℕ) → x ≡ left entries i → (left entries i ≡ n → ⊥) → ceilings ≤ 256 → ((j : ℕ) → j < 256 → has m j ≡ (ltb j ceilings && exceeds limits ceilings k j x)) → ((j : ℕ) → has (r .once) j ≡ (has (over .once) j || has m j)) → ((j : ℕ) → has (r .twice) j ≡ (has (over .twice) j || has (over .once) j && has m j)) → ((j : ℕ) → has (r .thrice) j ≡ (has (over .thrice) j || has (over .twice) j && has m j)) → ((j : ℕ) → j < 256 → has next j ≡ member near′ 4 (2 * x + 1) j) → More-at 0 x (over .above) next (r .above) → More-at states x (over .letters) next (r .letters) → Two-put x (exceeds-by-one limits ceilings k x) (takes-more limits ceilings k x) near near′ → Turning n entries limits ceilings states k end (i + 1) r near′
     turning-next r m next near′ x z h few is a b d is-more above letters p =

@@ -5,7 +5,7 @@ use mathlib.Core.Bool.{Bool, true, not, _&&_, _||_}
 use mathlib.Core.List.{List}
 use lib.ListN.{length}
 use lib.Dec.{leb, ltb}
-use Rattle.model.specs.Limits.{omega-limit}
+use Rattle.model.specs.Limits.{maxCeilings, omega-limit}
 use Rattle.model.specs.Index.{count}
 use Rattle.model.specs.Ceilings.{allowed, highest}
 use Rattle.bits.specs.Bits.{member}
@@ -37,9 +37,11 @@ pub record Three-put (i : ℕ) (f g h : ℕ → Bool) (u t : List ℕ) : Type 0 
   pub third : (k : ℕ) → k < 256 → member t 4 (3 * i + 2) k ≡ h k
   pub others : (y k : ℕ) → k < 256 → (y / 3 ≡ i → ⊥) → member t 4 y k ≡ member u 4 y k
 
--- for each of n counters three sets, one behind the other: of the ceilings that hold it at all, of those that hold two
--- of it, and of those where it is unbounded
+-- the limits of n counters under so many ceilings, and for each counter three sets, one behind the other: of the
+-- ceilings that hold it at all, of those that hold two of it, and of those where it is unbounded
 pub record Holders (limits : List ℕ) (ceilings n : ℕ) (holders : List ℕ) : Type 0 where
+  pub few : ceilings ≤ maxCeilings
+  pub table : n * ceilings ≤ length limits
   pub room : n * 12 ≤ length holders
   pub holder : (x k : ℕ) → x < n → k < 256 → member holders 4 (3 * x) k ≡ reaches limits ceilings x 1 k
   pub holder-of-two : (x k : ℕ) → x < n → k < 256 → member holders 4 (3 * x + 1) k ≡ reaches limits ceilings x 2 k
@@ -99,3 +101,11 @@ pub record Neighbours (limits : List ℕ) (ceilings e k : ℕ) (near : List ℕ)
   pub one-more :
       (x k′ : ℕ) → x < e → 1 ≤ held limits ceilings k x → k′ < 256 →
       member near 4 (2 * x + 1) k′ ≡ takes-more limits ceilings k x k′
+
+-- the tables of one ceiling beside all others
+pub record Beside (limits : List ℕ) (ceilings n k : ℕ) (holders : List ℕ) (over : Over) (near : List ℕ) : Type 0 where
+  pub ceiling : k < ceilings
+  pub held-by : Holders limits ceilings n holders
+  pub counted : Counted limits ceilings n k over
+  pub room : n * 8 ≤ length near
+  pub neighbours : Neighbours limits ceilings n k near

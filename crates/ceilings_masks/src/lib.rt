@@ -28,7 +28,7 @@ ghost use Rattle.ceilings_form.specs.Limits.{In-form};
 ghost use Rattle.ceilings_form.specs.Parts.{Whole};
 ghost use Rattle.ceilings.specs.Table.{Limits-table};
 ghost use Rattle.ceilings_masks.specs.Compared.{reaches, allows, Two-put, Three-put, Holders};
-ghost use Rattle.ceilings_masks.specs.Compared.{exceeds, exceeds-by-one, takes-more, More-at, Counted, Above, Neighbours};
+ghost use Rattle.ceilings_masks.specs.Compared.{exceeds, exceeds-by-one, takes-more, More-at, Above, Beside};
 
 // The ceilings that one ceiling exceeds at a counter, at two of them and at three; those that hold one more than it at
 // every counter that it limits, and those that do so at every letter that it limits.
@@ -131,9 +131,8 @@ pub fn allowing(
     x: usize,
     count: usize,
 ) -> Mask
-    requires { ⌜ (ceilings ≤ maxCeilings) × (x < n) ⌝ }
-    requires { ⌜ n * ceilings ≤ length (now limits) ⌝ }
     requires { ⌜ Holders (now limits) ceilings n (now holders) ⌝ }
+    requires { ⌜ x < n ⌝ }
     ensures { λ r. ⌜ ((k : ℕ) → k < 256 → has r k ≡ allows (now (limits .entry)) ceilings x count k) ⌝ }
 {
     if count == 0 {
@@ -192,10 +191,8 @@ fn put_counter(
     x: usize,
     near: &mut [u64],
 ) -> Mask
-    requires { ⌜ (ceilings ≤ maxCeilings) × (x < n) ⌝ }
-    requires { ⌜ k < ceilings ⌝ }
-    requires { ⌜ n * ceilings ≤ length (now limits) ⌝ }
     requires { ⌜ Holders (now limits) ceilings n (now holders) ⌝ }
+    requires { ⌜ (k < ceilings) × (x < n) ⌝ }
     requires { ⌜ n * 8 ≤ length (now near) ⌝ }
     ensures { λ r. ⌜
         ((j : ℕ) → j < 256 → has r j ≡ (ltb j ceilings && exceeds (now (limits .entry)) ceilings k j x)) ⌝ }
@@ -238,9 +235,9 @@ pub fn compare(
     requires { ⌜ Holders (now limits) (s .ceilings) n (now holders) ⌝ }
     requires { ⌜ (k < s .ceilings) × (e ≡ ceiling-entry n (ceiling-entries (now ws) s) k) ⌝ }
     requires { ⌜ n * 8 ≤ length (now near) ⌝ }
-    ensures { λ r. ⌜ Counted (now (limits .entry)) (s .ceilings) n k r ⌝ }
+    ensures { λ r. ⌜
+        Beside (now (limits .entry)) (s .ceilings) n k (now (holders .entry)) r (now (near .exit)) ⌝ }
     ensures { λ r. ⌜ Above (now (limits .entry)) (s .ceilings) (s .states) n k r ⌝ }
-    ensures { λ _. ⌜ Neighbours (now (limits .entry)) (s .ceilings) n k (now (near .exit)) ⌝ }
 {
     let mut over = Over {
         once: none(),

@@ -26,7 +26,7 @@ and-requires : tie.Need-and-requires
 and-requires c κs = search needs
 
 returns-4 : tie.Need-returns-4
-returns-4 c = (added-is _ _ _ _ _ (c .before .before .before .before .before .before .before .before .before .before .pre .1 .0) _ _ _ _ (search needs) (c .before .before .before .before .before .before .before .before .before .before .pre .0 .few) (c .before .before .before .before .if2 .left) (sym (c .before .before .before .takes-other .ensures) ∙ (c .before .before .if3 .left)) (c .before .before .before .before .before .before .before .before .before .before .pre .1 .1 .0) (c .before .one-more-at .ensures) (c .and .ensures) (c .before .before .before .before .before .before .before .before .before .before .pre .1 .1 .1), raised-and _ _ _ _ _ _ _ _ _ (c .before .one-more-at .ensures) (c .and .ensures))
+returns-4 c = (added-is _ _ _ _ _ (c .before .before .before .before .before .before .before .before .before .before .pre .1 .0) _ _ _ _ (search needs) (c .before .before .before .before .before .before .before .before .before .before .pre .0 .held-by .few) (c .before .before .before .before .if2 .left) (sym (c .before .before .before .takes-other .ensures) ∙ (c .before .before .if3 .left)) (c .before .before .before .before .before .before .before .before .before .before .pre .1 .1 .0) (c .before .one-more-at .ensures) (c .and .ensures) (c .before .before .before .before .before .before .before .before .before .before .pre .1 .1 .1), raised-and _ _ _ _ _ _ _ _ _ (c .before .one-more-at .ensures) (c .and .ensures))
 
 pub by-added-spec : {M : Type 1} → statement M
 by-added-spec =

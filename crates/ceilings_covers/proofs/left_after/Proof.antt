@@ -17,7 +17,7 @@ mul-first : tie.Need-mul-first
 mul-first c = search needs
 
 load-requires : tie.Need-load-requires
-load-requires c κs = record { room = omega (arith, c .before .before .before .before .before .pre .1 .0, c .before .before .before .before .before .pre .0 .near-room) }
+load-requires c κs = record { room = omega (arith, c .before .before .before .before .before .pre .1 .0, c .before .before .before .before .before .pre .0 .room) }
 
 without-requires-2 : tie.Need-without-requires-2
 without-requires-2 c κs = search needs
@@ -29,7 +29,7 @@ returns : tie.Need-returns
 returns c =
     let p = c .before .before .before .before .before .before .before .before .pre in
     let o = c .before .before .before .before .before .before .before .before .args .over in
-    left-is _ _ _ _ o (p .0 .few) (p .0 .counted) _ (p .1 .0) _
+    left-is _ _ _ _ o (p .0 .held-by .few) (p .0 .counted) _ (p .1 .0) _
     (λ j h. c .or .ensures j ∙ ap₂ (λ a b. a || b) (c .before .before .before .without .ensures j ∙ ap (λ b. b && not (has (o .once) j)) (c .before .before .before .before .below .ensures j h)) (c .before .without2 .ensures j ∙ ap (λ b. b && not (has (o .twice) j)) (c .before .before .load .ensures j h ∙ p .0 .neighbours .by-one _ j (p .1 .0) (p .1 .1) h)))
 
 pub left-after-spec : {M : Type 1} → statement M

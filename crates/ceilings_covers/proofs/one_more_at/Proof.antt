@@ -7,7 +7,7 @@ use Rattle.ceilings_covers.proofs.one_more_at.Statement.{statement}
 use Rattle.ceilings_covers.proofs.one_more_at.Tie as tie
 
 limit-requires : tie.Need-limit-requires
-limit-requires c κs = (c .before .before .before .pre .0 .ceiling, row-in _ (c .before .before .before .args .n) _ _ (c .before .before .before .pre .1) (c .before .before .before .pre .0 .room))
+limit-requires c κs = (c .before .before .before .pre .0 .ceiling, row-in _ (c .before .before .before .args .n) _ _ (c .before .before .before .pre .1) (c .before .before .before .pre .0 .held-by .table))
 
 raised-requires : tie.Need-raised-requires
 raised-requires c κs = search needs
@@ -17,7 +17,7 @@ cast-allowing c = search needs
 
 allowing-requires : tie.Need-allowing-requires
 allowing-requires c κs =
-    let beside = c .before .before .before .before .before .before .pre .0 in ((beside .few, c .before .before .before .before .before .before .pre .1), (beside .room, beside .held-by))
+    let beside = c .before .before .before .before .before .before .pre .0 in (beside .held-by, c .before .before .before .before .before .before .pre .1)
 
 returns : tie.Need-returns
 returns c =
@@ -30,7 +30,7 @@ add-second : tie.Need-add-second
 add-second c = search needs
 
 load-requires : tie.Need-load-requires
-load-requires c κs = record { room = omega (arith, c .before .before .before .before .before .pre .1, c .before .before .before .before .before .pre .0 .near-room) }
+load-requires c κs = record { room = omega (arith, c .before .before .before .before .before .pre .1, c .before .before .before .before .before .pre .0 .room) }
 
 returns-2 : tie.Need-returns-2
 returns-2 c = λ j h. c .load .ensures j h ∙ c .before .before .before .before .before .before .pre .0 .neighbours .one-more _ j (c .before .before .before .before .before .before .pre .1) (omega (arith, c .before .before .limit .ensures .0, c .before .if1 .left)) h

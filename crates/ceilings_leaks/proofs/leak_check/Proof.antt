@@ -124,7 +124,7 @@ left-after-requires c κs =
     let p = c .before .before .before .before .before .before .before .before .before .before .before .before .before .before .before .before .before .before .before .before .before .before .before .before .before .before .before .before .before .before .before .pre in
     let h = c .before .before .before .before .states .inv in
     let few = states-few _ _ _ _ (p .0 .ready) (p .1 .0 .counted) (p .1 .0 .limits-table) in
-    (beside-at _ _ _ _ _ _ _ _ (h .0) (room-all _ _ _ _ (p .1 .0 .in-form) (p .1 .0 .limits-table)) (p .0 .ready .limits .ceilings) (c .before .before .before .before .before .before .before .before .before .before .before .before .before .before .ceilings-test .taken) (p .1 .0 .held-by) (c .before .before .before .before .before .before .before .before .before .before .before .compare .ensures .0) (c .before .before .before .before .before .before .before .before .before .before .before .compare .ensures .1 .1) (omega (arith, c .before .before .before .before .before .before .before .before .before .before .before .compare .kept .1 .1 .1 .1 .1 .1 .1 .0, c .before .before .before .before .before .before .before .before .before .before .before .before .before .before .before .ceilings .inv .4, p .1 .1 .1 .1 .1 .near-room)), (omega (arith, few, c .before .if1 .left), walk-limit _ _ _ _ _ (p .1 .1 .0) _ _ _ (h .1) few _ (c .before .before .before .counter-at .ensures) (c .before .if1 .left)))
+    (beside-at _ _ _ _ _ _ _ _ (h .0) (c .before .before .before .before .before .before .before .before .before .before .before .compare .ensures .0), (omega (arith, few, c .before .if1 .left), walk-limit _ _ _ _ _ (p .1 .1 .0) _ _ _ (h .1) few _ (c .before .before .before .counter-at .ensures) (c .before .if1 .left)))
 
 settled-requires : tie.Need-settled-requires Inv-loop μ-loop Inv-candidates μ-candidates Inv-rules μ-rules Inv-states μ-states Inv-ceilings μ-ceilings
 settled-requires c κs = omega (arith, c .before .before .if1 .left, c .before .before .before .before .before .before .before .before .before .before .before .before .before .before .before .before .before .before .before .before .before .before .before .before .before .before .before .before .before .before .before .before .pre .1 .1 .1 .1 .0)
@@ -138,7 +138,7 @@ states-again c =
     let h = c .before .before .before .before .before .before .before .states .inv in
     let g = p .1 .1 .0 in
     let few = states-few _ _ _ _ (p .0 .ready) (p .1 .0 .counted) (p .1 .0 .limits-table) in
-    (h .0, walk-settled _ _ _ _ _ g _ _ _ (h .1) few _ (c .before .before .before .before .before .before .counter-at .ensures) (c .before .before .before .before .if1 .left) (state-none _ _ _ _ _ _ (settles _ _ _ _ _ _ (c .before .before .left-after .ensures) (λ z. omega (arith, c .before .before .before .before .before .before .before .before .before .before .before .before .before .before .before .before .before .before .before .before .before .before .before .before .before .before .before .before .shared-slice-known6 .given z)) _ _ (above-at _ _ _ _ _ _ _ (h .0) (c .before .before .before .before .before .before .before .before .before .before .before .before .before .before .compare .ensures .1 .0)) _ _ _ _ (c .before .before .before .before .if1 .left) g (sym (c .before .settled .ensures) ∙ c .if2 .taken))), h .2, h .3, h .4)
+    (h .0, walk-settled _ _ _ _ _ g _ _ _ (h .1) few _ (c .before .before .before .before .before .before .counter-at .ensures) (c .before .before .before .before .if1 .left) (state-none _ _ _ _ _ _ (settles _ _ _ _ _ _ (c .before .before .left-after .ensures) (λ z. omega (arith, c .before .before .before .before .before .before .before .before .before .before .before .before .before .before .before .before .before .before .before .before .before .before .before .before .before .before .before .before .shared-slice-known6 .given z)) _ _ (above-at _ _ _ _ _ _ _ (h .0) (c .before .before .before .before .before .before .before .before .before .before .before .before .before .before .compare .ensures .1)) _ _ _ _ (c .before .before .before .before .if1 .left) g (sym (c .before .settled .ensures) ∙ c .if2 .taken))), h .2, h .3, h .4)
 
 slice-aggregate-rules-under : tie.Need-slice-aggregate-rules-under Inv-loop μ-loop Inv-candidates μ-candidates Inv-rules μ-rules Inv-states μ-states Inv-ceilings μ-ceilings
 slice-aggregate-rules-under c = search needs
@@ -148,7 +148,7 @@ rules-under-requires c κs =
     let p = c .before .before .before .before .before .before .before .before .before .before .before .before .before .before .before .before .before .before .before .before .before .before .before .before .before .before .before .before .before .before .before .before .before .before .before .before .before .before .pre in
     let h = c .before .before .before .before .before .before .before .before .before .before .before .states .inv in
     let l = c .before .before .before .before .before .before .before .before .before .before .before .before .before .before .before .before .before .before .before .before .before .before .ceilings .inv in
-    (p .0, (record { counted = p .1 .0 .counted; state = c .before .before .before .before .before .before .before .before .if1 .left; width = c .before .before .before .before .before .before .before .before .before .before .before .before .before .before .before .before .before .before .before .before .before .before .before .set-words .ensures; beside = beside-at _ _ _ _ _ _ _ _ (h .0) (room-all _ _ _ _ (p .1 .0 .in-form) (p .1 .0 .limits-table)) (p .0 .ready .limits .ceilings) (c .before .before .before .before .before .before .before .before .before .before .before .before .before .before .before .before .before .before .before .before .before .ceilings-test .taken) (p .1 .0 .held-by) (c .before .before .before .before .before .before .before .before .before .before .before .before .before .before .before .before .before .before .compare .ensures .0) (c .before .before .before .before .before .before .before .before .before .before .before .before .before .before .before .before .before .before .compare .ensures .1 .1) (omega (arith, c .before .before .before .before .before .before .before .before .before .before .before .before .before .before .before .before .before .before .compare .kept .1 .1 .1 .1 .1 .1 .1 .0, c .before .before .before .before .before .before .before .before .before .before .before .before .before .before .before .before .before .before .before .before .before .before .ceilings .inv .4, p .1 .1 .1 .1 .1 .near-room)); remains = c .before .before .before .before .before .before .left-after .ensures; row = rw (c .before .before .before .before .before .before .before .before .before .before .before .before .before .before .before .before .before .before .before .before .before .before .before .set-words .ensures) (set-room (p .0 .ready) _ (p .0 .few) (c .before .before .before .before .before .before .before .before .before .before .before .before .before .held-letters .kept .1 .1 .1 .1 .1 .1 .0 ∙ l .6)); holds = rw (h .0) (c .before .before .before .before .before .before .before .before .before .before .before .before .before .held-letters .ensures) }, (room-kept _ _ _ _ _ _ (p .1 .1 .1 .1 .1 .rules) (h .2 ∙ l .2) (h .3 ∙ l .3), h .4)))
+    (p .0, (record { counted = p .1 .0 .counted; state = c .before .before .before .before .before .before .before .before .if1 .left; width = c .before .before .before .before .before .before .before .before .before .before .before .before .before .before .before .before .before .before .before .before .before .before .before .set-words .ensures; beside = beside-at _ _ _ _ _ _ _ _ (h .0) (c .before .before .before .before .before .before .before .before .before .before .before .before .before .before .before .before .before .before .compare .ensures .0); remains = c .before .before .before .before .before .before .left-after .ensures; row = rw (c .before .before .before .before .before .before .before .before .before .before .before .before .before .before .before .before .before .before .before .before .before .before .before .set-words .ensures) (set-room (p .0 .ready) _ (p .0 .few) (c .before .before .before .before .before .before .before .before .before .before .before .before .before .held-letters .kept .1 .1 .1 .1 .1 .1 .0 ∙ l .6)); holds = rw (h .0) (c .before .before .before .before .before .before .before .before .before .before .before .before .before .held-letters .ensures) }, (room-kept _ _ _ _ _ _ (p .1 .1 .1 .1 .1 .rules) (h .2 ∙ l .2) (h .3 ∙ l .3), h .4)))
 
 kind-at-requires : tie.Need-kind-at-requires Inv-loop μ-loop Inv-candidates μ-candidates Inv-rules μ-rules Inv-states μ-states Inv-ceilings μ-ceilings
 kind-at-requires c κs = (c .before .before .before .before .before .before .before .before .before .before .before .before .before .before .before .before .before .before .before .before .before .before .before .before .before .before .before .before .before .before .before .before .before .before .before .before .before .before .before .before .before .before .before .pre .0 .ready, c .before .before .before .before .before .before .before .before .before .before .before .before .before .if1 .left)
@@ -212,7 +212,7 @@ candidates-requires : tie.Need-candidates-requires Inv-loop μ-loop Inv-candidat
 candidates-requires c κs =
     let p = c .before .before .before .before .before .before .before .before .before .before .before .before .before .before .before .before .before .before .before .before .before .before .before .before .before .before .before .before .before .before .before .before .before .before .before .before .before .before .before .before .before .before .before .before .before .before .before .before .before .before .before .pre in
     let h = c .before .before .before .before .before .before .before .before .before .before .before .before .before .before .before .before .before .before .before .before .before .before .before .before .states .inv in
-    (beside-at _ _ _ _ _ _ _ _ (h .0) (room-all _ _ _ _ (p .1 .0 .in-form) (p .1 .0 .limits-table)) (p .0 .ready .limits .ceilings) (c .before .before .before .before .before .before .before .before .before .before .before .before .before .before .before .before .before .before .before .before .before .before .before .before .before .before .before .before .before .before .before .before .before .before .ceilings-test .taken) (p .1 .0 .held-by) (c .before .before .before .before .before .before .before .before .before .before .before .before .before .before .before .before .before .before .before .before .before .before .before .before .before .before .before .before .before .before .before .compare .ensures .0) (c .before .before .before .before .before .before .before .before .before .before .before .before .before .before .before .before .before .before .before .before .before .before .before .before .before .before .before .before .before .before .before .compare .ensures .1 .1) (omega (arith, c .before .before .before .before .before .before .before .before .before .before .before .before .before .before .before .before .before .before .before .before .before .before .before .before .before .before .before .before .before .before .before .compare .kept .1 .1 .1 .1 .1 .1 .1 .0, c .before .before .before .before .before .before .before .before .before .before .before .before .before .before .before .before .before .before .before .before .before .before .before .before .before .before .before .before .before .before .before .before .before .before .before .ceilings .inv .4, p .1 .1 .1 .1 .1 .near-room)), (step-shape _ _ _ _ (p .0 .ready) (p .1 .0 .counted) (p .1 .0 .limits-table) (c .before .before .before .before .before .before .before .before .before .before .before .before .before .before .before .before .before .before .before .before .before .before .before .before .states .k) _ _ _ _ _ _ _ (c .before .before .before .before .before .before .before .before .before .before .before .before .before .before .before .before .before .before .before .before .before .if1 .left) (c .before .before .before .before .before .before .rules .inv .3) (c .before .before .before .before .before .before .before .kind-at .ensures .0) (c .before .before .before .before .before .before .before .kind-at .ensures .1) (c .before .before .before .before .before .before .rules .inv .2) (c .before .before .before .before .before .rules-test .taken), (c .before .before .before .before .before .before .before .before .before .before .before .before .before .before .before .before .before .before .before .left-after .ensures, sym (c .before .before .is-usable .ensures) ∙ not-false _ (c .before .if3 .left))))
+    (beside-at _ _ _ _ _ _ _ _ (h .0) (c .before .before .before .before .before .before .before .before .before .before .before .before .before .before .before .before .before .before .before .before .before .before .before .before .before .before .before .before .before .before .before .compare .ensures .0), (step-shape _ _ _ _ (p .0 .ready) (p .1 .0 .counted) (p .1 .0 .limits-table) (c .before .before .before .before .before .before .before .before .before .before .before .before .before .before .before .before .before .before .before .before .before .before .before .before .states .k) _ _ _ _ _ _ _ (c .before .before .before .before .before .before .before .before .before .before .before .before .before .before .before .before .before .before .before .before .before .if1 .left) (c .before .before .before .before .before .before .rules .inv .3) (c .before .before .before .before .before .before .before .kind-at .ensures .0) (c .before .before .before .before .before .before .before .kind-at .ensures .1) (c .before .before .before .before .before .before .rules .inv .2) (c .before .before .before .before .before .rules-test .taken), (c .before .before .before .before .before .before .before .before .before .before .before .before .before .before .before .before .before .before .before .left-after .ensures, sym (c .before .before .is-usable .ensures) ∙ not-false _ (c .before .if3 .left))))
 
 surely-covered-requires : tie.Need-surely-covered-requires Inv-loop μ-loop Inv-candidates μ-candidates Inv-rules μ-rules Inv-states μ-states Inv-ceilings μ-ceilings
 surely-covered-requires c κs = search needs

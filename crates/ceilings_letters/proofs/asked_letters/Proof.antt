@@ -55,7 +55,7 @@ same-length-2 c = search needs
 returns-3 : tie.Need-returns-3
 returns-3 c =
     let p = c .before .before .before .before .before .before .before .before .before .before .before .before .before .before .before .before .before .before .before .pre in
-    open-narrowed _ _ _ _ _ _ _ _ _ (p .1 .0 .counted) (p .1 .0 .width) _ _ (c .before .before .before .before .before .before .before .before .before .state-location .ensures) (c .before .before .before .before .before .before .before .before .tag .ensures) _ _ _ _ (c .before .before .before .before .before .before .before .if2 .left) (p .1 .0 .beside .few) (p .1 .0 .state) (p .1 .0 .remains) (c .before .before .before .before .before .before .rest .ensures) (c .before .before .before .before .before .onward .ensures) (c .before .before .before .before .left-moved .ensures) (c .before .before .open-letters .ensures)
+    open-narrowed _ _ _ _ _ _ _ _ _ (p .1 .0 .counted) (p .1 .0 .width) _ _ (c .before .before .before .before .before .before .before .before .before .state-location .ensures) (c .before .before .before .before .before .before .before .before .tag .ensures) _ _ _ _ (c .before .before .before .before .before .before .before .if2 .left) (p .1 .0 .beside .held-by .few) (p .1 .0 .state) (p .1 .0 .remains) (c .before .before .before .before .before .before .rest .ensures) (c .before .before .before .before .before .onward .ensures) (c .before .before .before .before .left-moved .ensures) (c .before .before .open-letters .ensures)
 
 pub asked-letters-spec : {M : Type 1} → statement M
 asked-letters-spec =

@@ -16,10 +16,10 @@ mul-first : tie.Need-mul-first
 mul-first c = search needs
 
 load-requires : tie.Need-load-requires
-load-requires c κs = record { room = omega (arith, c .before .before .before .before .pre .0 .1, c .before .before .before .before .pre .1 .1 .room) }
+load-requires c κs = record { room = omega (arith, c .before .before .before .before .pre .1, c .before .before .before .before .pre .0 .room) }
 
 returns-2 : tie.Need-returns-2
-returns-2 c = λ k h. c .load .ensures k h ∙ (c .before .before .before .before .before .pre .1 .1 .holder _ k (search needs) h ∙ allows-one _ _ _ _ k (search needs))
+returns-2 c = λ k h. c .load .ensures k h ∙ (c .before .before .before .before .before .pre .0 .holder _ k (search needs) h ∙ allows-one _ _ _ _ k (search needs))
 
 mul-second : tie.Need-mul-second
 mul-second c = search needs
@@ -28,10 +28,10 @@ add-second : tie.Need-add-second
 add-second c = search needs
 
 load-requires-2 : tie.Need-load-requires-2
-load-requires-2 c κs = record { room = omega (arith, c .before .before .before .before .before .pre .0 .1, c .before .before .before .before .before .pre .1 .1 .room) }
+load-requires-2 c κs = record { room = omega (arith, c .before .before .before .before .before .pre .1, c .before .before .before .before .before .pre .0 .room) }
 
 returns-3 : tie.Need-returns-3
-returns-3 c = λ k h. c .load2 .ensures k h ∙ (c .before .before .before .before .before .before .pre .1 .1 .holder-of-two _ k (search needs) h ∙ allows-two _ _ _ _ k (search needs))
+returns-3 c = λ k h. c .load2 .ensures k h ∙ (c .before .before .before .before .before .before .pre .0 .holder-of-two _ k (search needs) h ∙ allows-two _ _ _ _ k (search needs))
 
 mul-third : tie.Need-mul-third
 mul-third c = search needs
@@ -40,10 +40,10 @@ add-third : tie.Need-add-third
 add-third c = search needs
 
 load-requires-3 : tie.Need-load-requires-3
-load-requires-3 c κs = record { room = omega (arith, c .before .before .before .before .before .before .pre .0 .1, c .before .before .before .before .before .before .pre .1 .1 .room) }
+load-requires-3 c κs = record { room = omega (arith, c .before .before .before .before .before .before .pre .1, c .before .before .before .before .before .before .pre .0 .room) }
 
 returns-4 : tie.Need-returns-4
-returns-4 c = λ k h. c .load3 .ensures k h ∙ (c .before .before .before .before .before .before .before .pre .1 .1 .no-bound _ k (search needs) h ∙ allows-unbounded _ _ _ _ k (λ z. omega (arith, c .before .before .before .before .before .before .shared-slice-known .given z)) (search needs))
+returns-4 c = λ k h. c .load3 .ensures k h ∙ (c .before .before .before .before .before .before .before .pre .0 .no-bound _ k (search needs) h ∙ allows-unbounded _ _ _ _ k (λ z. omega (arith, c .before .before .before .before .before .before .shared-slice-known .given z)) (search needs))
 
 limits-from-requires : tie.Need-limits-from-requires
 limits-from-requires c κs = (search needs, row-in _ (c .before .before .before .before .before .before .args .n) _ _ (search needs) (search needs))

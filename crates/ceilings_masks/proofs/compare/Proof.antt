@@ -7,7 +7,7 @@ use borrow.Author.Needs.{needs}
 use Rattle.model.specs.Ceilings.{ceiling-entries}
 use Rattle.ceilings_form.specs.Limits.{ceiling-end}
 use Rattle.ceilings_form.proofs.Ceilings.{entries-size}
-use Rattle.ceilings.proofs.Begun.{begun, room-all}
+use Rattle.ceilings.proofs.Begun.{begun}
 use Rattle.ceilings_masks.proofs.Turning.{Turning, counted-start, turning-start, turning-inside, turning-counter, turning-end, turning-next}
 use Rattle.ceilings_masks.proofs.compare.Statement.{statement}
 use Rattle.ceilings_masks.proofs.compare.Tie as tie
@@ -50,7 +50,9 @@ same-length : tie.Need-same-length Inv-loop μ-loop
 same-length c = c .before .before .loop .inv .1
 
 returns : tie.Need-returns Inv-loop μ-loop
-returns c = turning-end _ _ _ _ _ _ _ _ _ _ (c .before .before .loop .inv .0) (sym (c .before .counter-at .ensures) ∙ c .if1 .taken)
+returns c =
+    let p = c .before .before .before .before .before .before .before .before .before .before .before .before .pre .1 .1 .1 in
+    turning-end _ _ _ _ _ _ _ _ _ _ (c .before .before .loop .inv .0) _ (sym (c .before .counter-at .ensures) ∙ c .if1 .taken) (p .1 .0 .0) (p .0) (omega (arith, p .1 .1, c .before .before .loop .inv .1))
 
 -- a counter that is not n is one of the n
 counter-low : (c : tie.After-put-counter-arg Inv-loop μ-loop) → c .before .before .counter-at .result < c .before .before .before .before .before .before .before .before .before .before .before .before .before .args .n
@@ -58,8 +60,8 @@ counter-low c = omega (arith, turning-counter _ _ _ _ _ _ _ _ _ _ (c .before .be
 
 put-counter-requires : tie.Need-put-counter-requires Inv-loop μ-loop
 put-counter-requires c κs =
-    let p = c .before .before .before .before .before .before .before .before .before .before .before .before .before .pre .1 in
-    ((c .before .before .before .before .before .before .before .before .before .before .before .before .before .pre .0 .limits .ceilings, counter-low c), (p .1 .1 .1 .0 .0, (room-all _ _ _ _ (p .0) (p .1 .0), (p .1 .1 .0, omega (arith, p .1 .1 .1 .1, c .before .before .before .loop .inv .1)))))
+    let p = c .before .before .before .before .before .before .before .before .before .before .before .before .before .pre .1 .1 .1 in
+    (p .0, ((p .1 .0 .0, counter-low c), omega (arith, p .1 .1, c .before .before .before .loop .inv .1)))
 
 mul-second : tie.Need-mul-second Inv-loop μ-loop
 mul-second c = record { fits = omega (arith, counter-low (c .before .before .before), c .before .before .before .before .before .before .before .before .before .before .before .before .before .before .before .before .pre .1 .1 .1 .1 .1, c .before .before .before .before .before .before .before .before .before .before .before .before .before .before .before .before .good .1 .1 .1 .1 .1 .1 .1) }

@@ -17,7 +17,7 @@ abbrev μ-loop : tie.MeasureT-loop
 μ-loop limits ceilings n holders₀ x₀ holders x = n - x
 
 loop-holds : tie.Need-loop-holds Inv-loop μ-loop
-loop-holds c = (holders-none _ _ _, refl, search needs)
+loop-holds c = (holders-none _ _ _ (c .before .before .pre .0 .0), refl, search needs)
 
 limits-from-requires : tie.Need-limits-from-requires Inv-loop μ-loop
 limits-from-requires c κs = (search needs, row-in _ (c .before .before .before .before .args .n) _ _ (c .loop-test .taken) (search needs))
@@ -39,7 +39,7 @@ loop-less c = search needs
 
 loop-again : tie.Need-loop-again Inv-loop μ-loop
 loop-again c =
-    (holders-next _ _ _ _ _ _ _ _ (c .before .before .before .before .before .before .before .before .loop .inv .0) (c .before .before .store-three .ensures) (omega (arith, c .before .before .before .before .before .before .before .loop-test .taken, c .before .before .before .before .before .before .before .before .loop .inv .1, c .before .before .before .before .before .before .before .before .before .before .before .pre .1 .1)) (c .before .before .before .before .before .before .limits-from .ensures) (c .before .before .before .before .before .limits-from2 .ensures) (c .before .before .before .before .limits-from3 .ensures), c .before .before .store-three .ensures .long ∙ c .before .before .before .before .before .before .before .before .loop .inv .1, search needs)
+    (holders-next _ _ _ _ _ _ _ _ (c .before .before .before .before .before .before .before .before .loop .inv .0) (row-in _ (c .before .before .before .before .before .before .before .before .before .before .before .args .n) _ _ (c .before .before .before .before .before .before .before .loop-test .taken) (search needs)) (c .before .before .store-three .ensures) (omega (arith, c .before .before .before .before .before .before .before .loop-test .taken, c .before .before .before .before .before .before .before .before .loop .inv .1, c .before .before .before .before .before .before .before .before .before .before .before .pre .1 .1)) (c .before .before .before .before .before .before .limits-from .ensures) (c .before .before .before .before .before .limits-from2 .ensures) (c .before .before .before .before .limits-from3 .ensures), c .before .before .store-three .ensures .long ∙ c .before .before .before .before .before .before .before .before .loop .inv .1, search needs)
 
 same-length : tie.Need-same-length Inv-loop μ-loop
 same-length c = search needs

@@ -30,22 +30,22 @@ cast-allowing : tie.Need-cast-allowing
 cast-allowing c = search needs
 
 allowing-requires-3 : tie.Need-allowing-requires-3
-allowing-requires-3 c κs = (c .before .before .before .before .before .before .before .before .before .pre .0, (c .before .before .before .before .before .before .before .before .before .pre .1 .1 .0, c .before .before .before .before .before .before .before .before .before .pre .1 .1 .1 .0))
+allowing-requires-3 c κs = (c .before .before .before .before .before .before .before .before .before .pre .0, c .before .before .before .before .before .before .before .before .before .pre .1 .0 .1)
 
 mul-first : tie.Need-mul-first
-mul-first c = record { fits = omega (arith, c .before .before .before .before .before .before .before .before .before .before .pre .0 .1, c .before .before .before .before .before .before .before .before .before .before .pre .1 .1 .1 .1, c .before .before .before .before .before .before .before .before .before .before .good .1 .1 .1 .1 .1 .1) }
+mul-first c = record { fits = omega (arith, c .before .before .before .before .before .before .before .before .before .before .pre .1 .0 .1, c .before .before .before .before .before .before .before .before .before .before .pre .1 .1, c .before .before .before .before .before .before .before .before .before .before .good .1 .1 .1 .1 .1 .1) }
 
 add-second : tie.Need-add-second
-add-second c = record { fits = omega (arith, c .before .before .before .before .before .before .before .before .before .before .pre .0 .1, c .before .before .before .before .before .before .before .before .before .before .pre .1 .1 .1 .1, c .before .before .before .before .before .before .before .before .before .before .good .1 .1 .1 .1 .1 .1) }
+add-second c = record { fits = omega (arith, c .before .before .before .before .before .before .before .before .before .before .pre .1 .0 .1, c .before .before .before .before .before .before .before .before .before .before .pre .1 .1, c .before .before .before .before .before .before .before .before .before .before .good .1 .1 .1 .1 .1 .1) }
 
 without-requires : tie.Need-without-requires
 without-requires c κs = search needs
 
 store-requires : tie.Need-store-requires
-store-requires c κs = record { room = omega (arith, c .before .before .before .before .before .before .before .before .before .before .before .before .pre .0 .1, c .before .before .before .before .before .before .before .before .before .before .before .before .pre .1 .1 .1 .1) }
+store-requires c κs = record { room = omega (arith, c .before .before .before .before .before .before .before .before .before .before .before .before .pre .1 .0 .1, c .before .before .before .before .before .before .before .before .before .before .before .before .pre .1 .1) }
 
 store-requires-2 : tie.Need-store-requires-2
-store-requires-2 c κs = record { room = omega (arith, c .before .before .before .before .before .before .before .before .before .before .before .before .before .before .before .before .pre .0 .1, c .before .before .before .store .ensures .long, c .before .before .before .before .before .before .before .before .before .before .before .before .before .before .before .before .pre .1 .1 .1 .1) }
+store-requires-2 c κs = record { room = omega (arith, c .before .before .before .before .before .before .before .before .before .before .before .before .before .before .before .before .pre .1 .0 .1, c .before .before .before .store .ensures .long, c .before .before .before .before .before .before .before .before .before .before .before .before .before .before .before .before .pre .1 .1) }
 
 below-requires : tie.Need-below-requires
 below-requires c κs = search needs

@@ -3,7 +3,7 @@ use mathlib.Core.Path.{_∙_}
 use Rattle.model.specs.Ceilings.{ceilings-of}
 use Rattle.system_totals.proofs.Walk.{room-kept}
 use Rattle.rule_tables.proofs.Joining.{long, lent-letters}
-use Rattle.leaks_stage.proofs.Laying.{rules-fit, spare-room, states-few}
+use Rattle.leaks_stage.proofs.Laying.{rules-fit, spare-room, states-few, with-holders}
 use borrow.Author.Needs.{needs}
 use Rattle.leaks_stage.proofs.leaks_on.Statement.{statement}
 use Rattle.leaks_stage.proofs.leaks_on.Tie as tie
@@ -27,13 +27,13 @@ spare-words-requires c κs = (c .before .before .before .before .before .before 
 fill-groups-requires : tie.Need-fill-groups-requires
 fill-groups-requires c κs =
     let l = c .before .before .before .before .before .before .before .before .before .before .before .before .before .before .before .before .before .before .before .before .before .before .before .before .before .before .pre .1 .0 in
-    (c .before .before .before .before .before .before .before .before .before .before .before .before .before .before .before .before .before .before .before .before .before .before .before .before .before .before .pre .0, (record { counted = l .counted; in-form = l .in-form; limits-table = l .limits-table; starts-table = l .starts-table; held-by = c .before .before .before .before .before .before .before .before .before .before .before .fill-holders .ensures }, ((spare-room _ _ _ _ _ _ (search needs) (c .before .before .before .before .before .before .before .before .before .before .before .before .before .before .before .before .before .before .before .before .before .before .before .before .before .before .pre .1 .1 .1 .0) (c .before .before .before .before .before .before .before .spare-words .ensures), c .before .before .before .before .before .before .before .before .before .before .before .before .before .before .before .before .before .before .before .before .before .before .before .before .before .before .pre .1 .1 .1 .1), omega (arith, c .before .before .before .before .before .before .before .before .before .before .before .before .before .before .before .before .before .before .before .before .before .before .before .before .before .before .pre .1 .1 .0 .states, states-few _ _ _ (l .counted)))))
+    (c .before .before .before .before .before .before .before .before .before .before .before .before .before .before .before .before .before .before .before .before .before .before .before .before .before .before .pre .0, (with-holders _ _ _ _ _ _ l (c .before .before .before .before .before .before .before .before .before .before .before .fill-holders .ensures), ((spare-room _ _ _ _ _ _ (search needs) (c .before .before .before .before .before .before .before .before .before .before .before .before .before .before .before .before .before .before .before .before .before .before .before .before .before .before .pre .1 .1 .1 .0) (c .before .before .before .before .before .before .before .spare-words .ensures), c .before .before .before .before .before .before .before .before .before .before .before .before .before .before .before .before .before .before .before .before .before .before .before .before .before .before .pre .1 .1 .1 .1), omega (arith, c .before .before .before .before .before .before .before .before .before .before .before .before .before .before .before .before .before .before .before .before .before .before .before .before .before .before .pre .1 .1 .0 .states, states-few _ _ _ (l .counted)))))
 
 leak-check-requires : tie.Need-leak-check-requires
 leak-check-requires c κs =
     let l = c .before .before .before .before .before .before .before .before .before .before .before .before .before .before .before .before .before .before .before .before .before .before .before .before .before .before .before .before .before .before .before .before .before .before .before .before .before .before .before .before .before .before .before .before .pre .1 .0 in
     let m = c .before .before .before .before .before .before .before .before .before .before .before .before .before .before .before .before .before .before .before .before .before .before .before .before .before .before .before .before .before .before .before .before .before .before .before .before .before .before .before .before .before .before .before .before .pre .1 .1 .0 in
-    (c .before .before .before .before .before .before .before .before .before .before .before .before .before .before .before .before .before .before .before .before .before .before .before .before .before .before .before .before .before .before .before .before .before .before .before .before .before .before .before .before .before .before .before .before .pre .0, (record { counted = l .counted; in-form = l .in-form; limits-table = l .limits-table; starts-table = l .starts-table; held-by = c .before .before .before .before .before .before .before .before .before .before .before .before .before .before .before .before .before .before .before .before .before .before .before .before .before .before .before .before .before .fill-holders .ensures }, (c .before .before .before .before .before .before .before .before .before .before .before .before .before .before .before .before .before .fill-groups .ensures .0, (c .before .before .before .before .before .before .before .before .before .before .before .before .before .before .before .before .before .fill-groups .ensures .1 .1, (omega (arith, m .states, states-few _ _ _ (l .counted)), record { rules = room-kept _ _ _ _ _ _ (c .before .before .before .before .before .before .before .before .before .before .before .before .before .before .before .before .before .before .before .before .before .before .before .before .before .before .before .before .before .before .before .before .before .before .before .before .before .before .before .before .before .before .before .before .pre .1 .1 .1 .0) (c .before .before .before .before .before .before .before .before .before .before .before .before .before .before .before .before .before .fill-groups .kept .1 .1 .1 .1 .1 .1 .1 .1 .1 .1 .1 .1 .0) (c .before .before .before .before .before .before .before .before .before .before .before .before .before .before .before .before .before .fill-groups .kept .1 .1 .1 .1 .1 .1 .1 .1 .1 .1 .1 .1 .1 .0); near-room = m .beside })))))
+    (c .before .before .before .before .before .before .before .before .before .before .before .before .before .before .before .before .before .before .before .before .before .before .before .before .before .before .before .before .before .before .before .before .before .before .before .before .before .before .before .before .before .before .before .before .pre .0, (with-holders _ _ _ _ _ _ l (c .before .before .before .before .before .before .before .before .before .before .before .before .before .before .before .before .before .before .before .before .before .before .before .before .before .before .before .before .before .fill-holders .ensures), (c .before .before .before .before .before .before .before .before .before .before .before .before .before .before .before .before .before .fill-groups .ensures .0, (c .before .before .before .before .before .before .before .before .before .before .before .before .before .before .before .before .before .fill-groups .ensures .1 .1, (omega (arith, m .states, states-few _ _ _ (l .counted)), record { rules = room-kept _ _ _ _ _ _ (c .before .before .before .before .before .before .before .before .before .before .before .before .before .before .before .before .before .before .before .before .before .before .before .before .before .before .before .before .before .before .before .before .before .before .before .before .before .before .before .before .before .before .before .before .pre .1 .1 .1 .0) (c .before .before .before .before .before .before .before .before .before .before .before .before .before .before .before .before .before .fill-groups .kept .1 .1 .1 .1 .1 .1 .1 .1 .1 .1 .1 .1 .0) (c .before .before .before .before .before .before .before .before .before .before .before .before .before .before .before .before .before .fill-groups .kept .1 .1 .1 .1 .1 .1 .1 .1 .1 .1 .1 .1 .1 .0); near-room = m .beside })))))
 
 same-length : tie.Need-same-length
 same-length c = c .before .before .before .before .before .before .before .before .before .before .before .before .before .before .before .before .before .before .before .before .before .before .before .before .before .before .before .before .before .before .before .before .before .before .before .before .before .fill-holders .kept .1 .1 .1 .0
