@@ -62,6 +62,7 @@ symmetric v w =
 
 mutual
   never : {v w : Value} → HoldsFunction v → Equal v w → ⊥
+  never {w = w} (is_one {f = f} {held = held}) e = elim e [ ]
   never (inside s) (one_constructor x) = never_each s x
 
   never_each : {vs ws : Bindings} → SomeFunction vs → EqualEach vs ws → ⊥

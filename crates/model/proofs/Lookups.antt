@@ -35,7 +35,7 @@ module _ (p : Program) (t : Tables) (closed : Closed p t) (classes : List ℕ) w
   abbrev pub Holds : ℕ → Value → Type 0
   Holds n v = Member t.flow n (row_for classes v) × Covered p t classes v
 
-  newest_held : {held : Bindings} {n : ℕ} {v : Value} → Held p t classes held → Newest n v held → Holds n v
+  newest_held : {n : ℕ} {v : Value} {held : Bindings} → Held p t classes held → Newest n v held → Holds n v
   newest_held h newest = (h.0, h.1)
   newest_held h (older other k) = newest_held h.2 k
 

@@ -40,8 +40,8 @@ pub record EqualityLaws : Type 0 where
 
 -- a value of the tables for the value of the run: the branch at row b may take it in the process's state, and reads the
 -- letter of the value of the run
-abbrev pub MayTake : Program → Tables → Process → ℕ → Value → Type 0
-MayTake p t q b v = (u : ℕ) × MayTake p t (state_in p q) b u × Memᴰ (value_letter p v) (letters_read p t b u)
+abbrev pub ProcessMayTake : Program → Tables → Process → ℕ → Value → Type 0
+ProcessMayTake p t q b v = (u : ℕ) × MayTake p t (state_in p q) b u × Memᴰ (value_letter p v) (letters_read p t b u)
 
 -- What matches in a run may match in the tables: of each process of a run, each branch, at a case or a receive.
 pub record MatchesMay (p : Program) (t : Tables) (q : Process) : Type 0 where
@@ -50,13 +50,13 @@ pub record MatchesMay (p : Program) (t : Tables) (q : Process) : Type 0 where
       Memᴰ b bs →
       Holds p q.held n v →
       Match p q.held b v held' →
-      MayTake p t q b v
+      ProcessMayTake p t q b v
   pub at_receive : (b : ℕ) (bs : List ℕ) (v : Value) (held' : Bindings) →
       head_at p q.location ≡ receives bs →
       Memᴰ b bs →
       Memᴰ v q.mailbox →
       Match p q.held b v held' →
-      MayTake p t q b v
+      ProcessMayTake p t q b v
 
 abbrev pub AllMatchesMay : Type 0
 AllMatchesMay =

@@ -35,7 +35,7 @@ pub record ReadRow (p : Program) (r n : ℕ) : Type 0 where
 member_index : {n : ℕ} (xs : List ℕ) → Memᴰ n xs → (i : ℕ) × (i < length xs) × (get_or xs i 0 ≡ n)
 member_index [] m = absurd (Memᴰ.not-nil m)
 member_index {n} (x ∷ xs) m =
-    ⊎_elim (λ (z : n ≡ x). (0, omega arith, sym z)) (λ k. let (i, l, e) = member_index xs k in (suc i, omega arith, e)) (Memᴰ.cases_cons m)
+    ⊎_elim (λ (z : n ≡ x). (0, omega arith, sym z)) (λ (k : Memᴰ n xs). let i : (i : ℕ) × (i < length xs) × (get_or xs i 0 ≡ n) = member_index xs k in (suc i.0, omega arith, i.2)) (Memᴰ.cases_cons m)
 
 -- n numbers are at most n
 nums_few : (p : Program) (r n : ℕ) → length (nums p r n) ≤ n

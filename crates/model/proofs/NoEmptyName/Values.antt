@@ -32,12 +32,12 @@ module _ {p : Program} where
   newest_full (older ne k) (one_held f fs) = newest_full k fs
 
   -- each parameter is bound, and what the function keeps stays
-  pub bound_full : {ns : List ℕ} {vs kept held : Bindings} → BoundTo kept ns vs held → AllFull p kept → AllFull p vs → AllFull p held
+  pub bound_full : {kept : Bindings} {ns : List ℕ} {vs held : Bindings} → BoundTo kept ns vs held → AllFull p kept → AllFull p vs → AllFull p held
   bound_full no_parameters k h = k
   bound_full no_arguments k h = k
   bound_full (one_parameter b) k (one_held f fs) = one_held f (bound_full b k fs)
 
-  bound_still : {ns : List ℕ} {vs kept held : Bindings} → BoundTo kept ns vs held → (n : ℕ) → HoldsSomething p kept n → HoldsSomething p held n
+  bound_still : {kept : Bindings} {ns : List ℕ} {vs held : Bindings} → BoundTo kept ns vs held → (n : ℕ) → HoldsSomething p kept n → HoldsSomething p held n
   bound_still no_parameters n h = h
   bound_still no_arguments n h = h
   bound_still (one_parameter b) n h = still_holds (bound_still b n h)
@@ -45,7 +45,7 @@ module _ {p : Program} where
   pub bound_extends : {ns : List ℕ} {vs kept held : Bindings} → BoundTo kept ns vs held → Extends p kept held
   bound_extends b = record { holds = bound_still b }
 
-  pub bound_own : {ns : List ℕ} {vs kept held : Bindings} → BoundTo kept ns vs held → length ns ≡ length (names_of vs) → (i : ℕ) → i < length ns → HoldsSomething p held (get_or ns i 0)
+  pub bound_own : {kept : Bindings} {ns : List ℕ} {vs held : Bindings} → BoundTo kept ns vs held → length ns ≡ length (names_of vs) → (i : ℕ) → i < length ns → HoldsSomething p held (get_or ns i 0)
   unfolding names_of
   bound_own no_parameters e i l = absurd (omega arith)
   bound_own no_arguments e i l = absurd (omega arith)
@@ -60,11 +60,11 @@ module _ {p : Program} (fit : RowsFit p) where
       full_function r.below (rw r.tagged) (covers_global fit empty g r.tagged) none_held
   holds_full (local never k) h = newest_full k h
 
-  pub each_full : {ns : List ℕ} {vs held : Bindings} → HoldEach p held ns vs → AllFull p held → AllFull p vs
+  pub each_full : {held : Bindings} {ns : List ℕ} {vs : Bindings} → HoldEach p held ns vs → AllFull p held → AllFull p vs
   each_full no_names h = none_held
   each_full (one_name k ks) h = one_held (holds_full k h) (each_full ks h)
 
-  pub each_many : {ns : List ℕ} {vs held : Bindings} → HoldEach p held ns vs → length (names_of vs) ≡ length ns
+  pub each_many : {held : Bindings} {ns : List ℕ} {vs : Bindings} → HoldEach p held ns vs → length (names_of vs) ≡ length ns
   unfolding names_of
   each_many no_names = refl
   each_many (one_name k ks) = ap suc (each_many ks)
