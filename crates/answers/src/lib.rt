@@ -6,7 +6,7 @@ ghost use Rattle.answers.specs.Safe.{is_safe_of};
 use model::Verdict;
 
 // What document 01 prints of a verdict, and document 02 of its own.
-#[derive(Drop)]
+#[derive(Clone, Copy)]
 pub struct Told {
     pub number: usize,
     pub place: usize,

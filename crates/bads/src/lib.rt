@@ -18,7 +18,7 @@ use model::{
 use program::rows::{column, is_class, num};
 
 // What the next row is to be, and how many bads begin behind it.
-#[derive(Drop)]
+#[derive(Clone, Copy)]
 pub enum Expected {
     // the first item of a bad, of which there are so many
     Bads(usize),
@@ -33,7 +33,7 @@ pub enum Expected {
 }
 
 // What a row makes of it.
-#[derive(Drop)]
+#[derive(Clone, Copy)]
 pub enum Step {
     Wrong,
     Next(Expected),

@@ -16,14 +16,14 @@ use parts::ceilings_at;
 use program::rows::{cell, column};
 
 // Where entries stand: `size` counter numbers from word `at`, and behind these as many numbers.
-#[derive(Drop)]
+#[derive(Clone, Copy)]
 pub struct Part {
     pub at: usize,
     pub size: usize,
 }
 
 // Whether entries are in form: no entry is wrong, or this one is the first.
-#[derive(Drop)]
+#[derive(Clone, Copy)]
 pub enum Form {
     Right,
     Wrong(usize),

@@ -80,7 +80,7 @@ fn open_to_all(
 
 // Ceilings without a bound where the rules of a state add; without a bound at states and with one at letters; and with
 // one.
-#[derive(Drop)]
+#[derive(Clone, Copy)]
 struct Sets {
     free: Mask,
     lettered: Mask,

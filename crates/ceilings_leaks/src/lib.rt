@@ -46,7 +46,7 @@ fn kind_at(ws: &[u16], s: Sizes, i: usize) -> usize
 }
 
 // After all states: how many rules and rows there are, and whether the rules are kept.
-#[derive(Drop)]
+#[derive(Clone, Copy)]
 pub struct Gathered {
     pub totals: Totals,
     pub kept: Kept,

@@ -18,7 +18,7 @@ use steps::{as_limit, one_less, raised};
 
 // The ceilings that one ceiling exceeds at a counter, at two of them and at three; those that hold one more than it at
 // every counter that it limits, and those that do so at every letter that it limits.
-#[derive(Drop)]
+#[derive(Clone, Copy)]
 pub struct Over {
     pub once: Mask,
     pub twice: Mask,

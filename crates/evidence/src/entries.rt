@@ -15,7 +15,7 @@ use model::{Sizes, Verdict};
 use program::rows::is_class;
 
 // The three lists.
-#[derive(Drop)]
+#[derive(Clone, Copy)]
 pub enum Table {
     Flow,
     Mail,

@@ -15,14 +15,14 @@ use model::Sizes;
 use rule_tables::{rules_of, rules_within_of};
 
 // Whether the rules of all states so far are kept, and up to where in the lists.
-#[derive(Drop)]
+#[derive(Clone, Copy)]
 pub struct Kept {
     pub all: bool,
     pub used: usize,
 }
 
 // From where up to where the rules of a state stand.
-#[derive(Drop)]
+#[derive(Clone, Copy)]
 pub struct Found {
     pub first: usize,
     pub end: usize,

@@ -22,7 +22,7 @@ use system_letters::letter_count;
 use system_totals::Totals;
 
 // The verdict, and the totals of the rules, which are counted on the way.
-#[derive(Drop)]
+#[derive(Clone, Copy)]
 pub struct Leaks {
     pub verdict: Verdict,
     pub totals: Totals,

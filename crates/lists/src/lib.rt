@@ -16,7 +16,7 @@ use parts::tables_at;
 use program::rows::column;
 
 // Where a list stands: its size, and the words at which its columns begin; 0 for the third where it has two.
-#[derive(Drop)]
+#[derive(Clone, Copy)]
 pub struct Span {
     pub size: usize,
     pub lefts: usize,

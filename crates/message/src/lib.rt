@@ -15,14 +15,14 @@ use sizes::{
 };
 
 // The parts: whole, with their sizes, or the refusal.
-#[derive(Drop)]
+#[derive(Clone, Copy)]
 pub enum Parts {
     Whole(Sizes),
     Refused(Verdict),
 }
 
 // A check of one part.
-#[derive(Drop)]
+#[derive(Clone, Copy)]
 enum Checked {
     Pass,
     Fail(Verdict),

@@ -2,7 +2,7 @@
 
 // The sizes at the head of the parts of a message, in the order in which they stand there. Those of the fifth part,
 // request (v) of document 02, are 0 where a message has none.
-#[derive(Drop)]
+#[derive(Clone, Copy)]
 pub struct Sizes {
     pub rows: usize,
     pub names: usize,
@@ -24,7 +24,7 @@ pub struct Sizes {
 
 // The answer for a message: safe, or the refusal's word in document 01 with its position. specs/Verdict.antt gives
 // number and place.
-#[derive(Drop)]
+#[derive(Clone, Copy)]
 pub enum Verdict {
     Safe,
     Length(usize),

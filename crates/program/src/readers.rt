@@ -10,7 +10,7 @@ use model::{
 };
 
 // What a reader finds: the row past what it read, or the first row that does not fit.
-#[derive(Drop)]
+#[derive(Clone, Copy)]
 pub enum Next {
     Past(usize),
     Wrong(usize),

@@ -8,7 +8,7 @@ use model::{OMEGA, TAG_RECEIVE, TAG_SEND, TAG_SPAWN};
 
 // A rule: from a counter to a counter, and by its kind nothing (0), another counter read (1) or put (2), or a new
 // state (3).
-#[derive(Drop)]
+#[derive(Clone, Copy)]
 pub struct Step {
     pub from: usize,
     pub to: usize,

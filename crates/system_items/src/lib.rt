@@ -20,7 +20,7 @@ use sets::holds;
 use system_letters::letter_width;
 
 // Counters that stand together: those from `from` below `to`.
-#[derive(Drop)]
+#[derive(Clone, Copy)]
 pub struct Stretch {
     pub from: usize,
     pub to: usize,

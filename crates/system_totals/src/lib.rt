@@ -10,7 +10,7 @@ use lists::state_location;
 use model::{Sizes, TAG_PUTS, TAG_READS, TAG_RECEIVE, TAG_SEND, TAG_SPAWN, TAG_STARTS};
 use program::rows::tag;
 
-#[derive(Drop)]
+#[derive(Clone, Copy)]
 pub struct Totals {
     pub rules: usize,
     pub rows: usize,

@@ -27,14 +27,14 @@ use system_totals::{Totals, row_total, state_head};
 use weights_change::first_raised_by;
 
 // How many rules and rows there are, and the first line that a rule raises; the number of lines where none is raised.
-#[derive(Drop)]
+#[derive(Clone, Copy)]
 struct Risen {
     totals: Totals,
     line: usize,
 }
 
 // The verdict, and the totals of the rules.
-#[derive(Drop)]
+#[derive(Clone, Copy)]
 pub struct Rises {
     pub verdict: Verdict,
     pub totals: Totals,
