@@ -1,4 +1,6 @@
 // Verdicts as numbers, and whether anything was refused.
+#![tactic(auto)]
+
 ghost use Rattle.std.specs.Prelude.{◌≡◌};
 ghost use Rattle.model.specs.Verdict.{number, place};
 ghost use Rattle.answers.specs.Safe.{is_safe_of};

@@ -1,4 +1,6 @@
 // Words that ascend, and how a word is put among them.
+#![tactic(auto)]
+
 ghost use Rattle.std.specs.Prelude.{◌≡◌, ◌+◌, ◌≤◌, ◌<◌, length};
 ghost use Rattle.model.specs.Limits.{max_counters};
 ghost use Rattle.ascending.specs.Numbers.{Rising, Placed, Shifted, Added};

@@ -1,5 +1,7 @@
 // What a call, a send and a spawn ask whatever the state, as codes: 0 nothing, 1 the rest as a state, 2 something
 // lacks.
+#![tactic(auto)]
+
 ghost use Rattle.std.specs.Prelude.{◌≡◌, true, ◌+◌, ◌≤◌, ◌<◌};
 ghost use Rattle.model.specs.Rows.{program, tag, num};
 ghost use Rattle.model.specs.Heads.{call_at, parameters, takes};

@@ -1,4 +1,6 @@
 // Refusal 6: the rows of bads are in form, name classes, heads and letters of the program, and are B bads.
+#![tactic(auto)]
+
 ghost use Rattle.std.specs.Prelude.{◌≡◌, ◌+◌, ◌≤◌, ltb};
 ghost use Rattle.model.specs.Limits.{max_constructors};
 ghost use Rattle.model.specs.Rows.{program};

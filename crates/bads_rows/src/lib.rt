@@ -1,4 +1,6 @@
 // The rows of the bads: what stands in a row, where an item and a bad end.
+#![tactic(auto)]
+
 ghost use Rattle.std.specs.Prelude.{◌≡◌, ◌+◌, ◌≤◌, ◌<◌};
 ghost use Rattle.model.specs.Words.{left, right};
 ghost use Rattle.model.specs.Rows.{program};

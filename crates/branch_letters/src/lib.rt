@@ -1,4 +1,6 @@
 // The letters that a branch reads: those kept for the state that it leads to, else derived; how they are kept.
+#![tactic(auto)]
+
 ghost use Rattle.std.specs.Prelude.{◌≡◌, true, ◌+◌, ◌*◌, ◌≤◌, ◌<◌, length, get_or, set};
 ghost use Rattle.bits.specs.Bits.{Filled};
 ghost use Rattle.model.specs.Words.{left};

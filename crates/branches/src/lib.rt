@@ -1,4 +1,6 @@
 // The branches of a case and of a receive: which may match, as bits, and whether the expressions of those are states.
+#![tactic(auto)]
+
 ghost use Rattle.std.specs.Prelude.{◌≡◌, ◌<◌};
 ghost use Rattle.model.specs.Index.{implies};
 ghost use Rattle.model.specs.Rows.{program};

@@ -1,1 +1,2 @@
 // The tables of cases of the model's definitions, computed: no code here.
+#![tactic(auto)]

@@ -1,5 +1,7 @@
 // The table of limits, filled from the entries of the ceilings and read. Lines of weights have the form of ceilings, so
 // one function fills the table of either.
+#![tactic(auto)]
+
 ghost use Rattle.std.specs.Prelude.{◌≡◌, ◌+◌, ◌≤◌, ◌<◌};
 ghost use Rattle.model.specs.Limits.{omega_limit};
 ghost use Rattle.model.specs.Ceilings.{ceiling_entries, ceilings_of, highest};

@@ -1,5 +1,7 @@
 // Which ceilings may cover the counts after a step from the highest counts of a ceiling, as a mask; and the test of
 // one of them.
+#![tactic(auto)]
+
 ghost use Rattle.std.specs.Prelude.{◌≡◌, true, false, ◌&&◌, ◌||◌, ℕ, ◌+◌, ◌*◌, ◌≤◌, ◌<◌, eqb, length};
 ghost use Rattle.bits.specs.Bits.{Row};
 ghost use Rattle.masks.specs.Masks.{has};

@@ -1,5 +1,7 @@
 // The rules of a state as one: the ceilings that are open at every counter to which one of them adds. A ceiling is open
 // from `low` on at a counter: it has no bound there if the counter is below `low`, and holds one there if it is not.
+#![tactic(auto)]
+
 ghost use Rattle.std.specs.Prelude.{◌≡◌, true, ◌&&◌, ℕ, ◌+◌, ◌*◌, ◌≤◌, ◌<◌, length};
 ghost use Rattle.model.specs.Index.{any, all};
 ghost use Rattle.bits.specs.Bits.{member};

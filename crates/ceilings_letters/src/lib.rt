@@ -1,6 +1,8 @@
 // The letters under a ceiling: those that it holds, and those whose rules have to be looked at one by one. A rule that
 // reads a letter which the ceiling does not hold can't be used at its counts; and one that puts a letter is covered
 // where some ceiling that covers the step without the letter holds one more of it.
+#![tactic(auto)]
+
 ghost use Rattle.std.specs.Prelude.{◌≡◌, true, ℕ, ◌*◌, ◌≤◌, ◌<◌};
 ghost use Rattle.bits.specs.Bits.{Row};
 ghost use Rattle.masks.specs.Masks.{has};

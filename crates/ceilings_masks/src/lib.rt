@@ -1,4 +1,6 @@
 // Sets of ceilings, for each counter and for one ceiling beside the others.
+#![tactic(auto)]
+
 ghost use Rattle.std.specs.Prelude.{◌≡◌, ◌&&◌, ◌||◌, ℕ, ◌+◌, ◌*◌, ◌≤◌, ◌<◌, ltb, length};
 ghost use Rattle.model.specs.Limits.{max_ceilings, max_counters, omega_limit};
 ghost use Rattle.model.specs.Ceilings.{ceiling_entries, ceiling_entry, ceilings_of};

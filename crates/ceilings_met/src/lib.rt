@@ -1,4 +1,6 @@
 // The start and the bads under the ceilings: refusals 11 and 12.
+#![tactic(auto)]
+
 ghost use Rattle.std.specs.Prelude.{◌≡◌, ◌+◌, ◌*◌, ◌≤◌, ◌<◌, length};
 ghost use Rattle.model.specs.Limits.{max_counters};
 ghost use Rattle.model.specs.Index.{first};

@@ -1,4 +1,6 @@
 // Refusals 11 to 14 over scratch by need: each size of it is a function of its own.
+#![tactic(auto)]
+
 ghost use Rattle.std.specs.Prelude.{◌≡◌, ◌*◌, ◌≤◌, length};
 ghost use Rattle.model.specs.Verify.{answer};
 ghost use Rattle.rule_tables.specs.Joined.{JoinedTables};

@@ -1,4 +1,6 @@
 // Refusals 11 to 14, one after the other, over lent scratch; after none the listing is written.
+#![tactic(auto)]
+
 ghost use Rattle.std.specs.Prelude.{◌≡◌, ◌≤◌, ◌<◌, length};
 ghost use Rattle.model.specs.Verify.{answer};
 ghost use Rattle.rules.specs.Derived.{RuleRoom};

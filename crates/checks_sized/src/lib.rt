@@ -1,5 +1,7 @@
 // The names that fit patterns in three sizes by the rows and names, so that a small message does not pay for a
 // large one.
+#![tactic(auto)]
+
 pub mod verdict;
 
 ghost use Rattle.std.specs.Prelude.{◌≡◌, ◌≤◌, length};

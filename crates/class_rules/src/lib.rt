@@ -1,4 +1,6 @@
 // The rules for the letters of a class that a set has, and another set too where only letters of it are asked for.
+#![tactic(auto)]
+
 ghost use Rattle.std.specs.Prelude.{◌≡◌, not, ◌||◌, ℕ, ◌+◌, ◌*◌, ◌≤◌, ◌<◌, length, get_or};
 ghost use Rattle.bits.specs.Bits.{member, Row};
 ghost use Rattle.model.specs.Index.{any};

@@ -1,5 +1,7 @@
 // Refusal 8 over scratch by need: the sets of names, of mail and of patterns, what each head asks, and guesses of
 // states.
+#![tactic(auto)]
+
 ghost use Rattle.std.specs.Prelude.{◌≤◌, length};
 ghost use Rattle.closure.specs.Lent.{Openable, Opened};
 

@@ -1,6 +1,8 @@
 // Runs a stored corpus from standard input: prints number, place and two digests for each case, which the other
 // implementation stored in `stdout`. `oracle corpus 2 400 OUT` made both: OUT.bin is `stdin`. Their form is told in
 // oracle/README.md.
+#![tactic(auto)]
+
 mod cases;
 mod digest;
 

@@ -1,4 +1,6 @@
 // The grammar of a program's rows: a reader for each thing that holds an expression; refusal 3.
+#![tactic(auto)]
+
 ghost use Rattle.std.specs.Prelude.{◌≡◌, [], ◌∷◌, ◌+◌, ◌≤◌, ◌<◌, replicate};
 ghost use Rattle.model.specs.Rows.{program, tag, kind, global, expression, branches, body_form_of, branch_items, lead};
 ghost use Rattle.model.specs.Rows.{is_branch_count_of, declarations, whole, row_check_of};

@@ -1,4 +1,6 @@
 // The part of a message that is handed on.
+#![tactic(auto)]
+
 ghost use Rattle.std.specs.Prelude.{◌≡◌};
 ghost use Rattle.model.specs.Verify.{verdict, part_handed};
 

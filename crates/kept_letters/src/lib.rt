@@ -1,6 +1,8 @@
 // The letters that the branches of receives read, derived once: for each branch of each state that receives they are
 // kept for the state that it leads to. What is kept is looked at before it is taken (`branch_letters`), so nothing is
 // promised of how much is.
+#![tactic(auto)]
+
 ghost use Rattle.std.specs.Prelude.{◌≡◌, ◌+◌, ◌-◌, ◌≤◌, ◌<◌};
 ghost use Rattle.model.specs.Limits.{max_depth};
 ghost use Rattle.model.specs.Rows.{program, tag};

@@ -1,5 +1,7 @@
 // The rules of all states, kept where they are few: so that whoever goes over the states again and again derives them
 // once. One state's stand behind another's, in the two lists that hold the rules of one state.
+#![tactic(auto)]
+
 ghost use Rattle.std.specs.Prelude.{◌≡◌, Bool, true, false, ℕ, ◌+◌, ◌≤◌, ◌<◌, length, get_or, set};
 ghost use Rattle.model.specs.Rows.{program};
 ghost use Rattle.model.specs.Tables.{tables};

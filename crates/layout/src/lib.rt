@@ -1,3 +1,5 @@
 // How the rows of a program that fit lie: where expressions and patterns end.
+#![tactic(auto)]
+
 pub mod ends;
 pub mod tables;

@@ -1,5 +1,7 @@
 // Refusal 13 with all that it needs: the masks of the ceilings, the rules of each state counted and grouped, the leak
 // test.
+#![tactic(auto)]
+
 ghost use Rattle.std.specs.Prelude.{◌≡◌, ◌*◌, ◌≤◌, ◌<◌, min, length};
 ghost use Rattle.model.specs.Rows.{program};
 ghost use Rattle.model.specs.Tables.{tables};

@@ -1,4 +1,6 @@
 // The letters that mail allows, listed once, as numbers, class by class, ascending. Refusal 9 goes by their number.
+#![tactic(auto)]
+
 ghost use Rattle.std.specs.Prelude.{◌≡◌, ◌≤◌};
 ghost use Rattle.model.specs.Limits.{present, max_counters};
 ghost use Rattle.model.specs.Rows.{program};

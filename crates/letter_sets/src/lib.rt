@@ -1,4 +1,6 @@
 // The sets of letters: by what a digit is, and by mail entry.
+#![tactic(auto)]
+
 ghost use Rattle.std.specs.Prelude.{◌≡◌, ◌≤◌, ◌<◌};
 ghost use Rattle.model.specs.Limits.{max_arity};
 ghost use Rattle.model.specs.Rows.{program};

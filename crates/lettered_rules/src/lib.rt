@@ -1,5 +1,7 @@
 // The rules that go by letters, behind n rules of the two lists: of one value that the target of a send may have, and
 // of one branch of a receive.
+#![tactic(auto)]
+
 ghost use Rattle.std.specs.Prelude.{◌≡◌, Bool, true, ℕ, ◌+◌, ◌≤◌, get_or};
 ghost use Rattle.model.specs.Limits.{max_depth};
 ghost use Rattle.model.specs.Rows.{program, send, receive};

@@ -1,4 +1,6 @@
 // The flow, mail and state lists, as the words of the message have them.
+#![tactic(auto)]
+
 ghost use Rattle.std.specs.Prelude.{◌≡◌, Bool, [], ◌∷◌, ◌+◌, ◌≤◌, ◌<◌, length, get_or};
 ghost use Rattle.model.specs.Limits.{present};
 ghost use Rattle.model.specs.Words.{left, right};

@@ -1,4 +1,6 @@
 // Refusal 22 of document 02, (x): no value of the mail list is a function. It stands between 8 and 9.
+#![tactic(auto)]
+
 ghost use Rattle.std.specs.Prelude.{◌≡◌};
 ghost use Rattle.model.specs.Rows.{program};
 ghost use Rattle.model.specs.Limits.{max_counters};

@@ -1,4 +1,6 @@
 // Which names have a value that a pattern may match: a set of names for each pattern that asks for one.
+#![tactic(auto)]
+
 ghost use Rattle.std.specs.Prelude.{◌≡◌, ◌*◌, ◌<◌};
 ghost use Rattle.model.specs.Rows.{program};
 ghost use Rattle.model.specs.Tables.{tables, some_of};

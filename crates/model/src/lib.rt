@@ -1,4 +1,5 @@
 // The declared types and the limits that every crate above uses. There is no code here: specs/ say what the papers say.
+#![tactic(auto)]
 
 // The sizes at the head of the parts of a message, in the order in which they stand there. Those of the fifth part,
 // request (v) of document 02, are 0 where a message has none.

@@ -1,5 +1,7 @@
 // Where a state goes on. The states are found by guesses, which a table keeps by row for the class at hand; a guess is
 // looked at before it is taken, so that nothing rests on what the table holds.
+#![tactic(auto)]
+
 ghost use Rattle.std.specs.Prelude.{◌≡◌, ◌+◌, ◌<◌, length};
 ghost use Rattle.model.specs.Words.{left, right};
 ghost use Rattle.model.specs.Tables.{tables, state, onward, state_at, state_index_of};

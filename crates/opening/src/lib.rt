@@ -1,5 +1,7 @@
 // The opening entries: each tag 11 name holds its own row, and the start expression is a state of the starting
 // process, with nothing pushed.
+#![tactic(auto)]
+
 ghost use Rattle.std.specs.Prelude.{◌≡◌};
 ghost use Rattle.model.specs.Rows.{program};
 ghost use Rattle.model.specs.Heads.{start};

@@ -1,4 +1,6 @@
 // Where the parts of a message stand, by its sizes.
+#![tactic(auto)]
+
 ghost use Rattle.std.specs.Prelude.{◌≡◌, ◌+◌, ◌^◌, ◌<◌};
 ghost use Rattle.model.specs.Message.{table_cells_of, bads_offset, tables_offset, ceilings_offset, weights_offset, end_of};
 ghost use Rattle.parts.specs.Parts.{LowSizes};

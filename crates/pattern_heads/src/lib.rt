@@ -1,4 +1,6 @@
 // Which values the pattern of a branch may match by their constructors, and which heads fit a subpattern.
+#![tactic(auto)]
+
 ghost use Rattle.std.specs.Prelude.{◌≡◌, true, ◌⊎◌, ◌+◌, ◌-◌, ◌≤◌, ◌<◌};
 ghost use Rattle.model.specs.Limits.{max_depth};
 ghost use Rattle.model.specs.Rows.{program, tag};

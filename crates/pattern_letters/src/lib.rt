@@ -1,4 +1,6 @@
 // The letters that a branch reads of the mail of its class, as a set.
+#![tactic(auto)]
+
 ghost use Rattle.std.specs.Prelude.{◌≡◌, true, ◌||◌, ◌+◌, ◌-◌, ◌*◌, ◌≤◌, ◌<◌, eqb};
 ghost use Rattle.bits.specs.Bits.{Row};
 ghost use Rattle.model.specs.Demands.{WithinLimits};

@@ -1,5 +1,7 @@
 // The rules of the heads that go by no letter, all rules of a state at once: where they lead, and of a spawn the other
 // counter.
+#![tactic(auto)]
+
 ghost use Rattle.std.specs.Prelude.{◌≡◌, true, [], ◌≤◌, ◌<◌, length, get_or};
 ghost use Rattle.bits.specs.Bits.{bit};
 ghost use Rattle.model.specs.Words.{left, right};

@@ -1,4 +1,6 @@
 // Where the parts of a head stand.
+#![tactic(auto)]
+
 ghost use Rattle.std.specs.Prelude.{◌≡◌, true, ◌+◌, ◌<◌};
 ghost use Rattle.model.specs.Words.{left, right};
 ghost use Rattle.model.specs.Rows.{program, tag, is_head_of};

@@ -1,4 +1,6 @@
 // A system as text, put into a lent slice from a position on. Each function gives the position behind what it put.
+#![tactic(auto)]
+
 ghost use Rattle.std.specs.Prelude.{◌≡◌, ◌+◌, ◌*◌, ◌≤◌, ◌<◌, length, get_or};
 ghost use Rattle.text.specs.Text.{put_at, pair};
 ghost use Rattle.report.specs.System.{sizes_text, row_text, rows_text, system_text};

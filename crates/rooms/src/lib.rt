@@ -1,5 +1,7 @@
 // Cleared arrays. Each is made by a function whose contract says how long it is and that all is 0: so no caller's
 // proof counts it out. Some have a size of their own; those that hold any message go by the limits.
+#![tactic(auto)]
+
 ghost use Rattle.model.specs.Message.{max_words};
 ghost use Rattle.rooms.specs.Cleared.{Cleared};
 ghost use Rattle.rooms.specs.Rooms.{row_room, rule_words, name_sets_of, row_sets_of, fitting_sets_of};

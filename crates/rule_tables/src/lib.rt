@@ -1,5 +1,7 @@
 // The tables that the rules of a state are read from: four of words stand one behind the other in one lent slice, each
 // with room for any message, so that whoever needs rules hands on one slice and not four.
+#![tactic(auto)]
+
 ghost use Rattle.std.specs.Prelude.{◌≡◌, Bool, true, ℕ, ◌+◌, ◌≤◌, ◌<◌, length, get_or};
 ghost use Rattle.bits.specs.Bits.{Row, Filled};
 ghost use Rattle.model.specs.Limits.{present};

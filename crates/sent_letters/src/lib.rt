@@ -1,4 +1,6 @@
 // The letters that a send puts, as a set.
+#![tactic(auto)]
+
 ghost use Rattle.std.specs.Prelude.{◌≡◌, ◌+◌, ◌*◌, ◌<◌};
 ghost use Rattle.bits.specs.Bits.{Row};
 ghost use Rattle.model.specs.Demands.{WithinLimits};

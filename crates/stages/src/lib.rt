@@ -1,4 +1,6 @@
 // Refusals 10 or 16, 11, 12 and 18, each with the tables that it alone needs.
+#![tactic(auto)]
+
 ghost use Rattle.std.specs.Prelude.{◌≡◌, ◌≤◌, ◌<◌, length};
 ghost use Rattle.model.specs.Rows.{program};
 ghost use Rattle.model.specs.Bads.{bad_rows};

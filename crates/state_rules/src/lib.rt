@@ -1,4 +1,6 @@
 // The rules of a state, all at once: where they lead, and the other counter. All rules of a state are of one kind.
+#![tactic(auto)]
+
 ghost use Rattle.std.specs.Prelude.{◌≡◌, Bool, true, ℕ, ◌<◌};
 ghost use Rattle.bits.specs.Bits.{Row};
 ghost use Rattle.model.specs.Rows.{program, send, receive};

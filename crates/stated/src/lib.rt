@@ -1,4 +1,6 @@
 // What is asked of one state.
+#![tactic(auto)]
+
 pub mod calls;
 pub mod gives;
 pub mod states;

@@ -1,4 +1,6 @@
 // A limit raised by one; a rule by value, and the limit of a counter after it.
+#![tactic(auto)]
+
 ghost use Rattle.std.specs.Prelude.{◌≡◌, ◌-◌, ◌≤◌};
 ghost use Rattle.model.specs.Limits.{omega_limit};
 ghost use Rattle.steps.specs.Steps.{effect_kind_of, does_take_other, does_add_other, one_less_if};

@@ -1,4 +1,6 @@
 // The tables of the items' counters, as the check of bads under the ceilings is handed them (refusal 12).
+#![tactic(auto)]
+
 ghost use Rattle.std.specs.Prelude.{◌≡◌, true, ◌+◌, ◌≤◌, ◌<◌, get_or, eqb};
 ghost use Rattle.model.specs.Words.{left, right};
 ghost use Rattle.model.specs.Rows.{program};

@@ -1,4 +1,6 @@
 // The heads of values, which of them the values of each name have, and how many letters and counters there are.
+#![tactic(auto)]
+
 ghost use Rattle.std.specs.Prelude.{◌≡◌, ℕ, ◌*◌, ◌≤◌, ◌<◌, length, get_or};
 ghost use Rattle.model.specs.Rows.{program};
 ghost use Rattle.model.specs.Letters.{row_head_of};

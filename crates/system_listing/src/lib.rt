@@ -1,4 +1,6 @@
 // The listing is written: S, letters, rules, rows, then all tags, then all numbers.
+#![tactic(auto)]
+
 ghost use Rattle.std.specs.Prelude.{◌≡◌, ◌*◌, ◌+◌, ◌≤◌, ◌<◌, length, set};
 ghost use Rattle.model.specs.Rows.{program, kind};
 ghost use Rattle.model.specs.Tables.{tables};

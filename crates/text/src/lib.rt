@@ -1,4 +1,6 @@
 // Numbers as text, put into a lent slice from a position on. Each function gives the position behind what it put.
+#![tactic(auto)]
+
 ghost use Rattle.std.specs.Prelude.{◌≡◌, ◌+◌, ◌≤◌, ◌<◌, [], ◌∷◌, length};
 ghost use Rattle.text.specs.Text.{put_at, width, digit, digits, decimal, pair, line_end, line};
 

@@ -1,4 +1,6 @@
 // The values of names and of classes as sets of bits: one set of `width` words for each, which refusal 8 stands on.
+#![tactic(auto)]
+
 ghost use Rattle.std.specs.Prelude.{◌≡◌, ◌+◌, ◌≤◌, ◌<◌, length};
 ghost use Rattle.model.specs.Index.{first};
 ghost use Rattle.model.specs.Rows.{program};

@@ -1,4 +1,6 @@
 // The verifier: a message and lent words in; the verdict, the part handed on and the words written out.
+#![tactic(auto)]
+
 ghost use Rattle.std.specs.Prelude.{◌≡◌, length};
 ghost use Rattle.model.specs.Verdict.{number, place};
 ghost use Rattle.model.specs.Verify.{verdict, lent_after, part_handed};

@@ -1,5 +1,7 @@
 // Reads a message from standard input, lends 16,384 words, and prints the verdict's number and place; if it is safe,
 // the system too.
+#![tactic(auto)]
+
 mod tell;
 
 use tell::{message_room, room, tell};

@@ -1,4 +1,6 @@
 // The table of weights, filled from the entries of the lines and read.
+#![tactic(auto)]
+
 ghost use Rattle.std.specs.Prelude.{◌≡◌, ◌≤◌, ◌<◌};
 ghost use Rattle.model.specs.Limits.{omega_limit};
 ghost use Rattle.model.specs.Weights.{weight_entries, lines_of};

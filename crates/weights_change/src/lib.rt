@@ -1,4 +1,6 @@
 // The change that a rule makes to the weighed sum of a line, a signed number; the first line that rules raise.
+#![tactic(auto)]
+
 ghost use Rattle.std.specs.Prelude.{◌≡◌, ◌*◌, ◌≤◌, ◌<◌, length};
 ghost use Rattle.std.proofs.Math.IntN.{sub_ℕ};
 ghost use Rattle.model.specs.Limits.{omega_limit};

@@ -1,4 +1,6 @@
 // The entries of the lines of weights in form, refusal 16.
+#![tactic(auto)]
+
 ghost use Rattle.std.specs.Prelude.{◌≡◌, ◌≤◌};
 ghost use Rattle.model.specs.Limits.{present, max_counters};
 ghost use Rattle.model.specs.Weights.{weight_check_of};

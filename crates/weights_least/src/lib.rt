@@ -1,5 +1,7 @@
 // The least weight of a bad in a line: what its items lack is put on the lightest of their counters, items on a single
 // letter first, so that what these ask for counts for the groups too.
+#![tactic(auto)]
+
 ghost use Rattle.std.specs.Prelude.{◌≡◌, ◌+◌, ◌*◌, ◌≤◌, ◌<◌, length, get_or};
 ghost use Rattle.model.specs.Limits.{max_counters};
 ghost use Rattle.model.specs.Index.{total};

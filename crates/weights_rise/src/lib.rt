@@ -1,4 +1,6 @@
 // Refusal 17: a rule raises a line's weighed sum. The rules are counted on the way.
+#![tactic(auto)]
+
 ghost use Rattle.std.specs.Prelude.{◌≡◌, ◌+◌, ◌≤◌, length, get_or, eqb};
 ghost use Rattle.model.specs.declared.Verdict.TheVariants.{Rise};
 ghost use Rattle.model.specs.Limits.{present};

@@ -1,5 +1,7 @@
 // Refusals 17, 18 and 14 of a message with lines of weights: the table of weights and the rules of each state, over
 // scratch by need; after none the listing is written.
+#![tactic(auto)]
+
 ghost use Rattle.std.specs.Prelude.{◌≡◌, ◌≤◌, length};
 ghost use Rattle.model.specs.Verify.{answer};
 ghost use Rattle.rules.specs.Derived.{RuleRoom};

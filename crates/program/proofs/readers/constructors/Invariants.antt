@@ -1,0 +1,18 @@
+use Prim.Native.Nat.{◌+◌, ◌-◌, ◌≤◌, ◌<◌}
+use native.Mathlib.Omega.{arith}
+use mathlib.Core.Path.{◌≡◌, refl, ◌∙◌}
+use lib.ListN.{replicate}
+use borrow.Author.Rules.{rules}
+use borrow.Author.Tests.{not-true, not-false}
+use Rattle.model.specs.Rows.{program, constructor}
+use Rattle.program.specs.Rows.{from}
+use Rattle.program.proofs.Items.{constructor_says}
+use Rattle.program.proofs.Reading.{past_answer, wrong_answer, replicate_none, rows_turn, rows_halt}
+use Rattle.program.proofs.readers.constructors.Given as goal
+
+abbrev pub invariant-loop-left : goal.invariant-loop-left
+invariant-loop-left l =
+    (l.r ≤ l.s.rows) × (from (program l.ws l.s) (replicate l.s.constructors constructor) 0 ≡ from (program l.ws l.s) (replicate l.left constructor) l.r)
+
+abbrev pub decreases-loop-left : goal.decreases-loop-left
+decreases-loop-left l = l.left

@@ -1,0 +1,11 @@
+use mathlib.Core.Path.{ap}
+use lib.Dec.{leb}
+use borrow.Author.Rules.{rules}
+use Rattle.program.proofs.Items.{both, not_both}
+use Rattle.program.proofs.rows.is_small_row.Goals as goal
+
+pub returns-then-tag-t : goal.returns-then-tag-t
+returns-then-tag-t c = both _ _ _ _ _ c.tag.ensures c.if-tag-t.true (ap (λ n. leb n _) c.num.ensures)
+
+pub returns-else-tag-t : goal.returns-else-tag-t
+returns-else-tag-t c = not_both _ _ _ _ c.tag.ensures c.if-tag-t.false

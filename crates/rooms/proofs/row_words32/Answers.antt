@@ -1,0 +1,6 @@
+use Rattle.rooms.specs.Rooms.{row_room}
+use Rattle.rooms.proofs.Clearing.{cleared}
+use Rattle.rooms.proofs.row_words32.Goals as goal
+
+pub returns : goal.returns
+returns c = cleared row_room
