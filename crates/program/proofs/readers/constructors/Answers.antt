@@ -17,13 +17,13 @@ pub returns-then-not-is_small_row : goal.returns-then-not-is_small_row
 returns-then-not-is_small_row c =
     let l = c.loop-left in
     wrong_answer l.r
-    (l.invariant.1 ∙ rows_halt _ _ _ l.left l.r (search rules) (constructor_says _ _ _ _) c.is_small_row.ensures (not-true _ c.if-not-is_small_row.true))
+    (l.invariant.1 ∙ rows_halt _ _ _ l.left l.r (search rules) (constructor_says _ _ _ _) c.is_small_row.ensures c.if-not-is_small_row.true)
 
 -- one row more
 turned : (c : goal.Else-not-is_small_row) → let a = c.args in let l = c.loop-left in (l.r < a.s.rows) × (from (program a.ws.now a.s) (replicate l.left constructor) l.r ≡ from (program a.ws.now a.s) (replicate (l.left - 1) constructor) (l.r + 1))
 turned c =
     let l = c.loop-left in
-    rows_turn _ _ _ l.left l.r (search rules) (constructor_says _ _ _ _) c.is_small_row.ensures (not-false _ c.if-not-is_small_row.false)
+    rows_turn _ _ _ l.left l.r (search rules) (constructor_says _ _ _ _) c.is_small_row.ensures c.if-not-is_small_row.false
 
 pub overflow_add-r : goal.overflow_add-r
 overflow_add-r c = omega (arith, (turned c).0)

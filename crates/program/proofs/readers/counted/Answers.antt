@@ -12,17 +12,16 @@ use Rattle.program.proofs.Reading.{wrong_answer, go_on, stop}
 use Rattle.program.proofs.readers.counted.Goals as goal
 
 pub returns-then-not-is_small_row : goal.returns-then-not-is_small_row
-returns-then-not-is_small_row c = wrong_answer _ (stop _ _ _ _ _ (counted_says _ _ _ _ _ c.requires.r_le_rows.1) c.is_small_row.ensures (not-true _ c.if-not-is_small_row.true))
-
--- the count fits, and its rows follow
-entered : (c : goal.Else-not-is_small_row) → let a = c.args in let p = program a.ws.now a.s in (a.r < a.s.rows) × ((n : ℕ) → n ≡ num p a.r → from p (counted_items a.t ∷ []) a.r ≡ from p (replicate n (listed_item a.t)) (a.r + 1))
-entered c =
-    let a = c.args in
-    go_on _ _ _ (λ n. replicate n (listed_item a.t)) a.r (counted_says _ _ _ _ _ c.requires.r_le_rows.1)
-    c.is_small_row.ensures (not-false _ c.if-not-is_small_row.false)
+returns-then-not-is_small_row c = wrong_answer _ (stop _ _ _ _ _ (counted_says _ _ _ _ _ c.requires.r_le_rows.1) c.is_small_row.ensures c.if-not-is_small_row.true)
 
 pub names-requires : goal.names-requires
-names-requires c = record { whole = search rules; r_le_rows = (omega (arith, (entered c.before).0), c.requires.r_le_rows.1) }
+names-requires c =
+    let entered-here : let a = c.args in let p = program a.ws.now a.s in (a.r < a.s.rows) × ((n : ℕ) → n ≡ num p a.r → from p (counted_items a.t ∷ []) a.r ≡ from p (replicate n (listed_item a.t)) (a.r + 1)) = let a = c.args in
+    go_on _ _ _ (λ n. replicate n (listed_item a.t)) a.r (counted_says _ _ _ _ _ c.requires.r_le_rows.1)
+    c.is_small_row.ensures c.if-not-is_small_row.false in record { whole = search rules; r_le_rows = (omega (arith, entered-here.0), c.requires.r_le_rows.1) }
 
 pub returns : goal.returns
-returns c = c.names.ensures ∙ sym ((entered c.before.before).1 _ c.num-n.ensures)
+returns c =
+    let entered-here : let a = c.args in let p = program a.ws.now a.s in (a.r < a.s.rows) × ((n : ℕ) → n ≡ num p a.r → from p (counted_items a.t ∷ []) a.r ≡ from p (replicate n (listed_item a.t)) (a.r + 1)) = let a = c.args in
+    go_on _ _ _ (λ n. replicate n (listed_item a.t)) a.r (counted_says _ _ _ _ _ c.requires.r_le_rows.1)
+    c.is_small_row.ensures c.if-not-is_small_row.false in c.names.ensures ∙ sym (entered-here.1 _ c.num-n.ensures)

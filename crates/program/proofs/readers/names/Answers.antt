@@ -19,14 +19,14 @@ returns-then-not-is_row c =
     wrong_answer l.q
     (l.invariant.1 ∙
     rows_halt _ _ _ l.left l.q (search rules) (listed_says _ _ _ _ _ c.requires.r_le_rows.1)
-    c.is_row.ensures (not-true _ c.if-not-is_row.true))
+    c.is_row.ensures c.if-not-is_row.true)
 
 -- one row more
 turned : (c : goal.Else-not-is_row) → let a = c.args in let l = c.loop-left in (l.q < a.s.rows) × (from (program a.ws.now a.s) (replicate l.left (listed_item a.t)) l.q ≡ from (program a.ws.now a.s) (replicate (l.left - 1) (listed_item a.t)) (l.q + 1))
 turned c =
     let l = c.loop-left in
     rows_turn _ _ _ l.left l.q (search rules) (listed_says _ _ _ _ _ c.requires.r_le_rows.1)
-    c.is_row.ensures (not-false _ c.if-not-is_row.false)
+    c.is_row.ensures c.if-not-is_row.false
 
 pub overflow_add-q : goal.overflow_add-q
 overflow_add-q c = omega (arith, (turned c).0)

@@ -1,0 +1,24 @@
+use native.Mathlib.Omega.{arith}
+use mathlib.Core.Path.{refl}
+use mathlib.Core.Logic.{⊎_elim}
+use borrow.Author.Rules.{rules}
+use Rattle.ascending.proofs.Numbers.{strictly, placed_there, placed_new}
+use Rattle.ascending.proofs.insert.Goals as goal
+
+pub returns-then-codes-at : goal.returns-then-codes-at
+returns-then-codes-at c = record { added = placed_there c.requires.rising c.place-at.ensures c.if-at-n.true refl c.if-codes-at.true; upper_bound = omega arith }
+
+pub shift-requires : goal.shift-requires
+shift-requires c = (c.place-at.ensures.upto, c.requires.from_le_n.1, c.requires.from_le_n.2)
+
+pub offset_bounds-codes-at-2 : goal.offset_bounds-codes-at-2
+offset_bounds-codes-at-2 c = record { fits = omega (arith, c.place-at.ensures.upto, c.requires.from_le_n.1) }
+
+pub bounds-codes-at-2 : goal.bounds-codes-at-2
+bounds-codes-at-2 c = omega (arith, c.place-at.ensures.upto, c.requires.from_le_n.2, c.shift.ensures.long)
+
+pub returns : goal.returns
+returns c = record {
+        added = placed_new c.requires.rising c.place-at.ensures (λ l. ⊎_elim (λ a. strictly (c.place-at.ensures.more _ (omega arith) l) a.2.left) (λ a. absurd (omega arith)) c.if-at-n.branch) c.shift.ensures c.requires.from_le_n.2;
+        upper_bound = (omega arith, );
+    }

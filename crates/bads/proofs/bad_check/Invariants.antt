@@ -1,0 +1,12 @@
+use Prim.Native.Nat.{◌≤◌, ◌-◌}
+use native.Mathlib.Omega.{arith}
+use mathlib.Core.Path.{◌≡◌, refl}
+use borrow.Author.Rules.{rules}
+use Rattle.bads.proofs.BadRows.{first_bad, bad_from, begins, rows_held, turn_wrong, turn_next, ended_safe, ended_early}
+use Rattle.bads.proofs.bad_check.Given as goal
+
+abbrev pub invariant-loop-r : goal.invariant-loop-r
+invariant-loop-r l = (l.r ≤ l.s.badrows) × (first_bad l.ws l.s ≡ bad_from l.ws l.s l.expected l.r)
+
+abbrev pub decreases-loop-r : goal.decreases-loop-r
+decreases-loop-r l = l.s.badrows - l.r

@@ -1,0 +1,12 @@
+-- The loop's invariant: the mask has the ceilings that have no bound at the counters before x.
+use Prim.Native.Nat.{◌-◌, ◌≤◌}
+use native.Mathlib.Omega.{arith}
+use borrow.Author.Rules.{rules}
+use Rattle.ceilings_groups.proofs.Settling.{BoundlessUpto, boundless_start, boundless_next, boundless_some}
+use Rattle.ceilings_groups.proofs.is_boundless.Given as goal
+
+abbrev pub invariant-loop-x : goal.invariant-loop-x
+invariant-loop-x l = BoundlessUpto l.holders l.x l.left × (l.x ≤ l.n)
+
+abbrev pub decreases-loop-x : goal.decreases-loop-x
+decreases-loop-x l = l.n - l.x

@@ -1,0 +1,19 @@
+-- The loop's invariant: the counters of the entries before i are done.
+use Prim.Native.Nat.{◌-◌, ◌*◌, ◌≤◌, ◌<◌}
+use native.Mathlib.Omega.{arith}
+use mathlib.Core.Path.{◌≡◌, refl, sym, ◌∙◌}
+use lib.ListN.{length}
+use borrow.Author.Rules.{rules}
+use Rattle.model.specs.Ceilings.{ceiling_entries}
+use Rattle.ceilings_form.specs.Limits.{ceiling_end}
+use Rattle.ceilings_form.proofs.Ceilings.{entries_size}
+use Rattle.ceilings.proofs.Begun.{begun}
+use Rattle.ceilings_masks.proofs.Turning.{Turning, counted_start, turning_start, turning_inside, turning_counter, turning_end, turning_next}
+use Rattle.ceilings_masks.proofs.compare.Given as goal
+
+abbrev pub invariant-loop-s : goal.invariant-loop-s
+invariant-loop-s l =
+    Turning l.n (ceiling_entries l.ws l.s) l.limits l.s.ceilings l.s.states l.k (ceiling_end l.n (ceiling_entries l.ws l.s) l.e) l.i l.over l.near × (length l.near ≡ length l.initial.near)
+
+abbrev pub decreases-loop-s : goal.decreases-loop-s
+decreases-loop-s l = l.s.entries - l.i

@@ -1,0 +1,15 @@
+-- The loop's invariant: the first j bits say which ceilings reach the limit, and no other is set.
+use Prim.Native.Nat.{◌-◌, ◌+◌, ◌*◌, ◌≤◌}
+use native.Mathlib.Omega.{arith}
+use mathlib.Core.Path.{sym}
+use mathlib.Core.Logic.{⊎_elim}
+use borrow.Author.Rules.{rules}
+use Rattle.ceilings_masks.specs.Compared.{reaches}
+use Rattle.ceilings_masks.proofs.Comparing.{WordUpto, word_start, word_hit, word_miss, reaches_in, reaches_low, word_over}
+use Rattle.ceilings_masks.proofs.word_from.Given as goal
+
+abbrev pub invariant-loop-j : goal.invariant-loop-j
+invariant-loop-j l = WordUpto l.w l.j (λ b. reaches l.limits l.ceilings l.x l.least (64 * l.i + b)) × (l.j ≤ l.end)
+
+abbrev pub decreases-loop-j : goal.decreases-loop-j
+decreases-loop-j l = l.end - l.j

@@ -1,0 +1,6 @@
+use borrow.Author.Rules.{rules}
+use Rattle.checks.proofs.Laying.{letters_lent, all_words}
+use Rattle.checks.proofs.system.all_letters.Goals as goal
+
+pub lettered_verdict-requires : goal.lettered_verdict-requires
+lettered_verdict-requires c = letters_lent _ _ _ _ _ _ _ c.requires _ _ (all_words _ _ _ _ _ _ _ c.requires) c.letter_sets-letters.ensures

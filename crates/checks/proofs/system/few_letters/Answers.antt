@@ -1,0 +1,6 @@
+use borrow.Author.Rules.{rules}
+use Rattle.checks.proofs.Laying.{letters_lent}
+use Rattle.checks.proofs.system.few_letters.Goals as goal
+
+pub lettered_verdict-requires : goal.lettered_verdict-requires
+lettered_verdict-requires c = letters_lent _ _ _ _ _ _ _ c.requires.lettered _ _ c.requires.states_bound c.words64_256-letters.ensures

@@ -1,0 +1,27 @@
+use Prim.Native.Nat.{◌≤◌, ◌-◌}
+use mathlib.Core.Path.{◌≡◌, refl, sym, ◌∙◌}
+use borrow.Author.Rules.{rules}
+use borrow.Author.Tests.{not-true, not-false}
+use Rattle.model.specs.Rows.{program}
+use Rattle.model.specs.Words.{columns}
+use Rattle.lists.specs.Lists.{listed, thirds}
+use Rattle.evidence.specs.Ranges.{misplaced}
+use Rattle.evidence.proofs.Lists.{misplaced_hit, misplaced_miss, misplaced_end}
+use Rattle.evidence.proofs.entries.first_misplaced.Goals as goal
+
+pub loop-i-init : goal.loop-i-init
+loop-i-init c = (search rules, refl)
+
+pub returns-then-not-in_place : goal.returns-then-not-in_place
+unfolding listed columns
+returns-then-not-in_place c = let l = c.loop-i in
+    sym (l.invariant.1 ∙ misplaced_hit _ _ _ _ _ _ c.in_place.ensures c.loop-i-test.true c.if-not-in_place.true)
+
+pub loop-i-preserved : goal.loop-i-preserved
+unfolding listed columns
+loop-i-preserved c = let l = c.loop-i in
+    (search rules, l.invariant.1 ∙ misplaced_miss _ _ _ _ _ _ c.in_place.ensures c.loop-i-test.true c.if-not-in_place.false)
+
+pub returns : goal.returns
+unfolding listed columns
+returns c = let l = c.loop-i in sym (l.invariant.1 ∙ misplaced_end _ _ _ _ _ c.loop-i-test.false)

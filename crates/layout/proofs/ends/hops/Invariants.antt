@@ -1,0 +1,11 @@
+use mathlib.Core.Path.{◌≡◌, refl, sym, ◌∙◌}
+use Rattle.layout.specs.Tables.{hop}
+use Rattle.layout.proofs.Ending.{hop_turn, hop_end}
+use borrow.Author.Rules.{rules}
+use Rattle.layout.proofs.ends.hops.Given as goal
+
+abbrev pub invariant-loop-left : goal.invariant-loop-left
+invariant-loop-left l = hop l.table l.n l.q ≡ hop l.table l.left l.at
+
+abbrev pub decreases-loop-left : goal.decreases-loop-left
+decreases-loop-left l = l.left

@@ -1,0 +1,19 @@
+use borrow.Author.Rules.{rules}
+use Prim.Native.Nat.{◌+◌, ◌-◌, ◌≤◌}
+use native.Mathlib.Omega.{arith}
+use mathlib.Core.Path.{◌≡◌, refl, ◌∙◌}
+use lib.ListN.{length, length-set}
+use Rattle.model.specs.Rows.{program}
+use Rattle.model.specs.Tables.{tables}
+use Rattle.lists.specs.Lists.{range_from}
+use Rattle.lists.proofs.Facts.{mail_usable}
+use Rattle.letter_codes.proofs.Filling.{Filled, filled_none, filled_room, filled_next, filled_count, filled_starts, filled_codes}
+use Rattle.letter_codes.proofs.Filling.{end_told, entry_next, mail_ascends, class_entries, first_entry, entries_few}
+use Rattle.letter_codes.proofs.fill_codes.Given as goal
+
+abbrev pub invariant-loop-c : goal.invariant-loop-c
+invariant-loop-c l =
+    Filled (program l.ws l.s) (tables l.ws l.s) l.most l.c l.n l.letter_at l.codes × (l.e ≡ range_from (tables l.ws l.s).mail l.c) × (l.c ≤ l.s.rows + 1) × (length l.letter_at ≡ length l.initial.letter-at) × (length l.codes ≡ length l.initial.codes)
+
+abbrev pub decreases-loop-c : goal.decreases-loop-c
+decreases-loop-c l = l.s.rows + 1 - l.c

@@ -1,0 +1,12 @@
+use Prim.Native.Nat.{◌-◌, ◌≤◌}
+use borrow.Author.Rules.{rules}
+use Rattle.model.specs.Words.{columns}
+use Rattle.lists.specs.Lists.{listed, range_from}
+use Rattle.letter_codes.proofs.Starts.{start_later, start_here, start_end}
+use Rattle.letter_codes.proofs.start_from.Given as goal
+
+abbrev pub invariant-loop-e : goal.invariant-loop-e
+invariant-loop-e l = l.e ≤ range_from (listed l.ws l.l) l.a
+
+abbrev pub decreases-loop-e : goal.decreases-loop-e
+decreases-loop-e l = l.l.size - l.e

@@ -1,0 +1,12 @@
+use Prim.Native.Nat.{◌-◌, ◌≤◌, ◌<◌}
+use native.Mathlib.Omega.{arith}
+use borrow.Author.Rules.{rules}
+use Rattle.model.specs.Rows.{program}
+use Rattle.letter_sets.proofs.Told.{Left, allows_unlike, allows_start, allows_miss, allows_next, allows_end, argument_low, head_room}
+use Rattle.letter_sets.proofs.allows.Given as goal
+
+abbrev pub invariant-loop-i : goal.invariant-loop-i
+invariant-loop-i l = Left (program l.ws l.s) l.names l.v l.count l.code l.i × (l.i ≤ l.count)
+
+abbrev pub decreases-loop-i : goal.decreases-loop-i
+decreases-loop-i l = l.count - l.i

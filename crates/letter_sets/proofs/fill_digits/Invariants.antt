@@ -1,0 +1,13 @@
+use Prim.Native.Nat.{◌-◌, ◌≤◌}
+use native.Mathlib.Omega.{arith}
+use mathlib.Core.Path.{refl}
+use borrow.Author.Rules.{rules}
+use Rattle.letter_sets.proofs.Putting.{PutUpto, upto_start}
+use Rattle.letter_sets.proofs.Filling.{digit_puts, digit_rows, digits_turn, digits_filled}
+use Rattle.letter_sets.proofs.fill_digits.Given as goal
+
+abbrev pub invariant-loop-y : goal.invariant-loop-y
+invariant-loop-y l = PutUpto l.w (digit_puts l.heads l.codes) 0 l.y l.initial.letters l.letters × (l.y ≤ l.n)
+
+abbrev pub decreases-loop-y : goal.decreases-loop-y
+decreases-loop-y l = l.n - l.y

@@ -1,0 +1,13 @@
+use borrow.Author.Rules.{rules}
+use Rattle.lists.specs.Lists.{head_from}
+use Rattle.lists.proofs.Facts.{states_usable}
+use Rattle.lists.proofs.Told.{states_placed}
+use Rattle.lists.proofs.heads_from.Goals as goal
+
+pub place-requires : goal.place-requires
+place-requires c =
+    let z = states_usable c.requires _ c.states.ensures in record { held = z.0; ascending = z.1 }
+
+pub returns : goal.returns
+unfolding head_from
+returns c = states_placed _ _ _ _ _ c.place.ensures c.states.ensures

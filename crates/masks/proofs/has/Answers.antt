@@ -1,0 +1,6 @@
+use Rattle.masks.proofs.Masks.{has_read}
+use borrow.Author.Rules.{rules}
+use Rattle.masks.proofs.has.Goals as goal
+
+pub returns : goal.returns
+returns c = has_read _ _ _ c.word.ensures

@@ -1,0 +1,9 @@
+use Rattle.bits.proofs.Bits.{bit_or}
+use mathlib.Core.Path.{refl}
+use mathlib.Core.Bool.{◌||◌}
+use lib.Bits.{bit_or}
+use Rattle.masks.proofs.Masks.{has_both}
+use Rattle.masks.proofs.or.Goals as goal
+
+pub returns : goal.returns
+returns c = has_both bit_or ◌||◌ refl bit_or _ _

@@ -1,0 +1,13 @@
+use Prim.Native.Nat.{◌≤◌}
+use mathlib.Core.Path.{◌≡◌, refl, sym, ◌∙◌}
+use lib.ListN.{length}
+use Rattle.matching_sets.specs.Sets.{FilledFrom}
+use Rattle.matching_sets.proofs.Filling.{matches_down, one_up, fill_builds, filled_none, filled_skip, filled_joined}
+use borrow.Author.Rules.{rules}
+use Rattle.matching_sets.proofs.patterns.fill_patterns.Given as goal
+
+abbrev pub invariant-loop-q : goal.invariant-loop-q
+invariant-loop-q l = (l.q ≤ l.s.rows) × FilledFrom l.ws l.s l.may l.held l.q × ((length l.may ≡ length l.initial.may) × (length l.held ≡ length l.initial.held))
+
+abbrev pub decreases-loop-q : goal.decreases-loop-q
+decreases-loop-q l = l.q

@@ -1,0 +1,37 @@
+-- Each return is one law of a part, at the tests that led there.
+use native.Mathlib.Omega.{arith}
+use mathlib.Core.Path.{sym, ap}
+use borrow.Author.Rules.{rules}
+use Rattle.model.specs.Words.{words}
+use Rattle.message.specs.Parts.{checked}
+use Rattle.words.proofs.Words.{words_length}
+use Rattle.message.proofs.Checks.{part_no_sizes, part_outside, part_no_arrays, part_whole}
+use Rattle.message.proofs.part.Goals as goal
+
+pub returns-then-words-at : goal.returns-then-words-at
+unfolding checked
+returns-then-words-at c ls n w =
+    let a = c.args in
+    let l = words_length a.bytes.now in
+    sym (ap checked (part_no_sizes (words a.bytes.now) a.at ls a.cells (omega arith)))
+
+pub returns-then-wrong-count : goal.returns-then-wrong-count
+unfolding checked
+returns-then-wrong-count c ls n w =
+    let a = c.args in
+    let l = words_length a.bytes.now in
+    sym (ap checked (part_outside (words a.bytes.now) a.at ls a.cells a.wrong w (omega arith) (omega arith)))
+
+pub returns-then-words-at-2 : goal.returns-then-words-at-2
+unfolding checked
+returns-then-words-at-2 c ls n w =
+    let a = c.args in
+    let l = words_length a.bytes.now in
+    sym (ap checked (part_no_arrays (words a.bytes.now) a.at ls a.cells (omega arith) (omega arith) (omega arith)))
+
+pub returns : goal.returns
+unfolding checked
+returns c ls n w =
+    let a = c.args in
+    let l = words_length a.bytes.now in
+    sym (ap checked (part_whole (words a.bytes.now) a.at ls a.cells (omega arith) (omega arith)))

@@ -1,0 +1,15 @@
+use Prim.Native.Nat.{◌+◌, ◌<◌}
+use native.Mathlib.Omega.{arith}
+use mathlib.Core.Path.{◌≡◌, refl, ◌∙◌}
+use lib.ListN.{length}
+use borrow.Author.Rules.{rules}
+use Rattle.model.specs.Rows.{program}
+use Rattle.positions.specs.Positions.{branch_row, Run}
+use Rattle.positions.proofs.Standing.{run_prefix, run_pass, row_end}
+use Rattle.positions.proofs.branch_row.Given as goal
+
+abbrev pub invariant-loop-left : goal.invariant-loop-left
+invariant-loop-left l = (branch_row (program l.ws l.s) l.q l.j ≡ branch_row (program l.ws l.s) l.row l.left) × Run (program l.ws l.s) l.row (l.left + 1)
+
+abbrev pub decreases-loop-left : goal.decreases-loop-left
+decreases-loop-left l = l.left

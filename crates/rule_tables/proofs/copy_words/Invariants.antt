@@ -1,0 +1,13 @@
+use Prim.Native.Nat.{◌-◌, ◌≤◌}
+use mathlib.Core.Path.{refl}
+use lib.ListN.{get_or}
+use borrow.Author.Rules.{rules}
+use Rattle.bits.specs.Bits.{Filled}
+use Rattle.bits.proofs.Rows.{filled_start, filled_next, filled_to}
+use Rattle.rule_tables.proofs.copy_words.Given as goal
+
+abbrev pub invariant-loop-j : goal.invariant-loop-j
+invariant-loop-j l = Filled l.initial.t l.t l.p l.j (λ x. get_or l.a x 0) × (l.j ≤ l.n)
+
+abbrev pub decreases-loop-j : goal.decreases-loop-j
+decreases-loop-j l = l.n - l.j

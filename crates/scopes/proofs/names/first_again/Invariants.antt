@@ -1,0 +1,15 @@
+use Prim.Native.Nat.{◌≤◌, ◌-◌}
+use native.Mathlib.Omega.{arith}
+use mathlib.Core.Path.{◌≡◌, refl, sym, ◌∙◌}
+use Rattle.model.specs.Index.{first}
+use Rattle.model.specs.Rows.{program}
+use Rattle.model.specs.Scopes.{bound_again}
+use Rattle.model.proofs.Index.{first_end, first_hit, first_miss}
+use borrow.Author.Rules.{rules}
+use Rattle.scopes.proofs.names.first_again.Given as goal
+
+abbrev pub invariant-loop-r : goal.invariant-loop-r
+invariant-loop-r l = (l.r ≤ l.s.rows) × (first 0 l.s.rows (bound_again (program l.ws l.s)) ≡ first l.r l.s.rows (bound_again (program l.ws l.s)))
+
+abbrev pub decreases-loop-r : goal.decreases-loop-r
+decreases-loop-r l = l.s.rows - l.r

@@ -1,0 +1,18 @@
+use Rattle.bits.proofs.Rows.{flipped_turn}
+use Rattle.bits.proofs.Words.{any_over}
+use Prim.Native.Nat.{◌+◌, ◌-◌, ◌*◌, ◌≤◌}
+use mathlib.Core.Path.{◌≡◌, sym}
+use mathlib.Core.Bool.{not}
+use lib.Dec.{eqb}
+use Rattle.model.specs.Index.{any}
+use Rattle.bits.specs.Bits.{flipped}
+use native.Mathlib.Omega.{arith}
+use Rattle.model.proofs.Index.{any_end}
+use borrow.Author.Rules.{rules}
+use Rattle.sets.proofs.gather.Given as goal
+
+abbrev pub invariant-loop-z : goal.invariant-loop-z
+invariant-loop-z l = (any 0 (64 * l.z) (flipped l.flip l.a l.b l.w l.n l.m) ≡ not (eqb l.found 0)) × (l.z ≤ l.w)
+
+abbrev pub decreases-loop-z : goal.decreases-loop-z
+decreases-loop-z l = l.w - l.z

@@ -1,0 +1,8 @@
+use Rattle.bits.proofs.Bits.{bit_read}
+use Rattle.bits.specs.Bits.{member}
+use borrow.Author.Rules.{rules}
+use Rattle.sets.proofs.holds.Goals as goal
+
+pub returns : goal.returns
+unfolding member
+returns c = bit_read _ _

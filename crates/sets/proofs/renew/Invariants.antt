@@ -1,0 +1,11 @@
+use Rattle.bits.proofs.Rows.{filled_start, filled_over, renewed_next, renewed_set}
+use Prim.Native.Nat.{◌-◌, ◌≤◌}
+use Rattle.bits.specs.Bits.{Filled, renewed}
+use borrow.Author.Rules.{rules}
+use Rattle.sets.proofs.renew.Given as goal
+
+abbrev pub invariant-loop-z : goal.invariant-loop-z
+invariant-loop-z l = Filled l.initial.t l.t l.p l.z (renewed l.out l.into l.initial.t l.a l.p l.q) × (l.z ≤ l.w)
+
+abbrev pub decreases-loop-z : goal.decreases-loop-z
+decreases-loop-z l = l.w - l.z

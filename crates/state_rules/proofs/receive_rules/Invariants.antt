@@ -1,0 +1,31 @@
+use Prim.Native.Nat.{ℕ, ◌+◌, ◌*◌, ◌-◌, ◌≤◌, ◌<◌}
+use native.Mathlib.Omega.{arith}
+use mathlib.Core.Path.{◌≡◌, refl, sym, ◌∙◌, ap}
+use mathlib.Core.Bool.{Bool}
+use lib.ListN.{length}
+use Rattle.model.specs.Index.{gather}
+use Rattle.model.specs.Limits.{max_branches}
+use Rattle.model.specs.Words.{columns}
+use Rattle.model.specs.Rows.{program, receive}
+use Rattle.model.specs.Tables.{tables, entries, state_at}
+use Rattle.model.specs.Counters.{letter_count_of}
+use Rattle.rules.specs.Added.{Added}
+use Rattle.rules.specs.Within.{only_passing, AskedLetters}
+use Rattle.rules.proofs.Adding.{added_none, added_same, added_kept, added_more}
+use Rattle.rules.proofs.Within.{only_gather, skipped_rules}
+use Rattle.plain_rules.proofs.Heads.{tag_head, here_low}
+use Rattle.plain_rules.proofs.Branches.{BranchAt, branch_begin, branch_here, branch_next, one_run}
+use Rattle.state_rules.specs.Heads.{receive_turn}
+use Rattle.state_rules.proofs.Branches.{branch_pattern, receive_count, receive_rows, receive_gathered, receive_same, receive_skipped, receive_room, receive_most, most_kept, receive_class}
+use borrow.Author.Rules.{rules}
+use Rattle.state_rules.proofs.receive_rules.Given as goal
+
+abbrev pub invariant-loop-b : goal.invariant-loop-b
+invariant-loop-b l =
+    ((f : ℕ → Bool) → AskedLetters (program l.ws l.s) (tables l.ws l.s) l.narrow l.within f →
+    Added receive l.initial.tos l.initial.others 0 l.tos l.others l.n (λ e. gather 0 l.b (λ x. only_passing f (receive_turn (program l.ws l.s) (tables l.ws l.s) (state_at (tables l.ws l.s) l.i) (l.r + 1) e x)))) ×
+    BranchAt (program l.ws l.s) (l.r + 1) l.m l.b l.q × (l.b ≤ l.m) × (l.n ≤ l.b * letter_count_of (program l.ws l.s) (tables l.ws l.s)) × (length l.part ≡ 17) × (length l.found ≡ 17) ×
+    (length l.tos ≡ length l.initial.tos) × (length l.others ≡ length l.initial.others)
+
+abbrev pub decreases-loop-b : goal.decreases-loop-b
+decreases-loop-b l = l.m - l.b

@@ -1,0 +1,31 @@
+use Prim.Native.Nat.{ℕ, ◌+◌, ◌-◌, ◌≤◌, ◌<◌}
+use native.Mathlib.Omega.{arith}
+use mathlib.Core.Path.{◌≡◌, refl, sym, ◌∙◌, ap}
+use mathlib.Core.Bool.{Bool}
+use lib.ListN.{length, get_or}
+use Rattle.model.specs.Index.{gather}
+use Rattle.model.specs.Words.{right}
+use Rattle.model.specs.Rows.{program, send}
+use Rattle.model.specs.Tables.{tables}
+use Rattle.lists.specs.Lists.{range_from, range_to}
+use Rattle.rules.specs.Added.{Added}
+use Rattle.rules.specs.Within.{only_passing, AskedLetters}
+use Rattle.rules.proofs.Adding.{added_none, added_same, added_more}
+use Rattle.rules.proofs.Entries.{name_starts, flow_order}
+use Rattle.rules.proofs.Within.{only_gather}
+use Rattle.plain_rules.proofs.Heads.{tag_head, here_low, send_low}
+use Rattle.state_rules.specs.Heads.{send_turn}
+use Rattle.state_rules.proofs.Done.{state_open}
+use Rattle.state_rules.proofs.Sends.{sent_mailed, send_value, send_room, send_most, send_same, send_gathered}
+use borrow.Author.Rules.{rules}
+use Rattle.state_rules.proofs.send_rules.Given as goal
+
+abbrev pub invariant-loop-j : goal.invariant-loop-j
+invariant-loop-j l =
+    ((f : ℕ → Bool) → AskedLetters (program l.ws l.s) (tables l.ws l.s) l.narrow l.within f →
+    Added send l.initial.tos l.initial.others 0 l.tos l.others l.n (λ e. gather l.from l.j (λ x. only_passing f (send_turn (program l.ws l.s) (tables l.ws l.s) l.message l.next e x)))) ×
+    (l.from ≤ l.j) × (l.j ≤ l.to) × (l.j < l.to → l.n ≤ get_or l.letter_at (right (tables l.ws l.s).flow l.j) 0) × (length l.part ≡ 17) × (length l.found ≡ 17) ×
+    (length l.tos ≡ length l.initial.tos) × (length l.others ≡ length l.initial.others)
+
+abbrev pub decreases-loop-j : goal.decreases-loop-j
+decreases-loop-j l = l.to - l.j

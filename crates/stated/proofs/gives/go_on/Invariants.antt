@@ -1,0 +1,16 @@
+use Prim.Native.Nat.{◌-◌}
+use mathlib.Core.Path.{◌≡◌, refl, sym, ◌∙◌}
+use borrow.Author.Tests.{lt-ltb, le-ltb}
+use Rattle.model.specs.Index.{all}
+use Rattle.model.specs.Tables.{tables}
+use Rattle.model.proofs.Index.{all_hit, all_miss, all_end}
+use Rattle.stated.specs.Stated.{goes_on}
+use Rattle.stated.proofs.Giving.{goes_told}
+use borrow.Author.Rules.{rules}
+use Rattle.stated.proofs.gives.go_on.Given as goal
+
+abbrev pub invariant-loop-j : goal.invariant-loop-j
+invariant-loop-j l = all l.from l.to (goes_on (tables l.ws l.s) l.r) ≡ all l.j l.to (goes_on (tables l.ws l.s) l.r)
+
+abbrev pub decreases-loop-j : goal.decreases-loop-j
+decreases-loop-j l = l.to - l.j

@@ -1,0 +1,7 @@
+use mathlib.Core.Path.{◌∙◌, ap}
+use borrow.Author.Rules.{rules}
+use Rattle.model.specs.Rows.{program, tag}
+use Rattle.system_totals.proofs.state_head.Goals as goal
+
+pub returns : goal.returns
+returns c = c.tag.ensures ∙ ap (λ r. tag (program c.args.ws.now c.args.s) r) c.state_location.ensures

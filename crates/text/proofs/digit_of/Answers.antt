@@ -1,0 +1,9 @@
+use borrow.Author.Rules.{rules}
+use Rattle.text.proofs.Digits.{digit_low, digit_high}
+use Rattle.text.proofs.digit_of.Goals as goal
+
+pub returns-then-n-lt10 : goal.returns-then-n-lt10
+returns-then-n-lt10 c = digit_low _ c.if-n-lt10.true
+
+pub returns-else-n-lt10 : goal.returns-else-n-lt10
+returns-else-n-lt10 c = digit_high _ c.if-n-lt10.false

@@ -1,0 +1,13 @@
+use Prim.Native.Nat.{◌≤◌}
+use mathlib.Core.Path.{◌≡◌, ◌∙◌}
+use lib.ListN.{length, length-set}
+use borrow.Author.Rules.{rules}
+use Rattle.text.proofs.Digits.{below_base}
+use Rattle.text.proofs.Digits.{Spelled, spelled_none, spelled_more, spelled_all}
+use Rattle.text.proofs.put_digits.Given as goal
+
+abbrev pub invariant-loop-i : goal.invariant-loop-i
+invariant-loop-i l = Spelled l.base l.k l.n l.at l.i l.rest l.initial.out l.out × (l.i ≤ l.k) × (length l.out ≡ length l.initial.out)
+
+abbrev pub decreases-loop-i : goal.decreases-loop-i
+decreases-loop-i l = l.i

@@ -1,0 +1,8 @@
+use borrow.Author.Rules.{rules}
+use Rattle.text.specs.Text.{line_end}
+use Rattle.text.proofs.put_end.Goals as goal
+
+pub returns : goal.returns
+unfolding line_end
+returns c =
+    let z = (c.put_byte.ensures.out_after, c.put_byte.ensures.value) in record { out_after = z.0; value = z.1 }

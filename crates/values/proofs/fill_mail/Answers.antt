@@ -1,0 +1,32 @@
+use Prim.Native.Nat.{◌-◌, ◌≤◌}
+use mathlib.Core.Path.{◌≡◌, refl, ◌∙◌}
+use lib.ListN.{length}
+use borrow.Author.Rules.{rules}
+use Rattle.model.specs.Rows.{program}
+use Rattle.values.specs.Values.{mail_set_of}
+use Rattle.lists.specs.Lists.{listed}
+use Rattle.lists.proofs.Facts.{mail_usable}
+use Rattle.values.proofs.Gathered.{Gathered, gathered_start, gathered_next, room_row, mail_entry, mail_over}
+use Rattle.values.proofs.fill_mail.Goals as goal
+
+pub loop-i-init : goal.loop-i-init
+loop-i-init c = (gathered_start _ _ _ _ (rw c.width-w.ensures c.requires.empty), refl, search rules)
+
+pub left-c-requires : goal.left-c-requires
+left-c-requires c = (mail_usable c.requires.ready _ c.mail-l.ensures).0
+
+pub mail_set-n-requires : goal.mail_set-n-requires
+mail_set-n-requires c = c.requires.ready.whole
+
+pub right-v-requires : goal.right-v-requires
+right-v-requires c = (mail_usable c.requires.ready _ c.mail-l.ensures).0
+
+pub put-requires : goal.put-requires
+put-requires c =
+    let (a, b) = mail_entry c.requires.ready _ _ _ _ _ _ c.mail-l.ensures c.width-w.ensures (search rules) c.left-c.ensures c.mail_set-n.ensures c.right-v.ensures in record { v_bound = a; row = room_row _ _ _ _ _ _ c.width-w.ensures c.requires.room c.loop-i.invariant.1 b }
+
+pub loop-i-preserved : goal.loop-i-preserved
+loop-i-preserved c = let (a, b) = mail_entry c.requires.ready _ _ _ _ _ _ c.mail-l.ensures c.width-w.ensures (search rules) c.left-c.ensures c.mail_set-n.ensures c.right-v.ensures in (gathered_next _ _ _ _ _ _ _ _ _ c.loop-i.invariant.0 c.put.ensures c.left-c.ensures c.mail_set-n.ensures c.right-v.ensures a, c.put.ensures.long ∙ c.loop-i.invariant.1, search rules)
+
+pub returns : goal.returns
+returns c = mail_over c.requires.ready _ _ _ _ _ c.mail-l.ensures c.width-w.ensures c.requires.room c.loop-i.invariant.1 c.loop-i.invariant.0 (search rules)

@@ -1,0 +1,16 @@
+use Prim.Native.Nat.{◌-◌, ◌≤◌}
+use mathlib.Core.Path.{◌≡◌, refl, ◌∙◌}
+use lib.ListN.{length}
+use borrow.Author.Rules.{rules}
+use Rattle.model.specs.Rows.{program}
+use Rattle.values.specs.Values.{mail_set_of}
+use Rattle.lists.specs.Lists.{listed}
+use Rattle.lists.proofs.Facts.{mail_usable}
+use Rattle.values.proofs.Gathered.{Gathered, gathered_start, gathered_next, room_row, mail_entry, mail_over}
+use Rattle.values.proofs.fill_mail.Given as goal
+
+abbrev pub invariant-loop-i : goal.invariant-loop-i
+invariant-loop-i l = Gathered (listed l.ws l.l) (mail_set_of (program l.ws l.s)) l.w l.sets l.i × (length l.sets ≡ length l.initial.sets) × (l.i ≤ l.i-end)
+
+abbrev pub decreases-loop-i : goal.decreases-loop-i
+decreases-loop-i l = l.i-end - l.i

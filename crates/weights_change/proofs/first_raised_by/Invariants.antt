@@ -1,0 +1,13 @@
+-- The loop's invariant: what all rules give, those from j on give below the first line so far.
+use Prim.Native.Nat.{◌-◌}
+use native.Mathlib.Omega.{arith}
+use borrow.Author.Rules.{rules}
+use Rattle.weights_change.specs.Changes.{weight_of}
+use Rattle.weights_change.proofs.Raised.{SoFar, so_far_start, so_far_next, so_far_end}
+use Rattle.weights_change.proofs.first_raised_by.Given as goal
+
+abbrev pub invariant-loop-j : goal.invariant-loop-j
+invariant-loop-j l = SoFar (weight_of l.weights l.lines l.n) l.kind l.i l.tos l.others l.m l.upto l.j l.least
+
+abbrev pub decreases-loop-j : goal.decreases-loop-j
+decreases-loop-j l = l.m - l.j

@@ -1,0 +1,14 @@
+-- The loop's invariant: the words before x are 0.
+use Prim.Native.Nat.{◌-◌, ◌≤◌}
+use mathlib.Core.Path.{◌≡◌, refl, ◌∙◌}
+use lib.ListN.{length, length-set}
+use Rattle.ceilings_met.proofs.Filled.{Filled, filled_none, filled_more}
+use Rattle.weights_least.proofs.Filling.{none_counted}
+use borrow.Author.Rules.{rules}
+use Rattle.weights_least.proofs.clear.Given as goal
+
+abbrev pub invariant-loop-x : goal.invariant-loop-x
+invariant-loop-x l = Filled (λ y. 0) l.x l.counts × (l.x ≤ l.n) × (length l.counts ≡ length l.initial.counts)
+
+abbrev pub decreases-loop-x : goal.decreases-loop-x
+decreases-loop-x l = l.n - l.x
