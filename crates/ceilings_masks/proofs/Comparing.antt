@@ -14,7 +14,7 @@ use Rattle.model.specs.Limits.{max_ceilings, omega_limit}
 use Rattle.model.specs.Ceilings.{allowed}
 use Rattle.model.proofs.Logic.{test, and_none, or_none}
 use Rattle.bits.specs.Bits.{bit, member, Row, SetIs}
-use Rattle.bits.proofs.Bits.{bit_or, bit_one, bit_zero}
+use Rattle.bits.proofs.Bits.{bit_or_lem, bit_one, bit_zero}
 use Rattle.masks.specs.declared.Mask.{Mask}
 use Rattle.masks.specs.Masks.{words, has}
 use Rattle.ceilings.specs.Table.{held}
@@ -35,7 +35,7 @@ and_always false b h = refl
 -- one bit more, set or not
 pub word_hit : (w e : ℕ) (f : ℕ → Bool) → WordUpto w e f → e < 64 → f e ≡ true → WordUpto (bit_or w (1 * 2 ^ e % 2 ^ 64)) (e + 1) f
 word_hit w e f u h t =
-    let is : (j : ℕ) → bit (bit_or w (1 * 2 ^ e % 2 ^ 64)) j ≡ (bit w j || eqb j e) = λ j. bit_or w _ j ∙ ap (λ b. bit w j || b) (bit_one e j h) in
+    let is : (j : ℕ) → bit (bit_or w (1 * 2 ^ e % 2 ^ 64)) j ≡ (bit w j || eqb j e) = λ j. bit_or_lem w _ j ∙ ap (λ b. bit w j || b) (bit_one e j h) in
     record {
       set = λ j l. elim (ℕ_discrete j e) [
         | yes z ↦ is j ∙ rw (z, u.unset e (omega arith), eq-eqb e e refl) (sym t)

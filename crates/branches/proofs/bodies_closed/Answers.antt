@@ -17,13 +17,13 @@ pub body_closed-requires : goal.body_closed-requires
 body_closed-requires c = record { ready = c.requires.layout_ready.ready; i_lt_states = c.requires.i_lt_states.0 }
 
 pub returns-then-not-body_closed : goal.returns-then-not-body_closed
-returns-then-not-body_closed c = bodies_fail c.loop-left.invariant (branch_at c.requires.layout_ready.layout _ _ c.loop-left.invariant.run (search rules)) _ (c.word-expression.ensures.0 ∙ (branch_at c.requires.layout_ready.layout _ _ c.loop-left.invariant.run (search rules)).body) _ c.body_Closed.ensures c.if-not-body_closed.true
+returns-then-not-body_closed c = bodies_fail c.loop-left.invariant (branch_at c.requires.layout_ready.layout _ _ c.loop-left.invariant.run (search rules)) _ (c.word-expression.ensures.0 ∙ (branch_at c.requires.layout_ready.layout _ _ c.loop-left.invariant.run (search rules)).body) _ c.body_closed.ensures c.if-not-body_closed.true
 
 pub word-row-requires : goal.word-row-requires
 word-row-requires c = omega (arith, (branch_at c.requires.layout_ready.layout _ _ c.loop-left.invariant.run (search rules)).body_low, (branch_at c.requires.layout_ready.layout _ _ c.loop-left.invariant.run (search rules)).body, c.word-expression.ensures.0, c.requires.layout_ready.layout.room)
 
 pub loop-left-preserved : goal.loop-left-preserved
-loop-left-preserved c = bodies_next c.loop-left.invariant (branch_at c.requires.layout_ready.layout _ _ c.loop-left.invariant.run (search rules)) _ (c.word-expression.ensures.0 ∙ (branch_at c.requires.layout_ready.layout _ _ c.loop-left.invariant.run (search rules)).body) _ c.body_Closed.ensures c.if-not-body_closed.false _ (behind_told (branch_at c.requires.layout_ready.layout _ _ c.loop-left.invariant.run (search rules)) _ _ c.word-expression.ensures.0 c.word-row.ensures.0)
+loop-left-preserved c = bodies_next c.loop-left.invariant (branch_at c.requires.layout_ready.layout _ _ c.loop-left.invariant.run (search rules)) _ (c.word-expression.ensures.0 ∙ (branch_at c.requires.layout_ready.layout _ _ c.loop-left.invariant.run (search rules)).body) _ c.body_closed.ensures c.if-not-body_closed.false _ (behind_told (branch_at c.requires.layout_ready.layout _ _ c.loop-left.invariant.run (search rules)) _ _ c.word-expression.ensures.0 c.word-row.ensures.0)
 
 pub returns : goal.returns
 returns c = bodies_over c.loop-left.invariant (search rules)

@@ -100,7 +100,7 @@ states-preserved-then-settled c =
     let h = c.states.invariant in
     let g = c.requires.groups_upto in
     let few = states_few _ _ _ _ c.requires.joined_tables.ready c.requires.ceilings_ready.counted c.requires.ceilings_ready.limits_table in
-    (h.0, walk_settled _ _ _ _ _ g _ _ _ h.1 few _ c.counter_at-i.ensures c.if-i-s.false (state_none _ _ _ _ _ _ (settles _ _ _ _ _ _ c.left_After.ensures (λ z. omega (arith, c.type_inv.limits z)) _ _ (above_at _ _ _ _ _ _ _ h.0 c.compare-over.ensures.above) _ _ _ _ c.if-i-s.false g (sym c.settled.ensures ∙ c.if-settled.true))), h.2, h.3, h.4)
+    (h.0, walk_settled _ _ _ _ _ g _ _ _ h.1 few _ c.counter_at-i.ensures c.if-i-s.false (state_none _ _ _ _ _ _ (settles _ _ _ _ _ _ c.left_after-left.ensures (λ z. omega (arith, c.type_inv.limits z)) _ _ (above_at _ _ _ _ _ _ _ h.0 c.compare-over.ensures.above) _ _ _ _ c.if-i-s.false g (sym c.settled.ensures ∙ c.if-settled.true))), h.2, h.3, h.4)
 
 pub rules_under-found-requires : goal.rules_under-found-requires
 rules_under-found-requires c =
@@ -108,7 +108,7 @@ rules_under-found-requires c =
     let l = c.ceilings.invariant in
     record {
         joined_tables = c.requires.joined_tables;
-        under = record { counted = c.requires.ceilings_ready.counted; state = c.if-i-s.false; width = c.set_words-words.ensures; beside = beside_at _ _ _ _ _ _ _ _ h.0 c.compare-over.ensures.beside; remains = c.left_After.ensures; row = rw c.set_words-words.ensures (set_room c.requires.joined_tables.ready _ c.requires.joined_tables.few (c.held_letters.auto.1.1.1.1.1.1.0 ∙ l.6)); holds = rw h.0 c.held_letters.ensures };
+        under = record { counted = c.requires.ceilings_ready.counted; state = c.if-i-s.false; width = c.set_words-words.ensures; beside = beside_at _ _ _ _ _ _ _ _ h.0 c.compare-over.ensures.beside; remains = c.left_after-left.ensures; row = rw c.set_words-words.ensures (set_room c.requires.joined_tables.ready _ c.requires.joined_tables.few (c.held_letters.auto.1.1.1.1.1.1.0 ∙ l.6)); holds = rw h.0 c.held_letters.ensures };
         rule_room = (room_kept _ _ _ _ _ _ c.requires.rooms.rules (h.2 ∙ l.2) (h.3 ∙ l.3), h.4);
     }
 
@@ -169,7 +169,7 @@ candidates-mask-requires c =
     record {
         beside = beside_at _ _ _ _ _ _ _ _ h.0 c.compare-over.ensures.beside;
         step_apart = step_shape _ _ _ _ c.requires.joined_tables.ready c.requires.ceilings_ready.counted c.requires.ceilings_ready.limits_table c.states.k _ _ _ _ _ _ _ c.if-i-s.false c.rules.invariant.3 c.kind_at-kind.ensures.value c.kind_at-kind.ensures.upper_bound c.rules.invariant.2 c.rules-test.true;
-        left = c.left_After.ensures;
+        left = c.left_after-left.ensures;
         k_value = sym c.is_usable.ensures ∙ c.if-not-is_usable.false;
     }
 

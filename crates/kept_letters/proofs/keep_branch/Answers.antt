@@ -36,5 +36,4 @@ keep_letters-requires c = record {
     }
 
 pub returns : goal.returns
-returns c =
-    let z = (c.keep_letters.ensures.letter_sets, c.keep_letters.ensures.reads) in record { letter_sets = z.0; reads = z.1 }
+returns c = record { letter_sets = c.keep_letters.ensures.letter_sets; reads = c.keep_letters.ensures.reads }

@@ -4,5 +4,4 @@ use Rattle.text.proofs.put_end.Goals as goal
 
 pub returns : goal.returns
 unfolding line_end
-returns c =
-    let z = (c.put_byte.ensures.out_after, c.put_byte.ensures.value) in record { out_after = z.0; value = z.1 }
+returns c = record { out_after = c.put_byte.ensures.out_after; value = c.put_byte.ensures.value }

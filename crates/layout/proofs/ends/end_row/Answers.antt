@@ -38,8 +38,7 @@ pub hops-requires-in-31 : goal.hops-requires-in-31
 hops-requires-in-31 c = tt
 
 pub rest_row-rest-requires : goal.rest_row-rest-requires
-rest_row-rest-requires c =
-    let z = (c.requires.whole, (c.requires.r_lt_rows, (c.requires.after_from))) in record { whole = z.0; r_lt_rows = z.1.0; after_from = z.1.1 }
+rest_row-rest-requires c = record { whole = c.requires.whole; r_lt_rows = c.requires.r_lt_rows; after_from = (c.requires.after_from) }
 
 pub entry-requires : goal.entry-requires
 entry-requires c = tt

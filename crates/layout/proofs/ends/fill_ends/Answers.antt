@@ -40,7 +40,7 @@ loop-r-preserved-then-end-s c =
     let l = c.loop-r in (
       omega (arith, l.invariant.0),
       length-set l.afters _ _ ∙ l.invariant.1,
-      after_set _ l.r (l.r - 1) _ l.afters (omega (arith, c.loop-r-test.true)) (omega (arith, c.loop-r-test.true, l.invariant.0, l.invariant.1, c.requires.rows_in_bounds)) c.End-row.ensures l.invariant.2,
+      after_set _ l.r (l.r - 1) _ l.afters (omega (arith, c.loop-r-test.true)) (omega (arith, c.loop-r-test.true, l.invariant.0, l.invariant.1, c.requires.rows_in_bounds)) c.end_row-end.ensures l.invariant.2,
     )
 
 pub loop-r-smaller : goal.loop-r-smaller
@@ -52,7 +52,7 @@ loop-r-preserved c =
     let l = c.loop-r in (
       omega (arith, l.invariant.0),
       l.invariant.1,
-      after_keep _ l.r (l.r - 1) _ l.afters (omega (arith, c.loop-r-test.true)) c.if-end-s.false c.End-row.ensures l.invariant.2,
+      after_keep _ l.r (l.r - 1) _ l.afters (omega (arith, c.loop-r-test.true)) c.if-end-s.false c.end_row-end.ensures l.invariant.2,
     )
 
 pub shape_of-afters : goal.shape_of-afters
