@@ -15,7 +15,7 @@ send_asks-requires c = record { mail_ready = c.requires.mail_ready; r_value = sy
 pub spawn_asks-requires : goal.spawn_asks-requires
 spawn_asks-requires c = record {
         flow_ready = mail_flow c.requires.mail_ready;
-        r_value = omega (arith, c.tag.ensures, c.in_default.rest.0.1, c.in_default.rest.1, c.requires.bound.0, c.requires.bound.1);
+        r_value = omega (arith, c.tag.ensures, c.in_default.in_default-own.rest.0.1, c.in_default.in_default-own.rest.1, c.requires.bound.0, c.requires.bound.1);
     }
 
 pub returns-in-4 : goal.returns-in-4
@@ -25,4 +25,4 @@ pub returns-in-5 : goal.returns-in-5
 returns-in-5 c = asks_send _ _ _ _ _ _ c.tag.ensures c.in-5.is c.send_asks.ensures
 
 pub returns-in_default : goal.returns-in_default
-returns-in_default c = asks_spawn _ _ _ _ _ _ c.tag.ensures c.in_default.rest.0.1 c.in_default.rest.1 c.spawn_asks.ensures
+returns-in_default c = asks_spawn _ _ _ _ _ _ c.tag.ensures c.in_default.in_default-own.rest.0.1 c.in_default.in_default-own.rest.1 c.spawn_asks.ensures

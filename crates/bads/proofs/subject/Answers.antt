@@ -20,4 +20,4 @@ unfolding program head_count
 returns-else-is_number c = subject_no_letter _ _ _ _ c.in-42.is (sym c.is_number.ensures ∙ c.if-is_number.false)
 
 pub returns-in_default : goal.returns-in_default
-returns-in_default c = no_subject _ _ _ _ c.in_default.rest.0.1 c.in_default.rest.1
+returns-in_default c = no_subject _ _ _ _ c.in_default.in_default-own.rest.0.1 c.in_default.in_default-own.rest.1

@@ -9,4 +9,4 @@ pub returns-in-33 : goal.returns-in-33
 returns-in-33 c = asks_held _ _ _ c.tag.ensures c.in-33.is
 
 pub returns-in_default : goal.returns-in_default
-returns-in_default c = asks_none _ _ _ c.tag.ensures c.in_default.rest.0.1 c.in_default.rest.1
+returns-in_default c = asks_none _ _ _ c.tag.ensures c.in_default.in_default-own.rest.0.1 c.in_default.in_default-own.rest.1

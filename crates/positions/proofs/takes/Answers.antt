@@ -10,4 +10,4 @@ pub returns-in-3 : goal.returns-in-3
 returns-in-3 c = takes_yes _ _ _ c.tag.ensures _ _ c.in-3.is c.num.ensures
 
 pub returns-in_default : goal.returns-in_default
-returns-in_default c = takes_no _ _ _ c.tag.ensures _ c.in_default.rest.1
+returns-in_default c = takes_no _ _ _ c.tag.ensures _ c.in_default.in_default-own.rest.1

@@ -49,7 +49,7 @@ pub returns-in-4 : goal.returns-in-4
 returns-in-4 c = settled_asked _ _ _ _ _ c.tag.ensures (search rules, search rules) c.asked.ensures.0 c.asked.ensures.1
 
 pub returns-in_default : goal.returns-in_default
-returns-in_default c = settled_none _ _ _ _ _ c.tag.ensures refl (λ a b. omega (arith, c.if-this-lt2.true)) (λ z. omega (arith, c.if-this-lt2.true))
+returns-in_default c = settled_none _ _ _ _ _ c.tag.ensures refl (λ a b. omega (arith, c.in_default.if-this-lt2-own.true)) (λ z. omega (arith, c.in_default.if-this-lt2-own.true))
 
 pub returns-in_default-2 : goal.returns-in_default-2
-returns-in_default-2 c = settled_none _ _ _ _ _ c.tag.ensures refl (λ a b. omega (arith, c.if-this-lt7.false)) (λ z. c.in_default-1.rest.1 z)
+returns-in_default-2 c = settled_none _ _ _ _ _ c.tag.ensures refl (λ a b. omega (arith, c.in_default.if-this-lt7-own.false)) (λ z. c.in_default.in_default-own.rest.1 z)

@@ -43,4 +43,4 @@ unfolding kind
 returns-in-9 c = λ f o. lettered_within _ _ f _ _ c.args.tos.now c.args.others.now _ _ receive (rw (ap (tag _) (sym c.state_location-row.ensures) ∙ (sym c.tag.ensures ∙ c.in-9.is))) c.requires.rule_room.alike (c.receive_rules.ensures f o)
 
 pub returns-in_default : goal.returns-in_default
-returns-in_default c = λ f o. plain_within _ _ f _ _ c.args.tos.now c.args.others.now _ _ (λ e. c.in_default.rest.0.1 (c.tag.ensures ∙ (ap (tag _) c.state_location-row.ensures ∙ e))) (λ e. c.in_default.rest.1 (c.tag.ensures ∙ (ap (tag _) c.state_location-row.ensures ∙ e))) c.state_rules.ensures
+returns-in_default c = λ f o. plain_within _ _ f _ _ c.args.tos.now c.args.others.now _ _ (λ e. c.in_default.in_default-own.rest.0.1 (c.tag.ensures ∙ (ap (tag _) c.state_location-row.ensures ∙ e))) (λ e. c.in_default.in_default-own.rest.1 (c.tag.ensures ∙ (ap (tag _) c.state_location-row.ensures ∙ e))) c.state_rules.ensures

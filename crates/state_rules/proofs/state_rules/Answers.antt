@@ -83,7 +83,7 @@ receive_rules-requires c = record {
 
 pub rest_rules-requires : goal.rest_rules-requires
 rest_rules-requires c =
-    let plain-here : Plain (program c.args.ws.now c.args.s) c.state_location-r.result = record { head = rw c.state_location-r.ensures (state_head c.requires.rule_tables.ready c.args.i c.requires.i_lt_states); not_give = λ z. c.in_default.rest.0.0.0.0.0.1 (c.tag.ensures ∙ z); not_call = λ z. c.in_default.rest.0.0.0.0.1 (c.tag.ensures ∙ z); not_send = λ z. c.in_default.rest.0.0.0.1 (c.tag.ensures ∙ z); not_spawn = λ z. c.in_default.rest.0.0.1 (c.tag.ensures ∙ z); not_case = λ z. c.in_default.rest.0.1 (c.tag.ensures ∙ z); not_receive = λ z. c.in_default.rest.1 (c.tag.ensures ∙ z) } in
+    let plain-here : Plain (program c.args.ws.now c.args.s) c.state_location-r.result = record { head = rw c.state_location-r.ensures (state_head c.requires.rule_tables.ready c.args.i c.requires.i_lt_states); not_give = λ z. c.in_default.in_default-own.rest.0.0.0.0.0.1 (c.tag.ensures ∙ z); not_call = λ z. c.in_default.in_default-own.rest.0.0.0.0.1 (c.tag.ensures ∙ z); not_send = λ z. c.in_default.in_default-own.rest.0.0.0.1 (c.tag.ensures ∙ z); not_spawn = λ z. c.in_default.in_default-own.rest.0.0.1 (c.tag.ensures ∙ z); not_case = λ z. c.in_default.in_default-own.rest.0.1 (c.tag.ensures ∙ z); not_receive = λ z. c.in_default.in_default-own.rest.1 (c.tag.ensures ∙ z) } in
     record {
         ready = c.requires.rule_tables.ready;
         ends = c.requires.rule_tables.ends;
@@ -118,4 +118,4 @@ returns-in-9 c = loud_done c.requires.rule_tables.ready c.args.i _ _ c.state_loc
 
 pub returns-in_default : goal.returns-in_default
 returns-in_default c =
-    let plain-here : Plain (program c.args.ws.now c.args.s) c.state_location-r.result = record { head = rw c.state_location-r.ensures (state_head c.requires.rule_tables.ready c.args.i c.requires.i_lt_states); not_give = λ z. c.in_default.rest.0.0.0.0.0.1 (c.tag.ensures ∙ z); not_call = λ z. c.in_default.rest.0.0.0.0.1 (c.tag.ensures ∙ z); not_send = λ z. c.in_default.rest.0.0.0.1 (c.tag.ensures ∙ z); not_spawn = λ z. c.in_default.rest.0.0.1 (c.tag.ensures ∙ z); not_case = λ z. c.in_default.rest.0.1 (c.tag.ensures ∙ z); not_receive = λ z. c.in_default.rest.1 (c.tag.ensures ∙ z) } in plain_done c.requires.rule_tables.ready c.args.i _ _ c.state_location-r.ensures _ c.args.others.now _ _ c.requires.rule_room.alike plain-here c.rest_rules.ensures refl
+    let plain-here : Plain (program c.args.ws.now c.args.s) c.state_location-r.result = record { head = rw c.state_location-r.ensures (state_head c.requires.rule_tables.ready c.args.i c.requires.i_lt_states); not_give = λ z. c.in_default.in_default-own.rest.0.0.0.0.0.1 (c.tag.ensures ∙ z); not_call = λ z. c.in_default.in_default-own.rest.0.0.0.0.1 (c.tag.ensures ∙ z); not_send = λ z. c.in_default.in_default-own.rest.0.0.0.1 (c.tag.ensures ∙ z); not_spawn = λ z. c.in_default.in_default-own.rest.0.0.1 (c.tag.ensures ∙ z); not_case = λ z. c.in_default.in_default-own.rest.0.1 (c.tag.ensures ∙ z); not_receive = λ z. c.in_default.in_default-own.rest.1 (c.tag.ensures ∙ z) } in plain_done c.requires.rule_tables.ready c.args.i _ _ c.state_location-r.ensures _ c.args.others.now _ _ c.requires.rule_room.alike plain-here c.rest_rules.ensures refl

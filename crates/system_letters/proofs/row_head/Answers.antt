@@ -20,4 +20,4 @@ returns-in-3 c = head_function _ _ _ c.tag.ensures c.in-3.is
 
 pub returns-in_default : goal.returns-in_default
 unfolding program
-returns-in_default c = head_address _ _ _ c.tag.ensures c.in_default.rest.0.1 c.in_default.rest.1
+returns-in_default c = head_address _ _ _ c.tag.ensures c.in_default.in_default-own.rest.0.1 c.in_default.in_default-own.rest.1

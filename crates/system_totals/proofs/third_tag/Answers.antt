@@ -16,4 +16,4 @@ unfolding third_tag_of kind
 returns-in-9 c = rw c.in-9.is
 
 pub returns-in_default : goal.returns-in_default
-returns-in_default c = no_third _ c.in_default.rest.0.0.1 c.in_default.rest.0.1 c.in_default.rest.1
+returns-in_default c = no_third _ c.in_default.in_default-own.rest.0.0.1 c.in_default.in_default-own.rest.0.1 c.in_default.in_default-own.rest.1

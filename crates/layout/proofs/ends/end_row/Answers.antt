@@ -53,10 +53,10 @@ pub returns-in-31 : goal.returns-in-31
 returns-in-31 c = ends_pattern _ _ _ _ _ _ (sym c.tag.ensures ∙ c.in-31.is) (arity_of _ _ _ _ _ c.num-n.ensures c.num-arity.ensures) c.hops-in-31.ensures c.requires.after_from
 
 pub returns-in-2-to-7 : goal.returns-in-2-to-7
-returns-in-2-to-7 c = let t = c.tag.ensures in ends_bound _ _ _ _ _ _ (omega (arith, t, c.if-this-lt2.false)) (omega (arith, t, c.if-this-lt8.true)) c.rest_row-rest.ensures c.entry.ensures c.requires.after_from
+returns-in-2-to-7 c = let t = c.tag.ensures in ends_bound _ _ _ _ _ _ (omega (arith, t, c.in-2-to-7.if-this-lt2-own.false)) (omega (arith, t, c.in-2-to-7.if-this-lt8-own.true)) c.rest_row-rest.ensures c.entry.ensures c.requires.after_from
 
 pub returns-in_default : goal.returns-in_default
-returns-in_default c = let t = c.tag.ensures in let m = c.in_default-1.rest in ends_row _ _ _ (omega (arith, t, m)) (λ a. omega (arith, t, a, c.if-this-lt2.true))
+returns-in_default c = let t = c.tag.ensures in let m = c.in_default.in_default-own.rest in ends_row _ _ _ (omega (arith, t, m)) (λ a. omega (arith, t, a, c.in_default.if-this-lt2-own.true))
 
 pub returns-in_default-2 : goal.returns-in_default-2
-returns-in_default-2 c = let t = c.tag.ensures in let m = c.in_default-1.rest in ends_row _ _ _ (omega (arith, t, m)) (λ a. omega (arith, t, m, c.if-this-lt8.false))
+returns-in_default-2 c = let t = c.tag.ensures in let m = c.in_default.in_default-own.rest in ends_row _ _ _ (omega (arith, t, m)) (λ a. omega (arith, t, m, c.in_default.if-this-lt8-own.false))

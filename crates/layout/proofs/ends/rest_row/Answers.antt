@@ -55,4 +55,4 @@ pub returns-in-6 : goal.returns-in-6
 returns-in-6 c = rest_6 _ _ _ c.tag.ensures c.in-6.is
 
 pub returns-in_default : goal.returns-in_default
-returns-in_default c = let m = c.in_default.rest in rest_none _ _ _ c.tag.ensures m.0.0.0.0.1 m.0.0.0.1 m.0.0.1 m.0.1 m.1
+returns-in_default c = let m = c.in_default.in_default-own.rest in rest_none _ _ _ c.tag.ensures m.0.0.0.0.1 m.0.0.0.1 m.0.0.1 m.0.1 m.1

@@ -9,7 +9,7 @@ pub returns-in-2-to-7 : goal.returns-in-2-to-7
 returns-in-2-to-7 c = binds_head _ (omega arith) (omega arith)
 
 pub returns-in_default : goal.returns-in_default
-returns-in_default c = binds_none _ (λ a. omega arith) c.in_default-1.rest.1
+returns-in_default c = binds_none _ (λ a. omega arith) c.in_default.in_default-own.rest.1
 
 pub returns-in_default-2 : goal.returns-in_default-2
-returns-in_default-2 c = binds_none _ (λ a. omega arith) c.in_default-1.rest.1
+returns-in_default-2 c = binds_none _ (λ a. omega arith) c.in_default.in_default-own.rest.1

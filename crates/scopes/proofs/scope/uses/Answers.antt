@@ -5,4 +5,4 @@ pub returns-in-1 : goal.returns-in-1
 returns-in-1 c = uses_these _ c.in-1.is
 
 pub returns-in_default : goal.returns-in_default
-returns-in_default c = uses_none _ c.in_default.rest.1
+returns-in_default c = uses_none _ c.in_default.in_default-own.rest.1

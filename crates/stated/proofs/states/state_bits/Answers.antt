@@ -69,7 +69,7 @@ branches_here-requires-in-9 c = record {
 pub rest_closed-requires : goal.rest_closed-requires
 rest_closed-requires c = record {
         layout_ready = closure_layout c.requires.closure_ready;
-        i_lt_states = (c.requires.state_asked.low, (omega (arith, c.tag.ensures, c.in_default.rest.0.0.0.0.1, (head_some c.requires.closure_ready.ready _ _ c.requires.state_asked.low c.requires.state_asked.location).0), omega (arith, c.tag.ensures, c.in_default.rest.0.1, c.in_default.rest.1, (head_some c.requires.closure_ready.ready _ _ c.requires.state_asked.low c.requires.state_asked.location).1)));
+        i_lt_states = (c.requires.state_asked.low, (omega (arith, c.tag.ensures, c.in_default.in_default-own.rest.0.0.0.0.1, (head_some c.requires.closure_ready.ready _ _ c.requires.state_asked.low c.requires.state_asked.location).0), omega (arith, c.tag.ensures, c.in_default.in_default-own.rest.0.1, c.in_default.in_default-own.rest.1, (head_some c.requires.closure_ready.ready _ _ c.requires.state_asked.low c.requires.state_asked.location).1)));
     }
 
 pub returns-in-1 : goal.returns-in-1
@@ -89,4 +89,4 @@ unfolding program columns
 returns-in-9 c = stated_mail _ _ _ _ _ _ _ _ _ _ _ (class_at _ _ _ c.state_class-c.ensures) (location_at _ _ _ c.requires.state_asked.location) c.tag.ensures c.in-9.is c.num-number.ensures (receive_here c.requires.closure_ready.ready _ (sym c.tag.ensures ∙ c.in-9.is) _ c.num-number.ensures).1 c.mail_set-set.ensures c.taken_bits-bits.ensures (c.requires.closure_ready.classes.of_class _ ((class_some c.requires.closure_ready.ready _ _ c.requires.state_asked.low c.state_class-c.ensures))) c.branches_here-in-9.ensures
 
 pub returns-in_default : goal.returns-in_default
-returns-in_default c = stated_rest _ _ _ _ _ (location_at _ _ _ c.requires.state_asked.location) c.tag.ensures _ _ _ (omega (arith, c.tag.ensures, c.in_default.rest.0.0.0.0.1, (head_some c.requires.closure_ready.ready _ _ c.requires.state_asked.low c.requires.state_asked.location).0)) (omega (arith, c.tag.ensures, c.in_default.rest.0.0.1, c.in_default.rest.0.1, c.in_default.rest.1, (head_some c.requires.closure_ready.ready _ _ c.requires.state_asked.low c.requires.state_asked.location).1)) c.in_default.rest.0.0.0.1 c.requires.state_asked.settled c.rest_closed.ensures c.unless-in_default.ensures
+returns-in_default c = stated_rest _ _ _ _ _ (location_at _ _ _ c.requires.state_asked.location) c.tag.ensures _ _ _ (omega (arith, c.tag.ensures, c.in_default.in_default-own.rest.0.0.0.0.1, (head_some c.requires.closure_ready.ready _ _ c.requires.state_asked.low c.requires.state_asked.location).0)) (omega (arith, c.tag.ensures, c.in_default.in_default-own.rest.0.0.1, c.in_default.in_default-own.rest.0.1, c.in_default.in_default-own.rest.1, (head_some c.requires.closure_ready.ready _ _ c.requires.state_asked.low c.requires.state_asked.location).1)) c.in_default.in_default-own.rest.0.0.0.1 c.requires.state_asked.settled c.rest_closed.ensures c.unless-in_default.ensures

@@ -1,0 +1,7 @@
+use Prim.Native.Nat.{ℕ, ◌<◌, ◌-◌}
+use native.Mathlib.Omega.{arith}
+use borrow.Author.Rules.{rules}
+use Rattle.checks_sized.proofs.verdict.+whole_verdict.Given as goal
+
+abbrev pub decreases-whole_verdict : goal.decreases-whole_verdict
+decreases-whole_verdict l = 65536 - l.most

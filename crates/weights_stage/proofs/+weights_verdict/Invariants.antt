@@ -1,0 +1,7 @@
+use Prim.Native.Nat.{ℕ, ◌<◌, ◌-◌}
+use native.Mathlib.Omega.{arith}
+use borrow.Author.Rules.{rules}
+use Rattle.weights_stage.proofs.+weights_verdict.Given as goal
+
+abbrev pub decreases-weights_verdict : goal.decreases-weights_verdict
+decreases-weights_verdict l = 512 - l.most
