@@ -20,5 +20,5 @@ bounds-codes-at-2 c = omega (arith, c.place-at.ensures.upto, c.requires.from_le_
 pub returns : goal.returns
 returns c = record {
         added = placed_new c.requires.rising c.place-at.ensures (λ l. ⊎_elim (λ a. strictly (c.place-at.ensures.more _ (omega arith) l) a.2.left) (λ a. absurd (omega arith)) c.if-at-n.branch) c.shift.ensures c.requires.from_le_n.2;
-        upper_bound = (omega arith, );
+        upper_bound = omega arith;
     }

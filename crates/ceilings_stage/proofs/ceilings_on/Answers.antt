@@ -39,8 +39,8 @@ met_verdict-met-requires c =
     let t = c.requires.joined_tables in
     record {
         letters_filled = (record { ready = t.ready; class_letters = lent_letters _ _ _ _ _ _ t; letter_sets_of = t.letter_sets_of }, c.requires.numbered.bads);
-        counted = ((record { counters = c.requires.numbered.counted; few = omega (arith, c.requires.numbered.counted, t.few) }, c.fill_limits.ensures.limits_table), c.requires.bounds_room.1);
-        n_in_bounds = ;
+        counted = (record { counters = c.requires.numbered.counted; few = omega (arith, c.requires.numbered.counted, t.few) }, c.fill_limits.ensures.limits_table);
+        n_in_bounds = c.requires.bounds_room.1;
     }
 
 pub returns-then-not-is_safe-2 : goal.returns-then-not-is_safe-2

@@ -70,11 +70,8 @@ read_rules-n-requires c =
     let low-class-here : c.state_class-c.result ≤ c.args.s.rows = receive_class c.requires.receive_tables.read_tables.pattern_tables.letter_tables.ready c.args.i _ c.requires.lettered_state.state.low c.state_class-c.ensures in
     record {
         read_tables = c.requires.receive_tables.read_tables;
-        class_room = (
-    receive_room c.requires.receive_tables.read_tables.pattern_tables.letter_tables.ready _ _ c.requires.receive_tables.read_tables.pattern_tables.letter_tables _ _ _ _ _ _ _ c.requires.lettered_state.within_row (search rules) (search rules) c.requires.lettered_state.room c.loop-b.invariant.6 c.loop-b.invariant.7 _ c.loop-b.b c.num-m.result _ low-class-here c.loop-b-test.true few-here c.loop-b.invariant.3,
-    branch_pattern c.requires.receive_tables.read_tables.pattern_tables.letter_tables.ready _ _ _ _ c.loop-b.invariant.1 c.loop-b-test.true,
-  );
-        pattern = ;
+        class_room = receive_room c.requires.receive_tables.read_tables.pattern_tables.letter_tables.ready _ _ c.requires.receive_tables.read_tables.pattern_tables.letter_tables _ _ _ _ _ _ _ c.requires.lettered_state.within_row (search rules) (search rules) c.requires.lettered_state.room c.loop-b.invariant.6 c.loop-b.invariant.7 _ c.loop-b.b c.num-m.result _ low-class-here c.loop-b-test.true few-here c.loop-b.invariant.3;
+        pattern = branch_pattern c.requires.receive_tables.read_tables.pattern_tables.letter_tables.ready _ _ _ _ c.loop-b.invariant.1 c.loop-b-test.true;
     }
 
 pub overflow_step-b-in-loop-b : goal.overflow_step-b-in-loop-b

@@ -69,16 +69,13 @@ sent_rules-n-requires c =
     let low-names-here : (c.num-target.result < c.args.s.names) × (c.num-message.result < c.args.s.names) = send_low c.requires.send_tables.sent_tables.letter_tables.ready _ _ _ c.requires.lettered_state.state.head c.num-target.ensures c.num-message.ensures in
     record {
         sent_tables = c.requires.send_tables.sent_tables;
-        class_room = (
-    send_room c.requires.send_tables.sent_tables.letter_tables.ready _ _ c.requires.send_tables.sent_tables.letter_tables _ _ _ _ _ _ _ c.requires.lettered_state.within_row (search rules) (search rules) c.requires.lettered_state.room c.loop-j.invariant.6 c.loop-j.invariant.7 _ c.loop-j.j _ c.flow_value-d.ensures low_value-here (c.loop-j.invariant.3 c.loop-j-test.true),
-    λ z. record {
+        class_room = send_room c.requires.send_tables.sent_tables.letter_tables.ready _ _ c.requires.send_tables.sent_tables.letter_tables _ _ _ _ _ _ _ c.requires.lettered_state.within_row (search rules) (search rules) c.requires.lettered_state.room c.loop-j.invariant.6 c.loop-j.invariant.7 _ c.loop-j.j _ c.flow_value-d.ensures low_value-here (c.loop-j.invariant.3 c.loop-j-test.true);
+        sent_to = λ z. record {
       name = low-names-here.1;
       mailed = sent_mailed c.requires.send_tables.sent_tables.letter_tables.ready c.args.i c.args.r _ _ _ _ _ c.requires.lettered_state.state.row (state_open c.requires.send_tables.sent_tables.letter_tables.ready c.args.i c.requires.send_tables.closed c.requires.lettered_state.state.low) c.requires.lettered_state.state.head
           (range-here.0 ∙ ap (range_from (tables c.args.ws.now c.args.s).flow) c.num-target.ensures) (range-here.1 ∙ ap (range_to (tables c.args.ws.now c.args.s).flow) c.num-target.ensures)
           c.loop-j.invariant.1 c.loop-j-test.true c.flow_value-d.ensures c.num-message.ensures z;
-    },
-  );
-        sent_to = ;
+    };
     }
 
 pub overflow_step-j : goal.overflow_step-j

@@ -37,8 +37,8 @@ light_verdict-light-requires c =
     let l = c.requires.lined in
     record {
         startable = record { ready = t.ready; ends = t.ends; closed = t.closed; counted = record { counters = l.counted; few = omega (arith, l.counted, t.few) } };
-        letters_filled = ((record { ready = t.ready; class_letters = lent_letters _ _ _ _ _ _ t; letter_sets_of = t.letter_sets_of }, l.bads), (c.fill_weights.ensures.weights_table, c.requires.bounds_room.1));
-        weights_table = ;
+        letters_filled = (record { ready = t.ready; class_letters = lent_letters _ _ _ _ _ _ t; letter_sets_of = t.letter_sets_of }, l.bads);
+        weights_table = (c.fill_weights.ensures.weights_table, c.requires.bounds_room.1);
     }
 
 pub shape_of-weights-then-not-is_safe-2 : goal.shape_of-weights-then-not-is_safe-2

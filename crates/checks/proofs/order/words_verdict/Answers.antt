@@ -114,13 +114,13 @@ open_verdict-open-requires c =
     let r = c.requires.parts_whole.limits in
     record {
         le_most = omega arith;
-        openable = (record {
+        openable = record {
         ready = all-ready-here;
         layout = c.fill_ends.ensures;
         unfitted = c.requires.unfitted;
         names = omega (arith, r.names.1, c.row_words16-starts.ensures.room);
         states = omega (arith, r.states, c.row_words16-branches.ensures.room);
-      }, );
+      };
     }
 
 pub returns-then-not-is_safe-6 : goal.returns-then-not-is_safe-6

@@ -27,7 +27,7 @@ fill_reads-requires c =
         ends = l.closed_tables.ends;
         letter_tables = record { ready = l.closed_tables.ready; few = counters_few _ _ _ _ _ _ _ l; class_letters = lent_classes _ _ _ _ _ _ _ l; letter_sets_of = c.fill_letters.ensures };
       };
-        owners_room = (owners_kept _ _ _ _ c.requires.owners_room (search rules), );
+        owners_room = owners_kept _ _ _ _ c.requires.owners_room (search rules);
     }
 
 pub bounds_verdict-requires : goal.bounds_verdict-requires
