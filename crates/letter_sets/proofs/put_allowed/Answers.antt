@@ -40,11 +40,13 @@ word-from-requires c = omega (arith, inside c)
 
 pub overflow_add-c : goal.overflow_add-c
 overflow_add-c c =
-    let inside-here : (c.left-c.result + 1 < length c.args.letter_at.now) × (c.left-c.result ≤ c.args.s.rows) = class_inside c.requires.letters_known.heads.ready _ _ _ c.requires.letters_known.class_letters c.requires.j_lt_mails.0 (class c) in record { fits = omega (arith, inside-here, c.requires.letters_known.heads.ready.limits.rows) }
+    let class_here : c.left-c.result ≡ left (tables c.args.ws.now c.args.s).mail c.args.j = mail_class _ _ _ _ _ c.left-c.ensures c.mail-list.ensures in
+    let inside-here : (c.left-c.result + 1 < length c.args.letter_at.now) × (c.left-c.result ≤ c.args.s.rows) = class_inside c.requires.letters_known.heads.ready _ _ _ c.requires.letters_known.class_letters c.requires.j_lt_mails.0 class_here in record { fits = omega (arith, inside-here, c.requires.letters_known.heads.ready.limits.rows) }
 
 pub word-to-requires : goal.word-to-requires
 word-to-requires c =
-    let inside-here : (c.left-c.result + 1 < length c.args.letter_at.now) × (c.left-c.result ≤ c.args.s.rows) = class_inside c.requires.letters_known.heads.ready _ _ _ c.requires.letters_known.class_letters c.requires.j_lt_mails.0 (class c) in omega (arith, inside-here)
+    let class_here : c.left-c.result ≡ left (tables c.args.ws.now c.args.s).mail c.args.j = mail_class _ _ _ _ _ c.left-c.ensures c.mail-list.ensures in
+    let inside-here : (c.left-c.result + 1 < length c.args.letter_at.now) × (c.left-c.result ≤ c.args.s.rows) = class_inside c.requires.letters_known.heads.ready _ _ _ c.requires.letters_known.class_letters c.requires.j_lt_mails.0 class_here in omega (arith, inside-here)
 
 -- the letters of the class, as the words tell them
 range : (c : goal.After-word-to) → ClassRange c.requires.letters_known.heads.ready c.args.j c.word-from.result c.word-to.result
@@ -55,7 +57,8 @@ loop-y-init c = (upto_start _ _ _ _, search rules, (range c).order)
 
 pub bounds-codes-y : goal.bounds-codes-y
 bounds-codes-y c =
-    let range-here : ClassRange c.requires.letters_known.heads.ready c.args.j c.word-from.result c.word-to.result = class_words c.requires.letters_known.heads.ready _ _ _ _ _ c.requires.letters_known.class_letters c.requires.j_lt_mails.0 (class c.before.before) c.word-from.ensures.0 c.word-to.ensures.0 in omega (arith, range-here.most, c.requires.letters_known.coded.room)
+    let class_here : c.left-c.result ≡ left (tables c.args.ws.now c.args.s).mail c.args.j = mail_class _ _ _ _ _ c.left-c.ensures c.mail-list.ensures in
+    let range-here : ClassRange c.requires.letters_known.heads.ready c.args.j c.word-from.result c.word-to.result = class_words c.requires.letters_known.heads.ready _ _ _ _ _ c.requires.letters_known.class_letters c.requires.j_lt_mails.0 class_here c.word-from.ensures.0 c.word-to.ensures.0 in omega (arith, range-here.most, c.requires.letters_known.coded.room)
 
 pub allows-requires : goal.allows-requires
 allows-requires c =
@@ -63,7 +66,8 @@ allows-requires c =
 
 pub put-requires : goal.put-requires
 put-requires c =
-    let range-here : ClassRange c.requires.letters_known.heads.ready c.args.j c.word-from.result c.word-to.result = class_words c.requires.letters_known.heads.ready _ _ _ _ _ c.requires.letters_known.class_letters c.requires.j_lt_mails.0 (class c.before.before) c.word-from.ensures.0 c.word-to.ensures.0 in let z = allowed_row c.requires.letters_known.heads.ready _ _ _ _ _ _ _ _ c.letter_width-w.ensures refl c.requires.j_lt_mails.0 c.requires.j_lt_mails.1 c.loop-y.invariant.0.long range-here c.loop-y-test.true in record { v_bound = z.0; row = z.1 }
+    let class_here : c.left-c.result ≡ left (tables c.args.ws.now c.args.s).mail c.args.j = mail_class _ _ _ _ _ c.left-c.ensures c.mail-list.ensures in
+    let range-here : ClassRange c.requires.letters_known.heads.ready c.args.j c.word-from.result c.word-to.result = class_words c.requires.letters_known.heads.ready _ _ _ _ _ c.requires.letters_known.class_letters c.requires.j_lt_mails.0 class_here c.word-from.ensures.0 c.word-to.ensures.0 in let z = allowed_row c.requires.letters_known.heads.ready _ _ _ _ _ _ _ _ c.letter_width-w.ensures refl c.requires.j_lt_mails.0 c.requires.j_lt_mails.1 c.loop-y.invariant.0.long range-here c.loop-y-test.true in record { v_bound = z.0; row = z.1 }
 
 pub loop-y-preserved : goal.loop-y-preserved
 loop-y-preserved c =
@@ -82,4 +86,5 @@ shape_of-letters c = c.loop-y.invariant.0.long
 
 pub returns : goal.returns
 returns c =
-    let range-here : ClassRange c.requires.letters_known.heads.ready c.args.j c.word-from.result c.word-to.result = class_words c.requires.letters_known.heads.ready _ _ _ _ _ c.requires.letters_known.class_letters c.requires.j_lt_mails.0 (class c.before.before) c.word-from.ensures.0 c.word-to.ensures.0 in allowed_over c.requires.letters_known.heads.ready _ _ _ _ _ _ _ _ _ c.letter_width-w.ensures range-here c.loop-y.invariant.0 (search rules)
+    let class_here : c.left-c.result ≡ left (tables c.args.ws.now c.args.s).mail c.args.j = mail_class _ _ _ _ _ c.left-c.ensures c.mail-list.ensures in
+    let range-here : ClassRange c.requires.letters_known.heads.ready c.args.j c.word-from.result c.word-to.result = class_words c.requires.letters_known.heads.ready _ _ _ _ _ c.requires.letters_known.class_letters c.requires.j_lt_mails.0 class_here c.word-from.ensures.0 c.word-to.ensures.0 in allowed_over c.requires.letters_known.heads.ready _ _ _ _ _ _ _ _ _ c.letter_width-w.ensures range-here c.loop-y.invariant.0 (search rules)

@@ -24,6 +24,7 @@ pub is_head-requires : goal.is_head-requires
 is_head-requires c = tt
 
 pub overflow_cast-table : goal.overflow_cast-table
+unfolding columns program
 overflow_cast-table c =
     let joined_here : let a = c.args in (c.if-is_head.head ≤ a.s.rows) × (c.if-is_head.head ≡ next_head (program a.ws.now a.s) (c.loop-r.r - 1)) = let l = c.loop-r in
     let t = c.tag.ensures in
