@@ -31,9 +31,6 @@ returns-then-not-is_safe c =
 pub slice_bounds-met_verdict-count : goal.slice_bounds-met_verdict-count
 slice_bounds-met_verdict-count c = omega (arith, long _ _ _ _ _ _ c.requires.joined_tables)
 
-pub slice-bounds-met-verdict-start : goal.slice-bounds-met-verdict-start
-slice-bounds-met-verdict-start c = omega (arith, long _ _ _ _ _ _ c.requires.joined_tables)
-
 pub met_verdict-met-requires : goal.met_verdict-met-requires
 met_verdict-met-requires c =
     let t = c.requires.joined_tables in

@@ -34,7 +34,8 @@ sent_letters-requires c =
     let mailed-here : SentTo c.args.ws.now c.args.s c.args.m c.args.d = c.requires.sent_to (sym c.is_class.ensures ∙ c.if-not-is_class.false) in record { sent_tables = c.requires.sent_tables; sent_to = mailed-here; row = c.requires.class_room.found_row }
 
 pub class_rules-requires : goal.class_rules-requires
-class_rules-requires c = letter_room c.requires.sent_tables.letter_tables.ready _ _ _ _ _ _ _ _ _ c.requires.sent_tables.letter_tables c.requires.class_room _ c.letter_width-words.ensures _ _ (search rules) (search rules)
+class_rules-requires c =
+    let z = letter_room c.requires.sent_tables.letter_tables.ready _ _ _ _ _ _ _ _ _ c.requires.sent_tables.letter_tables c.requires.class_room _ c.letter_width-words.ensures _ _ (search rules) (search rules) in record { letter_room = z.0; row = z.1 }
 
 pub returns : goal.returns
 returns c =

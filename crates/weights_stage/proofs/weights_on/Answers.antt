@@ -28,9 +28,6 @@ returns-then-not-is_safe c =
 pub slice_bounds-light_verdict-count : goal.slice_bounds-light_verdict-count
 slice_bounds-light_verdict-count c = omega (arith, long _ _ _ _ _ _ c.requires.joined_tables)
 
-pub slice-bounds-light-verdict-start : goal.slice-bounds-light-verdict-start
-slice-bounds-light-verdict-start c = omega (arith, long _ _ _ _ _ _ c.requires.joined_tables)
-
 pub light_verdict-light-requires : goal.light_verdict-light-requires
 light_verdict-light-requires c =
     let t = c.requires.joined_tables in

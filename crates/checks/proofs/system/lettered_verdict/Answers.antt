@@ -7,9 +7,6 @@ use Rattle.checks.proofs.system.lettered_verdict.Goals as goal
 pub slice_bounds-letter_at-count : goal.slice_bounds-letter_at-count
 slice_bounds-letter_at-count c = omega (arith, letters_from _ _ _ _ _ _ _ c.requires.lettered)
 
-pub slice-bounds-letter-at-start : goal.slice-bounds-letter-at-start
-slice-bounds-letter-at-start c = omega (arith, letters_from _ _ _ _ _ _ _ c.requires.lettered)
-
 pub fill_letters-requires : goal.fill_letters-requires
 fill_letters-requires c =
     let l = c.requires.lettered in

@@ -17,9 +17,6 @@ fill_names-requires c = record { ready = c.requires.closed_tables.ready; names_i
 pub slice_bounds-fill_codes-count : goal.slice_bounds-fill_codes-count
 slice_bounds-fill_codes-count c = omega (arith, c.requires.closed_tables.room)
 
-pub slice-bounds-fill-codes-start : goal.slice-bounds-fill-codes-start
-slice-bounds-fill-codes-start c = omega (arith, c.requires.closed_tables.room)
-
 pub fill_codes-l-requires : goal.fill_codes-l-requires
 fill_codes-l-requires c =
     let k = c.requires.closed_tables in

@@ -46,4 +46,4 @@ pub go_on-requires : goal.go_on-requires
 go_on-requires c = record { ready = c.requires.flow_ready.ready; to_le_states = heads_upto c.requires.flow_ready.ready _ _ _ c.heads_to-to.ensures }
 
 pub returns : goal.returns
-returns c = name_given _ _ _ _ _ _ c.num-given.ensures (gives_on _ _ (states_rise c.requires.flow_ready.ready) _ _ _ _ _ _ c.state_return-call.ensures c.state_class-c.ensures c.heads_from-from.ensures c.heads_to-to.ensures _ _ c.if-from-to.false c.num-name.ensures c.includes.ensures _ _ c.if-not-includes.false (rest_here c.requires.flow_ready.ready _ (return_some c.requires.flow_ready.ready _ _ c.requires.i_lt_states.0 c.state_return-call.ensures c.if-call-s.false) _ c.num.ensures).0 c.go_on.ensures)
+returns c = name_given _ _ _ _ _ _ c.num-given.ensures (gives_on _ _ (states_rise c.requires.flow_ready.ready) _ _ _ _ _ _ c.state_return-call.ensures c.state_class-c.ensures c.heads_from-from.ensures c.heads_to-to.ensures _ _ c.if-from-to.false c.num-name.ensures c.includes.ensures _ _ (ap not c.if-not-includes.false) (rest_here c.requires.flow_ready.ready _ (return_some c.requires.flow_ready.ready _ _ c.requires.i_lt_states.0 c.state_return-call.ensures c.if-call-s.false) _ c.num.ensures).0 c.go_on.ensures)
