@@ -13,13 +13,10 @@ use Rattle.letter_sets.specs.Sets.{is_allowed}
 use Rattle.letter_sets.proofs.Putting.{PutUpto, upto_start}
 use Rattle.letter_sets.proofs.Filling.{mail_class, class_inside, ClassRange, class_words, allowed_row, allowed_put, allowed_left, allowed_over}
 use Rattle.letter_sets.proofs.put_allowed.Goals as goal
+use Rattle.letter_sets.proofs.put_allowed.Goals.{then-allows, else-allows}
 
 pub letter_width-w-requires : goal.letter_width-w-requires
 letter_width-w-requires c = record { ready = c.requires.letters_known.heads.ready; class_letters = c.requires.letters_known.class_letters }
-
--- the value of a mail entry is a word
-low : (c : goal.After-mail_value-v) → c.mail_value-v.result < 65536
-low c = mail_value_low c.requires.letters_known.heads.ready _ _ c.requires.j_lt_mails.0 c.mail_value-v.ensures
 
 pub value_arity-count-requires : goal.value_arity-count-requires
 value_arity-count-requires c =
@@ -50,7 +47,7 @@ word-to-requires c =
 
 -- the letters of the class, as the words tell them
 range : (c : goal.After-word-to) → ClassRange c.requires.letters_known.heads.ready c.args.j c.word-from.result c.word-to.result
-range c = class_words c.requires.letters_known.heads.ready _ _ _ _ _ c.requires.letters_known.class_letters c.requires.j_lt_mails.0 (class c.before.before) c.word-from.ensures.0 c.word-to.ensures.0
+range c = class_words c.requires.letters_known.heads.ready _ _ _ _ _ c.requires.letters_known.class_letters c.requires.j_lt_mails.0 (mail_class _ _ _ _ _ c.left-c.ensures c.mail-list.ensures) c.word-from.ensures.0 c.word-to.ensures.0
 
 pub loop-y-init : goal.loop-y-init
 loop-y-init c = (upto_start _ _ _ _, search rules, (range c).order)
@@ -73,10 +70,10 @@ pub loop-y-preserved : goal.loop-y-preserved
 loop-y-preserved c =
     let h = c.requires.letters_known.heads.ready in
     let i = c.loop-y.invariant in (
-      ⊎_elim
-          (λ z. rw z.5 (allowed_put h _ _ _ _ _ _ _ _ _ _ _ _ _ i.0 i.1 c.mail_value-v.ensures refl refl c.allows.ensures z.0.taken z.2.ensures))
-          (λ z. rw z.1 (allowed_left h _ _ _ _ _ _ _ _ _ _ _ i.0 i.1 c.mail_value-v.ensures refl c.allows.ensures z.0.left))
-          c.if-allows.branch,
+      elim c.if-allows.branch [
+        then-allows z ↦ rw z.letters-is (allowed_put h _ _ _ _ _ _ _ _ _ _ _ _ _ i.0 i.1 c.mail_value-v.ensures refl refl c.allows.ensures z.if-allows.true z.put.ensures)
+      | else-allows z ↦ rw z.letters-is (allowed_left h _ _ _ _ _ _ _ _ _ _ _ i.0 i.1 c.mail_value-v.ensures refl c.allows.ensures z.if-allows.false)
+      ],
       search rules,
       search rules,
     )
