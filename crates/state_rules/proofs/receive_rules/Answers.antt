@@ -67,8 +67,8 @@ onto-next-requires c = record { ready = c.requires.receive_tables.read_tables.pa
 
 pub read_rules-n-requires : goal.read_rules-n-requires
 read_rules-n-requires c =
-    let few-here : c.num-m.result ≤ max_branches = omega (arith, receive_count c.requires.receive_tables.read_tables.pattern_tables.letter_tables.ready c.args.r c.requires.lettered_state.state.head, c.num-m.ensures) in
     let low-class-here : c.state_class-c.result ≤ c.args.s.rows = receive_class c.requires.receive_tables.read_tables.pattern_tables.letter_tables.ready c.args.i _ c.requires.lettered_state.state.low c.state_class-c.ensures in
+    let few-here : c.num-m.result ≤ max_branches = omega (arith, receive_count c.requires.receive_tables.read_tables.pattern_tables.letter_tables.ready c.args.r c.requires.lettered_state.state.head, c.num-m.ensures) in
     record {
         read_tables = c.requires.receive_tables.read_tables;
         class_room = receive_room c.requires.receive_tables.read_tables.pattern_tables.letter_tables.ready _ _ c.requires.receive_tables.read_tables.pattern_tables.letter_tables _ _ _ _ _ _ _ c.requires.lettered_state.within_row (search rules) (search rules) c.requires.lettered_state.room c.loop-b.invariant.6 c.loop-b.invariant.7 _ c.loop-b.b c.num-m.result _ low-class-here c.loop-b-test.true few-here c.loop-b.invariant.3;
@@ -84,8 +84,8 @@ loop-b-smaller c = omega (arith, c.loop-b-test.true)
 
 pub loop-b-preserved : goal.loop-b-preserved
 loop-b-preserved c =
-    let next-branch-here : BranchAt (program c.args.ws.now c.args.s) (c.args.r + 1) c.num-m.result (c.loop-b.b + 1) c.word-q.result = branch_next _ _ c.requires.receive_tables.read_tables.pattern_tables.ends _ _ _ _ c.loop-b.invariant.1 c.loop-b-test.true _ _ (c.branch_body-e.ensures ∙ sym (branch_here _ _ c.requires.receive_tables.read_tables.pattern_tables.ends _ _ _ _ c.loop-b.invariant.1 c.loop-b-test.true).1) c.word-q.ensures.0 in
-    let low-class-here : c.state_class-c.result ≤ c.args.s.rows = receive_class c.requires.receive_tables.read_tables.pattern_tables.letter_tables.ready c.args.i _ c.requires.lettered_state.state.low c.state_class-c.ensures in (
+    let low-class-here : c.state_class-c.result ≤ c.args.s.rows = receive_class c.requires.receive_tables.read_tables.pattern_tables.letter_tables.ready c.args.i _ c.requires.lettered_state.state.low c.state_class-c.ensures in
+    let next-branch-here : BranchAt (program c.args.ws.now c.args.s) (c.args.r + 1) c.num-m.result (c.loop-b.b + 1) c.word-q.result = branch_next _ _ c.requires.receive_tables.read_tables.pattern_tables.ends _ _ _ _ c.loop-b.invariant.1 c.loop-b-test.true _ _ (c.branch_body-e.ensures ∙ sym (branch_here _ _ c.requires.receive_tables.read_tables.pattern_tables.ends _ _ _ _ c.loop-b.invariant.1 c.loop-b-test.true).1) c.word-q.ensures.0 in (
   λ f o. added_more receive _ _ 0 _ _ _ _ _ _ (c.loop-b.invariant.0 f o) (omega arith) _ _ _ (added_same receive _ _ _ _ _ _ _ _ (c.read_rules-n.ensures.by_index f o) (λ e. receive_same c.requires.receive_tables.read_tables.pattern_tables.letter_tables.ready c.args.i _ _ _ _ e c.loop-b.invariant.1 f _ _ _ c.state_class-c.ensures c.branch_body-e.ensures c.onto-next.ensures)),
   next-branch-here,
   omega (arith, c.loop-b-test.true),

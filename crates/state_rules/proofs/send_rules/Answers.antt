@@ -24,11 +24,9 @@ use Rattle.state_rules.proofs.send_rules.Goals as goal
 low-row : (c : goal.After-slice_known-2-1) → c.args.r < c.args.s.rows
 low-row c = here_low c.requires.send_tables.sent_tables.letter_tables.ready c.args.r (tag_head _ 5 c.requires.lettered_state.state.head (omega arith) (omega arith))
 
-low-names : (c : goal.After-num-message) → (c.num-target.result < c.args.s.names) × (c.num-message.result < c.args.s.names)
-low-names c = send_low c.requires.send_tables.sent_tables.letter_tables.ready _ _ _ c.requires.lettered_state.state.head c.num-target.ensures c.num-message.ensures
-
 range : (c : goal.After-word-to) → (c.word-from.result ≡ range_from (tables c.args.ws.now c.args.s).flow c.num-target.result) × (c.word-to.result ≡ range_to (tables c.args.ws.now c.args.s).flow c.num-target.result)
-range c = name_starts c.requires.send_tables.sent_tables.letter_tables.ready _ _ _ _ c.requires.send_tables.sent_tables.flow_starts (low-names c.before.before.before).0 c.word-from.ensures.0 c.word-to.ensures.0
+range c =
+    let low-names-here : (c.num-target.result < c.args.s.names) × (c.num-message.result < c.args.s.names) = send_low c.requires.send_tables.sent_tables.letter_tables.ready _ _ _ c.requires.lettered_state.state.head c.num-target.ensures c.num-message.ensures in name_starts c.requires.send_tables.sent_tables.letter_tables.ready _ _ _ _ c.requires.send_tables.sent_tables.flow_starts low-names-here.0 c.word-from.ensures.0 c.word-to.ensures.0
 
 order : (c : goal.After-word-to) → (c.word-from.result ≤ c.word-to.result) × (c.word-to.result ≤ c.args.s.flows)
 order c = flow_order c.requires.send_tables.sent_tables.letter_tables.ready _ _ _ (range c).0 (range c).1
@@ -66,10 +64,7 @@ pub sent_rules-n-requires : goal.sent_rules-n-requires
 sent_rules-n-requires c =
     let low-names-here : (c.num-target.result < c.args.s.names) × (c.num-message.result < c.args.s.names) = send_low c.requires.send_tables.sent_tables.letter_tables.ready _ _ _ c.requires.lettered_state.state.head c.num-target.ensures c.num-message.ensures in
     let range-here : (c.word-from.result ≡ range_from (tables c.args.ws.now c.args.s).flow c.num-target.result) × (c.word-to.result ≡ range_to (tables c.args.ws.now c.args.s).flow c.num-target.result) = name_starts c.requires.send_tables.sent_tables.letter_tables.ready _ _ _ _ c.requires.send_tables.sent_tables.flow_starts low-names-here.0 c.word-from.ensures.0 c.word-to.ensures.0 in
-    let low-names-here : (c.num-target.result < c.args.s.names) × (c.num-message.result < c.args.s.names) = send_low c.requires.send_tables.sent_tables.letter_tables.ready _ _ _ c.requires.lettered_state.state.head c.num-target.ensures c.num-message.ensures in
     let low_value-here : c.flow_value-d.result ≤ c.args.s.rows = send_value c.requires.send_tables.sent_tables.letter_tables.ready c.num-target.result _ _ _ _ range-here.0 range-here.1 c.loop-j.invariant.1 c.loop-j-test.true c.flow_value-d.ensures in
-    let range-here : (c.word-from.result ≡ range_from (tables c.args.ws.now c.args.s).flow c.num-target.result) × (c.word-to.result ≡ range_to (tables c.args.ws.now c.args.s).flow c.num-target.result) = name_starts c.requires.send_tables.sent_tables.letter_tables.ready _ _ _ _ c.requires.send_tables.sent_tables.flow_starts low-names-here.0 c.word-from.ensures.0 c.word-to.ensures.0 in
-    let low-names-here : (c.num-target.result < c.args.s.names) × (c.num-message.result < c.args.s.names) = send_low c.requires.send_tables.sent_tables.letter_tables.ready _ _ _ c.requires.lettered_state.state.head c.num-target.ensures c.num-message.ensures in
     record {
         sent_tables = c.requires.send_tables.sent_tables;
         class_room = send_room c.requires.send_tables.sent_tables.letter_tables.ready _ _ c.requires.send_tables.sent_tables.letter_tables _ _ _ _ _ _ _ c.requires.lettered_state.within_row (search rules) (search rules) c.requires.lettered_state.room c.loop-j.invariant.6 c.loop-j.invariant.7 _ c.loop-j.j _ c.flow_value-d.ensures low_value-here (c.loop-j.invariant.3 c.loop-j-test.true);

@@ -12,9 +12,10 @@ use Rattle.rules.proofs.Within.{all_pass}
 use Rattle.state_rules.proofs.Rooms.{send_tables, receive_tables}
 use Rattle.state_rules.proofs.Within.{letters_row}
 use Rattle.state_rules.proofs.state_rules.Goals as goal
+use Rattle.state_rules.proofs.state_rules.Goals.{In_default}
 
 -- a build, a function or self
-plain : (c : goal.In_default) → Plain (program c.args.ws.now c.args.s) c.state_location-r.result
+plain : (c : In_default) → Plain (program c.args.ws.now c.args.s) c.state_location-r.result
 plain c = record { head = rw c.state_location-r.ensures (state_head c.requires.rule_tables.ready c.args.i c.requires.i_lt_states); not_give = λ z. c.in_default.in_default-own.rest.0.0.0.0.0.1 (c.tag.ensures ∙ z); not_call = λ z. c.in_default.in_default-own.rest.0.0.0.0.1 (c.tag.ensures ∙ z); not_send = λ z. c.in_default.in_default-own.rest.0.0.0.1 (c.tag.ensures ∙ z); not_spawn = λ z. c.in_default.in_default-own.rest.0.0.1 (c.tag.ensures ∙ z); not_case = λ z. c.in_default.in_default-own.rest.0.1 (c.tag.ensures ∙ z); not_receive = λ z. c.in_default.in_default-own.rest.1 (c.tag.ensures ∙ z) }
 
 pub state_location-r-requires : goal.state_location-r-requires
