@@ -40,35 +40,35 @@ state_head-head-requires c = c.requires.joined_tables.ready
 
 pub overflow_add-rules : goal.overflow_add-rules
 overflow_add-rules c =
-    let few-here : c.rules_from-m.result ≤ 65536 = few_rules _ _ _ _ _ _ _ c.rules_from-m.ensures.rules_from (omega (arith, c.rules_from-m.auto.1.1.1.1.1.1.1.1.1.0, c.loop-i.invariant.2.tos_long, c.requires.room_from.1)) in record { fits = omega (arith, few-here, c.loop-i.invariant.1.rules_low, c.loop-i-test.true, c.requires.joined_tables.ready.limits.states) }
+    let few-here : c.rules_from-m.result ≤ 65536 = few_rules _ _ _ _ _ _ _ c.rules_from-m.ensures.rules_from (omega (arith, c.rules_from-m.auto.tos, c.loop-i.invariant.2.tos_long, c.requires.room_from.1)) in record { fits = omega (arith, few-here, c.loop-i.invariant.1.rules_low, c.loop-i-test.true, c.requires.joined_tables.ready.limits.states) }
 
 pub row_total-rows-requires : goal.row_total-rows-requires
 row_total-rows-requires c =
-    let few-here : c.rules_from-m.result ≤ 65536 = few_rules _ _ _ _ _ _ _ c.rules_from-m.ensures.rules_from (omega (arith, c.rules_from-m.auto.1.1.1.1.1.1.1.1.1.0, c.loop-i.invariant.2.tos_long, c.requires.room_from.1)) in few-here
+    let few-here : c.rules_from-m.result ≤ 65536 = few_rules _ _ _ _ _ _ _ c.rules_from-m.ensures.rules_from (omega (arith, c.rules_from-m.auto.tos, c.loop-i.invariant.2.tos_long, c.requires.room_from.1)) in few-here
 
 pub overflow_add-rows : goal.overflow_add-rows
 overflow_add-rows c =
-    let few-here : c.rules_from-m.result ≤ 65536 = few_rules _ _ _ _ _ _ _ c.rules_from-m.ensures.rules_from (omega (arith, c.rules_from-m.auto.1.1.1.1.1.1.1.1.1.0, c.loop-i.invariant.2.tos_long, c.requires.room_from.1)) in record { fits = omega (arith, few-here, c.row_total-rows.ensures.1, c.loop-i.invariant.1.rows_low, c.loop-i-test.true, c.requires.joined_tables.ready.limits.states) }
+    let few-here : c.rules_from-m.result ≤ 65536 = few_rules _ _ _ _ _ _ _ c.rules_from-m.ensures.rules_from (omega (arith, c.rules_from-m.auto.tos, c.loop-i.invariant.2.tos_long, c.requires.room_from.1)) in record { fits = omega (arith, few-here, c.row_total-rows.ensures.1, c.loop-i.invariant.1.rows_low, c.loop-i-test.true, c.requires.joined_tables.ready.limits.states) }
 
 pub offset_bounds-tos-used : goal.offset_bounds-tos-used
 offset_bounds-tos-used c =
-    let begins-here : (c.loop-i.auto.used ≤ length c.loop-i.tos) × (c.loop-i.auto.used ≤ length c.loop-i.others) = let h = c.loop-i.invariant in
+    let begins-here : (c.loop-i.kept.used ≤ length c.loop-i.tos) × (c.loop-i.kept.used ≤ length c.loop-i.others) = let h = c.loop-i.invariant in
     starts_low _ _ _ c.loop-i.tos c.loop-i.others (room_later _ _ _ _ _ c.requires.room_from.0 _ _ _ h.6 h.2.tos_long h.2.others_long) in record { fits = omega (arith, begins-here.0, c.loop-i.invariant.2.tos_long, c.requires.room_from.1) }
 
 pub slice_bounds-put_group-count : goal.slice_bounds-put_group-count
 slice_bounds-put_group-count c =
-    let begins-here : (c.loop-i.auto.used ≤ length c.loop-i.tos) × (c.loop-i.auto.used ≤ length c.loop-i.others) = let h = c.loop-i.invariant in
-    starts_low _ _ _ c.loop-i.tos c.loop-i.others (room_later _ _ _ _ _ c.requires.room_from.0 _ _ _ h.6 h.2.tos_long h.2.others_long) in omega (arith, begins-here.0, c.rules_from-m.auto.1.1.1.1.1.1.1.1.1.0)
+    let begins-here : (c.loop-i.kept.used ≤ length c.loop-i.tos) × (c.loop-i.kept.used ≤ length c.loop-i.others) = let h = c.loop-i.invariant in
+    starts_low _ _ _ c.loop-i.tos c.loop-i.others (room_later _ _ _ _ _ c.requires.room_from.0 _ _ _ h.6 h.2.tos_long h.2.others_long) in omega (arith, begins-here.0, c.rules_from-m.auto.tos)
 
 pub offset_bounds-others-used : goal.offset_bounds-others-used
 offset_bounds-others-used c =
-    let begins-here : (c.loop-i.auto.used ≤ length c.loop-i.tos) × (c.loop-i.auto.used ≤ length c.loop-i.others) = let h = c.loop-i.invariant in
+    let begins-here : (c.loop-i.kept.used ≤ length c.loop-i.tos) × (c.loop-i.kept.used ≤ length c.loop-i.others) = let h = c.loop-i.invariant in
     starts_low _ _ _ c.loop-i.tos c.loop-i.others (room_later _ _ _ _ _ c.requires.room_from.0 _ _ _ h.6 h.2.tos_long h.2.others_long) in record { fits = omega (arith, begins-here.0, c.loop-i.invariant.2.tos_long, c.requires.room_from.1) }
 
 pub slice_bounds-put_group-count-in-loop-i : goal.slice_bounds-put_group-count-in-loop-i
 slice_bounds-put_group-count-in-loop-i c =
-    let begins-here : (c.loop-i.auto.used ≤ length c.loop-i.tos) × (c.loop-i.auto.used ≤ length c.loop-i.others) = let h = c.loop-i.invariant in
-    starts_low _ _ _ c.loop-i.tos c.loop-i.others (room_later _ _ _ _ _ c.requires.room_from.0 _ _ _ h.6 h.2.tos_long h.2.others_long) in omega (arith, begins-here.1, c.rules_from-m.auto.1.1.1.1.1.1.1.1.1.1.0)
+    let begins-here : (c.loop-i.kept.used ≤ length c.loop-i.tos) × (c.loop-i.kept.used ≤ length c.loop-i.others) = let h = c.loop-i.invariant in
+    starts_low _ _ _ c.loop-i.tos c.loop-i.others (room_later _ _ _ _ _ c.requires.room_from.0 _ _ _ h.6 h.2.tos_long h.2.others_long) in omega (arith, begins-here.1, c.rules_from-m.auto.others)
 
 pub put_group-requires : goal.put_group-requires
 put_group-requires c =
@@ -81,7 +81,7 @@ put_group-requires c =
 
 pub keep-kept-requires : goal.keep-kept-requires
 keep-kept-requires c =
-    let few-here : c.rules_from-m.result ≤ 65536 = few_rules _ _ _ _ _ _ _ c.rules_from-m.ensures.rules_from (omega (arith, c.rules_from-m.auto.1.1.1.1.1.1.1.1.1.0, c.loop-i.invariant.2.tos_long, c.requires.room_from.1)) in
+    let few-here : c.rules_from-m.result ≤ 65536 = few_rules _ _ _ _ _ _ _ c.rules_from-m.ensures.rules_from (omega (arith, c.rules_from-m.auto.tos, c.loop-i.invariant.2.tos_long, c.requires.room_from.1)) in
     let h = c.loop-i.invariant in
     let room = c.requires.room_from in
     record {
@@ -98,21 +98,21 @@ loop-i-smaller c = omega (arith, c.loop-i-test.true)
 
 pub loop-i-preserved : goal.loop-i-preserved
 loop-i-preserved c =
-    let begins-here : (c.loop-i.auto.used ≤ length c.loop-i.tos) × (c.loop-i.auto.used ≤ length c.loop-i.others) = let h = c.loop-i.invariant in
+    let begins-here : (c.loop-i.kept.used ≤ length c.loop-i.tos) × (c.loop-i.kept.used ≤ length c.loop-i.others) = let h = c.loop-i.invariant in
     starts_low _ _ _ c.loop-i.tos c.loop-i.others (room_later _ _ _ _ _ c.requires.room_from.0 _ _ _ h.6 h.2.tos_long h.2.others_long) in
-    let few-here : c.rules_from-m.result ≤ 65536 = few_rules _ _ _ _ _ _ _ c.rules_from-m.ensures.rules_from (omega (arith, c.rules_from-m.auto.1.1.1.1.1.1.1.1.1.0, c.loop-i.invariant.2.tos_long, c.requires.room_from.1)) in
+    let few-here : c.rules_from-m.result ≤ 65536 = few_rules _ _ _ _ _ _ _ c.rules_from-m.ensures.rules_from (omega (arith, c.rules_from-m.auto.tos, c.loop-i.invariant.2.tos_long, c.requires.room_from.1)) in
     let h = c.loop-i.invariant in
     let low = begins-here in
     let rules = c.rules_from-m.ensures.rules_from in (
       groups_next _ _ _ _ _ _ _ _ _ (lent_rules _ _ _ _ _ _ _ rules) (c.effect_kind.ensures.value ∙ ap effect_kind_of c.state_head-head.ensures) c.effect_kind.ensures.upper_bound _ _ c.put_group.ensures h.0,
       summed_more _ _ c.loop-i.i c.loop-i.rules c.loop-i.rows _ _ _ _ _ h.1 rules.rules few-here c.state_head-head.ensures c.row_total-rows.ensures.0 c.row_total-rows.ensures.1,
-      walk_next _ _ _ _ _ _ h.2 _ _ _ c.guess_class.auto.1.1.0 c.rules_from-m.auto.1.1.1.1.1.1.1.1.1.0 c.rules_from-m.auto.1.1.1.1.1.1.1.1.1.1.0,
+      walk_next _ _ _ _ _ _ h.2 _ _ _ c.guess_class.auto.at c.rules_from-m.auto.tos c.rules_from-m.auto.others,
       omega (arith, c.loop-i-test.true),
       c.put_group.ensures.long ∙ h.4,
-      kept_next _ _ _ _ _ _ _ _ _ _ _ _ h.5 (λ all. omega (arith, h.7 all, c.loop-i-test.true)) c.keep-kept.ensures.all_value rules low.0 low.1 c.rules_from-m.ensures.same_below.0 c.rules_from-m.ensures.same_below.1 c.rules_from-m.auto.1.1.1.1.1.1.1.1.1.0 c.rules_from-m.auto.1.1.1.1.1.1.1.1.1.1.0,
+      kept_next _ _ _ _ _ _ _ _ _ _ _ _ h.5 (λ all. omega (arith, h.7 all, c.loop-i-test.true)) c.keep-kept.ensures.all_value rules low.0 low.1 c.rules_from-m.ensures.same_below.0 c.rules_from-m.ensures.same_below.1 c.rules_from-m.auto.tos c.rules_from-m.auto.others,
       c.keep-kept.ensures.used_le_spare_2,
-      (λ all. omega (arith, h.7 (c.keep-kept.ensures.all_value all).0, c.keep-kept.auto.1.1.1.1.0)),
-      c.keep-kept.auto.1.1.1.1.0 ∙ h.8,
+      (λ all. omega (arith, h.7 (c.keep-kept.ensures.all_value all).0, c.keep-kept.auto.first_at)),
+      c.keep-kept.auto.first_at ∙ h.8,
     )
 
 pub shape_of-at : goal.shape_of-at
@@ -125,7 +125,7 @@ pub shape_of-others : goal.shape_of-others
 shape_of-others c = c.loop-i.invariant.2.others_long
 
 pub shape_of-first_at : goal.shape_of-first_at
-shape_of-first_at c = c.loop-i.invariant.8 ∙ c.none_kept-kept.auto.1.0
+shape_of-first_at c = c.loop-i.invariant.8 ∙ c.none_kept-kept.auto.first_at
 
 pub shape_of-group : goal.shape_of-group
 shape_of-group c = c.loop-i.invariant.4

@@ -5,7 +5,7 @@ use mathlib.Core.Bool.{not}
 use lib.ListN.{length}
 use borrow.Author.Tests.{not-true, not-false}
 use borrow.Author.Rules.{rules}
-use Rattle.ceilings_letters.specs.Letters.{is_held, more_in}
+use Rattle.ceilings_letters.specs.Letters.{is_held_of, more_in}
 use Rattle.ceilings_letters.proofs.Holding.{HeldBelow, held_none, held_skip, held_put, held_all}
 use Rattle.ceilings_letters.proofs.Sending.{more_there}
 use Rattle.ceilings_letters.proofs.open_letters.Goals as goal
@@ -31,7 +31,7 @@ one_more_by-raised-requires c =
     record {
         one_more = c.requires.one_more;
         x_lt_n = (c.loop-x-test.true, c.requires.letters_room.few);
-        is_held_value = c.holds-is_held.ensures ∙ (c.requires.held_set _ (omega (arith, c.loop-x-test.true, there)) ∙ ap (is_held a.limits.now a.s.ceilings a.k) there);
+        is_held_value = c.holds-is_held.ensures ∙ (c.requires.held_set _ (omega (arith, c.loop-x-test.true, there)) ∙ ap (is_held_of a.limits.now a.s.ceilings a.k) there);
     }
 
 pub overflow_step-x : goal.overflow_step-x

@@ -14,7 +14,7 @@ overflow_add-second c = let r = two_room _ _ _ _ _ _ _ c.requires.room in search
 
 pub put-requires-2 : goal.put-requires-2
 put-requires-2 c = record {
-        x_lt_n = (omega (arith, (two_room _ _ _ _ _ _ _ c.requires.room).0), omega (arith, (two_room _ _ _ _ _ _ _ c.requires.room).1, c.put.auto.0));
+        x_lt_n = (omega (arith, (two_room _ _ _ _ _ _ _ c.requires.room).0), omega (arith, (two_room _ _ _ _ _ _ _ c.requires.room).1, c.put.auto.out));
         number_bound = c.requires.from_bound.1;
     }
 
@@ -26,7 +26,7 @@ returns-then-third-eq0 c = two_put _ _ _ _ _ _ _ _ _ c.if-third-eq0.true c.put.e
 
 pub put-requires-3 : goal.put-requires-3
 put-requires-3 c = record {
-        x_lt_n = (omega (arith, three_room _ _ _ _ _ _ _ c.requires.room c.if-third-eq0.false), omega (arith, (two_room _ _ _ _ _ _ _ c.requires.room).1, c.put.auto.0, c.put-2.auto.0));
+        x_lt_n = (omega (arith, three_room _ _ _ _ _ _ _ c.requires.room c.if-third-eq0.false), omega (arith, (two_room _ _ _ _ _ _ _ c.requires.room).1, c.put.auto.out, c.put-2.auto.out));
         number_bound = c.requires.from_bound.2;
     }
 

@@ -1,6 +1,6 @@
 use Prim.Native.Nat.{◌-◌, ◌≤◌}
 use native.Mathlib.Omega.{arith}
-use borrow.Author.Rules.{rules}
+use borrow.Author.Rules.{rules as goal_rules}
 use Rattle.model.specs.Index.{gather}
 use Rattle.model.specs.Rows.{program}
 use Rattle.model.specs.Words.{columns}
@@ -37,7 +37,7 @@ pub overflow_add-i : goal.overflow_add-i
 overflow_add-i c = record { fits = omega (arith, c.loop-i-test.true, c.requires.joined_tables.ready.limits.states) }
 
 pub loop-i-preserved : goal.loop-i-preserved
-loop-i-preserved c = (put_more _ _ _ _ _ _ 0 c.loop-i.i c.loop-i.invariant.0 (omega arith) _ _ (state_put _ _ _ _ _ _ _ c.rules_of-m.ensures c.state_head-head.ensures _ _ _ _ _ c.put_rules-e.ensures), walk_next _ _ _ _ _ _ c.loop-i.invariant.1 _ _ _ c.guess_class.auto.1.1.0 c.rules_of-m.auto.1.1.1.1.1.1.1.1.0 c.rules_of-m.auto.1.1.1.1.1.1.1.1.1.0, omega (arith, c.loop-i-test.true))
+loop-i-preserved c = (put_more _ _ _ _ _ _ 0 c.loop-i.i c.loop-i.invariant.0 (omega arith) _ _ (state_put _ _ _ _ _ _ _ c.rules_of-m.ensures c.state_head-head.ensures _ _ _ _ _ c.put_rules-e.ensures), walk_next _ _ _ _ _ _ c.loop-i.invariant.1 _ _ _ c.guess_class.auto.at c.rules_of-m.auto.tos c.rules_of-m.auto.others, omega (arith, c.loop-i-test.true))
 
 pub shape_of-out : goal.shape_of-out
 shape_of-out c = put_kept _ _ _ _ _ _ c.loop-i.invariant.0

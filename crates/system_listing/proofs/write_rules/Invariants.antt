@@ -1,6 +1,6 @@
 use Prim.Native.Nat.{◌-◌, ◌≤◌}
 use native.Mathlib.Omega.{arith}
-use borrow.Author.Rules.{rules}
+use borrow.Author.Rules.{rules as goal_rules}
 use Rattle.model.specs.Index.{gather}
 use Rattle.model.specs.Rows.{program}
 use Rattle.model.specs.Words.{columns}
