@@ -1,7 +1,5 @@
 use native.Mathlib.Omega.{arith}
 use mathlib.Core.Path.{refl}
-use mathlib.Core.Logic.{⊎_elim}
-use borrow.Author.Rules.{rules}
 use Rattle.ascending.proofs.Numbers.{strictly, placed_there, placed_new}
 use Rattle.ascending.proofs.insert.Goals as goal
 use Rattle.ascending.proofs.insert.Goals.{then-at-n+else-codes-at, else-at-n}

@@ -5,7 +5,6 @@ use Rattle.model.specs.Tables.{tables, entries}
 use Rattle.matching.proofs.Subpatterns.{pattern_within}
 use Rattle.sent_letters.proofs.Found.{wide_row}
 use Rattle.branch_letters.proofs.Keeping.{read_number, read_row, found_kept, kept_tables}
-use borrow.Author.Rules.{rules}
 use Rattle.branch_letters.proofs.branch_letters.Goals as goal
 
 pub is_kept-requires : goal.is_kept-requires

@@ -1,4 +1,3 @@
-use native.Mathlib.Omega.{arith}
 use mathlib.Core.Path.{refl}
 use Rattle.model.proofs.Logic.{true_false}
 use Rattle.branch_letters.proofs.Keeping.{kept_for}

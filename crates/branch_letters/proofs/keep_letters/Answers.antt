@@ -1,5 +1,4 @@
 use native.Mathlib.Omega.{arith}
-use mathlib.Core.Path.{refl}
 use Rattle.model.specs.Words.{columns}
 use Rattle.model.specs.Tables.{tables, entries}
 use Rattle.branch_letters.proofs.Keeping.{read_number, read_row, kept_all}

@@ -1,12 +1,11 @@
-use Prim.Native.Nat.{◌-◌, ◌≤◌, ◌<◌, zero-le}
+use Prim.Native.Nat.{◌-◌, ◌<◌, zero-le}
 use native.Mathlib.Nat.{le_refl}
 use native.Mathlib.Omega.{arith}
 use mathlib.Core.Path.{◌≡◌, refl, ◌∙◌}
 use lib.ListN.{length, length-set}
 use borrow.Author.Rules.{rules}
-use Rattle.ceilings_form.specs.Parts.{part_entries}
 use Rattle.ceilings_form.proofs.Ceilings.{part_size, stands, entry_inside}
-use Rattle.ceilings.proofs.Filling.{Filled, filled_start, filled_next, bounds_table, starts_table}
+use Rattle.ceilings.proofs.Filling.{filled_start, filled_next, bounds_table, starts_table}
 use Rattle.ceilings.proofs.fill_bounds.Goals as goal
 
 pub loop-k-init : goal.loop-k-init

@@ -2,7 +2,6 @@ use native.Mathlib.Omega.{arith}
 use mathlib.Core.Path.{sym, ◌∙◌}
 use Rattle.model.proofs.Logic.{true_false, and_left, and_right}
 use Rattle.masks.specs.Masks.{has}
-use borrow.Author.Rules.{rules}
 use Rattle.ceilings_groups.proofs.narrowed.Goals as goal
 
 pub returns-then-kind-lt2 : goal.returns-then-kind-lt2

@@ -1,6 +1,5 @@
 use native.Mathlib.Omega.{arith}
 use lib.ListN.{length-drop}
-use borrow.Author.Rules.{rules}
 use borrow.Author.Rules.{part_to_end}
 use Rattle.rule_tables.specs.Joined.{letter_from}
 use Rattle.ceilings_leaks.proofs.set_words.Goals as goal

@@ -1,10 +1,7 @@
 use mathlib.Core.Bool.{not}
 use native.Mathlib.Omega.{arith}
-use mathlib.Core.Path.{◌≡◌, sym, ◌∙◌, ap}
-use borrow.Author.Tests.{not-false}
-use borrow.Author.Rules.{rules}
+use mathlib.Core.Path.{◌∙◌, ap}
 use Rattle.model.specs.Words.{columns}
-use Rattle.model.specs.Rows.{tag, is_head_of}
 use Rattle.model.specs.Tables.{tables, entries}
 use Rattle.model.specs.Counters.{counter_count}
 use Rattle.rules.proofs.States.{state_head}

@@ -1,12 +1,9 @@
-use Prim.Native.Nat.{◌+◌, ◌-◌, ◌≤◌}
+use Prim.Native.Nat.{◌+◌, ◌-◌}
 use native.Mathlib.Omega.{arith}
-use mathlib.Core.Path.{◌≡◌, refl, sym, ◌∙◌, ap}
+use mathlib.Core.Path.{◌≡◌, refl, ◌∙◌, ap}
 use mathlib.Core.Bool.{not}
-use lib.ListN.{length}
-use borrow.Author.Tests.{not-true, not-false}
-use borrow.Author.Rules.{rules}
 use Rattle.ceilings_letters.specs.Letters.{is_held_of, more_in}
-use Rattle.ceilings_letters.proofs.Holding.{HeldBelow, held_none, held_skip, held_put, held_all}
+use Rattle.ceilings_letters.proofs.Holding.{held_none, held_skip, held_put, held_all}
 use Rattle.ceilings_letters.proofs.Sending.{more_there}
 use Rattle.ceilings_letters.proofs.open_letters.Goals as goal
 

@@ -1,13 +1,9 @@
-use Prim.Native.Nat.{◌-◌, ◌*◌, ◌≤◌, ◌<◌}
+use Prim.Native.Nat.{◌-◌, ◌<◌}
 use native.Mathlib.Omega.{arith}
-use mathlib.Core.Path.{◌≡◌, refl, sym, ◌∙◌}
-use lib.ListN.{length}
-use borrow.Author.Rules.{rules}
-use Rattle.model.specs.Ceilings.{ceiling_entries}
-use Rattle.ceilings_form.specs.Limits.{ceiling_end}
+use mathlib.Core.Path.{refl, sym, ◌∙◌}
 use Rattle.ceilings_form.proofs.Ceilings.{entries_size}
 use Rattle.ceilings.proofs.Begun.{begun}
-use Rattle.ceilings_masks.proofs.Turning.{Turning, counted_start, turning_start, turning_inside, turning_counter, turning_end, turning_next}
+use Rattle.ceilings_masks.proofs.Turning.{counted_start, turning_start, turning_inside, turning_counter, turning_end, turning_next}
 use Rattle.ceilings_masks.proofs.compare.Goals as goal
 
 pub none-requires : goal.none-requires

@@ -1,7 +1,6 @@
 use mathlib.Core.Path.{◌∙◌, ap}
 use mathlib.Core.Bool.{◌||◌}
 use Rattle.masks.specs.Masks.{has}
-use borrow.Author.Rules.{rules}
 use Rattle.ceilings_masks.proofs.over_more.Goals as goal
 
 pub returns : goal.returns

@@ -1,10 +1,7 @@
-use Prim.Native.Nat.{◌-◌, ◌+◌, ◌*◌, ◌≤◌}
+use Prim.Native.Nat.{◌-◌}
 use native.Mathlib.Omega.{arith}
-use mathlib.Core.Path.{sym}
-use mathlib.Core.Logic.{⊎_elim}
 use borrow.Author.Rules.{rules}
-use Rattle.ceilings_masks.specs.Compared.{reaches}
-use Rattle.ceilings_masks.proofs.Comparing.{WordUpto, word_start, word_hit, word_miss, reaches_in, reaches_low, word_over}
+use Rattle.ceilings_masks.proofs.Comparing.{word_start, word_hit, word_miss, reaches_in, reaches_low, word_over}
 use Rattle.ceilings_masks.proofs.word_from.Goals as goal
 use Rattle.ceilings_masks.proofs.word_from.Goals.{then-limit-least, else-limit-least}
 

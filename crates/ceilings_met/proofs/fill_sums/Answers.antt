@@ -1,12 +1,10 @@
-use Prim.Native.Nat.{◌*◌, ◌-◌, ◌≤◌}
+use Prim.Native.Nat.{◌-◌}
 use native.Mathlib.Omega.{arith}
-use mathlib.Core.Path.{◌≡◌, refl, ◌∙◌}
-use lib.ListN.{length, length-set}
-use Rattle.model.specs.Ceilings.{highest}
-use Rattle.ceilings.specs.Table.{held}
+use mathlib.Core.Path.{refl, ◌∙◌}
+use lib.ListN.{length-set}
 use Rattle.ceilings.proofs.Cells.{row_in}
-use Rattle.ceilings_met.proofs.Filled.{Filled, filled_none, filled_more}
-use Rattle.ceilings_met.proofs.Sums.{sum_before, sum_none, sum_more, all_filled}
+use Rattle.ceilings_met.proofs.Filled.{filled_none, filled_more}
+use Rattle.ceilings_met.proofs.Sums.{sum_none, sum_more, all_filled}
 use borrow.Author.Rules.{rules}
 use Rattle.ceilings_met.proofs.fill_sums.Goals as goal
 

@@ -1,12 +1,6 @@
-use Prim.Native.Nat.{◌+◌, ◌-◌, ◌≤◌}
+use Prim.Native.Nat.{◌-◌}
 use native.Mathlib.Omega.{arith}
-use mathlib.Core.Path.{◌≡◌, refl}
-use Rattle.model.specs.Bads.{bad_rows, met}
-use Rattle.model.specs.Rows.{program}
-use Rattle.model.specs.Tables.{tables}
-use Rattle.model.specs.Markings.{sum_in}
-use Rattle.bads_rows.specs.Items.{items_at}
-use Rattle.ceilings_met.specs.Sums.{counts_of}
+use mathlib.Core.Path.{refl}
 use Rattle.bads_rows.proofs.BadRows.{bad_inside}
 use Rattle.ceilings_met.proofs.Meeting.{meets_end, meets_not, meets_next}
 use borrow.Author.Rules.{rules}

@@ -1,8 +1,7 @@
-use Prim.Native.Nat.{◌-◌, ◌≤◌}
+use Prim.Native.Nat.{◌-◌}
 use mathlib.Core.Path.{◌≡◌, refl}
-use lib.ListN.{length}
 use Rattle.model.specs.Message.{bads_offset}
-use Rattle.ceilings_met.proofs.Meeting.{allows, first_allowed, first_none, first_upto, limits_room, summed, allowed_next, met_safe, met_refused}
+use Rattle.ceilings_met.proofs.Meeting.{allows, first_none, first_upto, limits_room, summed, allowed_next, met_safe, met_refused}
 use borrow.Author.Rules.{rules}
 use Rattle.ceilings_met.proofs.met_check.Goals as goal
 

@@ -5,7 +5,6 @@ use mathlib.Core.Path.{sym, ◌∙◌}
 use Rattle.rules.specs.Listed.{kind_effect}
 use Rattle.rules.proofs.Adding.{added_same, added_nothing}
 use Rattle.class_rules.proofs.Asking.{class_none, class_same}
-use borrow.Author.Rules.{rules}
 use Rattle.class_rules.proofs.class_rules.Goals as goal
 
 pub returns-then-not-meets : goal.returns-then-not-meets

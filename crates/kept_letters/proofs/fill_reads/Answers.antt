@@ -1,11 +1,6 @@
-use Prim.Native.Nat.{◌-◌, ◌≤◌}
+use Prim.Native.Nat.{◌-◌}
 use native.Mathlib.Omega.{arith}
-use mathlib.Core.Path.{◌≡◌, refl, sym, ◌∙◌}
-use lib.ListN.{length}
-use Rattle.model.specs.Rows.{program}
-use Rattle.model.specs.Tables.{tables}
-use Rattle.system_letters.specs.Letters.{LetterSets}
-use Rattle.rules.specs.Derived.{Reads}
+use mathlib.Core.Path.{sym, ◌∙◌}
 use Rattle.branch_letters.proofs.Keeping.{read_tables}
 use borrow.Author.Rules.{rules}
 use Rattle.kept_letters.proofs.fill_reads.Goals as goal

@@ -1,8 +1,7 @@
 use borrow.Author.Tests.{not-false}
-use mathlib.Core.Path.{refl, sym}
+use mathlib.Core.Path.{refl}
 use native.Mathlib.Omega.{arith}
 use Rattle.model.proofs.Logic.{true_false}
-use borrow.Author.Rules.{rules}
 use Rattle.kept_rules.proofs.keep.Goals as goal
 
 pub returns-then-not-k : goal.returns-then-not-k

@@ -1,9 +1,8 @@
 use native.Mathlib.Omega.{arith}
 use lib.ListN.{length-set}
 use lib.Seq.{get_or-set_same}
-use mathlib.Core.Path.{refl, sym}
+use mathlib.Core.Path.{refl}
 use Rattle.model.proofs.Logic.{true_false}
-use borrow.Author.Rules.{rules}
 use Rattle.kept_rules.proofs.none_kept.Goals as goal
 
 pub returns-then-states-first_at : goal.returns-then-states-first_at

@@ -1,5 +1,4 @@
 use native.Mathlib.Omega.{arith}
-use borrow.Author.Rules.{rules}
 use Rattle.model.proofs.Logic.{true_false}
 use Rattle.kept_rules.proofs.Keeping.{rules_found, rules_front}
 use Rattle.kept_rules.proofs.rules_again.Goals as goal

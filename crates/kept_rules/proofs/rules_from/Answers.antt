@@ -3,7 +3,6 @@ use native.Mathlib.Omega.{arith}
 use lib.ListN.{length}
 use Rattle.kept_rules.proofs.Keeping.{starts_low, lent_room, put_rules}
 use Rattle.rule_tables.proofs.Joining.{put_below}
-use borrow.Author.Rules.{rules}
 use Rattle.kept_rules.proofs.rules_from.Goals as goal
 
 pub offset_bounds-tos-first : goal.offset_bounds-tos-first

@@ -1,4 +1,3 @@
-use borrow.Author.Rules.{rules}
 use Rattle.letter_sets.proofs.Filling.{room_still}
 use Rattle.letter_sets.proofs.Filled.{letters_filled}
 use Rattle.letter_sets.proofs.fill_letters.Goals as goal

@@ -1,7 +1,6 @@
 use mathlib.Core.Bool.{not}
 use mathlib.Core.Path.{ap}
 use mathlib.Core.Path.{sym, ◌∙◌}
-use borrow.Author.Tests.{not-false}
 use Rattle.model.specs.Rows.{send}
 use Rattle.rules.specs.Derived.{SentTo}
 use Rattle.rules.proofs.Adding.{added_same, added_nothing}

@@ -1,11 +1,6 @@
-use Prim.Native.Nat.{◌+◌, ◌-◌, ◌≤◌}
+use Prim.Native.Nat.{◌-◌}
 use native.Mathlib.Omega.{arith}
-use mathlib.Core.Path.{◌≡◌}
-use borrow.Author.Tests.{not-true, not-false}
-use Rattle.model.specs.Rows.{program}
-use Rattle.model.specs.Tables.{tables}
 use Rattle.system_letters.proofs.Tables.{head_low}
-use Rattle.pattern_letters.specs.Picked.{leaves_below, Left}
 use Rattle.pattern_letters.proofs.Arguments.{asked, unasked, next_there, fitting_left, next_lost}
 use Rattle.pattern_heads.proofs.Fitting.{head_room}
 use Rattle.sent_letters.proofs.Found.{wide_row}

@@ -1,11 +1,6 @@
-use Prim.Native.Nat.{◌-◌, ◌≤◌}
+use Prim.Native.Nat.{◌-◌}
 use native.Mathlib.Omega.{arith}
-use mathlib.Core.Path.{◌≡◌, sym, ◌∙◌}
-use Rattle.model.specs.Limits.{max_depth}
-use Rattle.model.specs.Rows.{program}
-use Rattle.model.specs.Closed.{subpattern}
-use Rattle.model.specs.Tables.{tables}
-use Rattle.pattern_letters.specs.Picked.{leaves_first, Left}
+use mathlib.Core.Path.{sym, ◌∙◌}
 use Rattle.pattern_letters.proofs.Arguments.{row_small, first_row, argument_at, argument_name, arity_short, value_low}
 use Rattle.sent_letters.proofs.Found.{wide_row}
 use Rattle.pattern_letters.proofs.Lessening.{left_first, left_next, left_over, left_whole}

@@ -1,17 +1,11 @@
 use mathlib.Core.Bool.{not}
 use mathlib.Core.Path.{ap}
-use Prim.Native.Nat.{◌-◌, ◌≤◌}
+use Prim.Native.Nat.{◌-◌}
 use native.Mathlib.Omega.{arith}
-use mathlib.Core.Path.{◌≡◌, refl, sym, ◌∙◌}
-use lib.ListN.{length}
-use borrow.Author.Tests.{not-false}
-use Rattle.model.specs.Index.{gather}
-use Rattle.model.specs.Words.{right, columns}
-use Rattle.model.specs.Rows.{program}
+use mathlib.Core.Path.{refl, sym, ◌∙◌}
+use Rattle.model.specs.Words.{columns}
 use Rattle.model.specs.Tables.{tables, entries}
-use Rattle.model.specs.Rules.{letters_read}
 use Rattle.lists.proofs.Facts.{mail_rises}
-use Rattle.system_letters.specs.Letters.{Found}
 use Rattle.system_letters.proofs.Tables.{head_low}
 use Rattle.rules.proofs.Entries.{mail_order, mail_low, mail_class}
 use Rattle.sent_letters.proofs.Found.{row_kept, wide_row, found_start, found_end, entry_room, entry_number}

@@ -1,6 +1,5 @@
 -- Each size is read where the model reads it; that a size is a word keeps every sum small.
 use native.Mathlib.Omega.{arith}
-use borrow.Author.Rules.{rules}
 use Rattle.sizes.proofs.Sized.{sized}
 use Rattle.sizes.proofs.sizes_of.Goals as goal
 

@@ -1,5 +1,4 @@
 use mathlib.Core.Path.{sym, ◌∙◌, ap}
-use borrow.Author.Rules.{rules}
 use Rattle.model.specs.Rows.{tag, kind, send, receive}
 use Rattle.state_rules.proofs.Rooms.{send_tables, receive_tables}
 use Rattle.state_rules.proofs.Within.{plain_within, lettered_within}

@@ -1,8 +1,7 @@
 use native.Mathlib.Omega.{arith}
 use mathlib.Core.Path.{refl, sym, ◌∙◌}
 use mathlib.Core.Bool.{true}
-use borrow.Author.Rules.{rules}
-use Rattle.model.specs.Rows.{program, tag, give, call, send, spawn, case, receive, kind}
+use Rattle.model.specs.Rows.{program, give, call, send, spawn, case, receive, kind}
 use Rattle.rules.specs.Listed.{kind_effect}
 use Rattle.rules.proofs.States.{state_head}
 use Rattle.state_rules.proofs.Done.{quiet_done, loud_done, plain_done}

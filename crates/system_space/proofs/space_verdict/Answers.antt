@@ -1,7 +1,6 @@
 use native.Mathlib.Omega.{arith}
 use Rattle.system_totals.proofs.Lined.{words_told}
 use Rattle.system_space.proofs.Spacing.{too_long, fits}
-use borrow.Author.Rules.{rules}
 use Rattle.system_space.proofs.space_verdict.Goals as goal
 
 pub overflow_mul-needed : goal.overflow_mul-needed

@@ -1,7 +1,5 @@
 use borrow.Author.Rules.{rules}
-use native.Mathlib.Omega.{arith}
-use Rattle.text.specs.Text.{decimal}
-use Rattle.text.proofs.Digits.{width_most, length_decimal, decimal_put}
+use Rattle.text.proofs.Digits.{width_most, decimal_put}
 use Rattle.text.proofs.put_decimal.Goals as goal
 
 pub put_digits-requires : goal.put_digits-requires

@@ -1,4 +1,3 @@
-use borrow.Author.Rules.{rules}
 use native.Mathlib.Omega.{arith}
 use Rattle.model.specs.Rows.{program}
 use Rattle.value_letters.specs.Letters.{ValueOf}

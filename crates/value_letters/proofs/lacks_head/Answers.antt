@@ -1,11 +1,9 @@
 use borrow.Author.Rules.{rules}
-use Prim.Native.Nat.{ℕ, ◌-◌, ◌≤◌, ◌<◌}
-use borrow.Author.Tests.{not-true, not-false}
+use Prim.Native.Nat.{◌-◌}
 use native.Mathlib.Omega.{arith}
 use mathlib.Core.Path.{refl}
-use Rattle.model.specs.Rows.{program}
 use Rattle.model.proofs.Logic.{true_false}
-use Rattle.value_letters.proofs.Values.{argument_row, lacking, Headed, headed_next, headed_all}
+use Rattle.value_letters.proofs.Values.{argument_row, lacking, headed_next, headed_all}
 use Rattle.value_letters.proofs.lacks_head.Goals as goal
 
 pub loop-i-init : goal.loop-i-init

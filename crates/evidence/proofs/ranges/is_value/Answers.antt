@@ -1,4 +1,4 @@
-use mathlib.Core.Logic.{inl, inr, ⊎_elim}
+use mathlib.Core.Logic.{inl, inr}
 use borrow.Author.Rules.{rules}
 use Rattle.model.specs.Words.{columns}
 use Rattle.model.specs.Rows.{program}

@@ -1,13 +1,11 @@
 use native.Mathlib.Omega.{arith}
 use native.Mathlib.Nat.{le_refl}
-use Prim.Native.Nat.{◌+◌, ◌-◌, ◌≤◌}
-use mathlib.Core.Path.{◌≡◌, refl, ◌∙◌}
-use lib.ListN.{length, length-set}
+use Prim.Native.Nat.{◌+◌, ◌-◌}
+use mathlib.Core.Path.{refl, ◌∙◌}
+use lib.ListN.{length-set}
 use Rattle.model.specs.Words.{columns}
 use Rattle.model.specs.Rows.{program}
-use Rattle.layout.specs.Tables.{AfterFrom}
 use Rattle.layout.proofs.Ending.{ends_of, after_start, after_set, after_keep, after_by}
-use borrow.Author.Rules.{rules}
 use Rattle.layout.proofs.ends.fill_ends.Goals as goal
 
 pub loop-r-init : goal.loop-r-init

@@ -1,11 +1,9 @@
 use native.Mathlib.Omega.{arith}
-use mathlib.Core.Path.{◌≡◌, refl, sym, ◌∙◌}
-use borrow.Author.Rules.{rules}
+use mathlib.Core.Path.{refl, sym, ◌∙◌}
 use Rattle.model.specs.Words.{columns}
 use Rattle.model.specs.Rows.{program}
 use Rattle.model.proofs.Parse.Lengths.{row_within}
 use Rattle.lists.proofs.Facts.{columns_whole}
-use Rattle.values.specs.Values.{width}
 use Rattle.matching_sets.proofs.Joining.{row_kept, put_class, put_build, put_none, put_there}
 use Rattle.matching_sets.proofs.equals.put_equals.Goals as goal
 

@@ -1,7 +1,4 @@
-use Prim.Native.Nat.{◌≤◌}
-use mathlib.Core.Path.{◌≡◌, refl, sym, ◌∙◌}
-use lib.ListN.{length}
-use Rattle.matching_sets.specs.Sets.{FilledFrom}
+use mathlib.Core.Path.{refl, sym, ◌∙◌}
 use Rattle.matching_sets.proofs.Filling.{matches_down, one_up, fill_builds, filled_none, filled_skip, filled_joined}
 use borrow.Author.Rules.{rules}
 use Rattle.matching_sets.proofs.patterns.fill_patterns.Goals as goal

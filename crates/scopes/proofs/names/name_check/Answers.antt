@@ -2,7 +2,6 @@ use mathlib.Core.Path.{sym, ◌∙◌}
 use Rattle.model.specs.Words.{columns}
 use Rattle.model.specs.Rows.{program}
 use Rattle.scopes.proofs.Binding.{first_whole, name_again, name_missing, names_pass}
-use borrow.Author.Rules.{rules}
 use Rattle.scopes.proofs.names.name_check.Goals as goal
 
 pub returns-then-r-s : goal.returns-then-r-s

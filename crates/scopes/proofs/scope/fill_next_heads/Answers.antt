@@ -1,13 +1,12 @@
 use Prim.Native.Nat.{◌-◌, ◌≤◌, ◌<◌}
-use lib.ListN.{length, length-set}
+use lib.ListN.{length-set}
 use Rattle.model.specs.Words.{columns}
 use Rattle.model.specs.Rows.{program, is_head_of}
 use Rattle.model.specs.Scopes.{next_head}
 use native.Mathlib.Omega.{arith}
 use native.Mathlib.Nat.{le_refl}
-use mathlib.Core.Logic.{⊎_elim}
 use mathlib.Core.Path.{◌≡◌, refl, sym, ◌∙◌, ap}
-use Rattle.scopes.proofs.Scoping.{Heads, heads_set, head_here, head_behind, head_end}
+use Rattle.scopes.proofs.Scoping.{heads_set, head_here, head_behind, head_end}
 use Rattle.scopes.proofs.scope.fill_next_heads.Goals as goal
 use Rattle.scopes.proofs.scope.fill_next_heads.Goals.{then-is_head, else-is_head}
 

@@ -3,7 +3,6 @@ use mathlib.Core.Path.{ap}
 use native.Mathlib.Omega.{arith}
 use Rattle.lists.proofs.Facts.{states_rise}
 use Rattle.stated.proofs.Giving.{return_some, return_low, give_here, call_name, rest_here, heads_upto, gives_nothing, gives_none, gives_lack, gives_on, name_given}
-use borrow.Author.Rules.{rules}
 use Rattle.stated.proofs.gives.give_closed.Goals as goal
 
 pub returns-then-call-s : goal.returns-then-call-s

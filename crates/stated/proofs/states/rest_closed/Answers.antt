@@ -1,4 +1,3 @@
-use borrow.Author.Rules.{rules}
 use native.Mathlib.Omega.{arith}
 use Rattle.branches.proofs.Walk.{state_there}
 use Rattle.stated.proofs.Dispatch.{code_none, code_lacks, code_there, rest_told}
