@@ -26,9 +26,9 @@ rules_from-m-requires c =
     let h = c.loop-i.invariant in
     let room = c.requires.room_from in
     record {
-        joined_tables = c.requires.joined_tables;
-        i_lt_states = (c.loop-i-test.true, omega (arith, h.6, spare_low _ _ _ _ _ room.0 room.1));
-        room_from = room_later _ _ _ _ _ room.0 _ _ _ h.6 h.2.tos_long h.2.others_long;
+      joined_tables = c.requires.joined_tables;
+      i_lt_states = (c.loop-i-test.true, omega (arith, h.6, spare_low _ _ _ _ _ room.0 room.1));
+      room_from = room_later _ _ _ _ _ room.0 _ _ _ h.6 h.2.tos_long h.2.others_long;
     }
 
 pub state_head-head-requires : goal.state_head-head-requires
@@ -70,9 +70,9 @@ pub put_group-requires : goal.put_group-requires
 put_group-requires c =
     let r = lent_rules _ _ _ _ _ _ _ c.rules_from-m.ensures.rules_from in
     record {
-        holders = c.requires.ceilings_ready.held_by;
-        m_in_bounds = (r.tos_room, r.others_room);
-        i_in_bounds = omega (arith, c.loop-i-test.true, c.loop-i.invariant.4, c.requires.states_in_bounds);
+      holders = c.requires.ceilings_ready.held_by;
+      m_in_bounds = (r.tos_room, r.others_room);
+      i_in_bounds = omega (arith, c.loop-i-test.true, c.loop-i.invariant.4, c.requires.states_in_bounds);
     }
 
 pub keep-kept-requires : goal.keep-kept-requires
@@ -81,9 +81,9 @@ keep-kept-requires c =
     let h = c.loop-i.invariant in
     let room = c.requires.room_from in
     record {
-        used_le_spare = (h.6, spare_low _ _ _ _ _ room.0 room.1);
-        i_in_bounds = (λ all. omega (arith, h.7 all, c.loop-i-test.true));
-        i_bound = (omega (arith, c.loop-i-test.true, c.requires.joined_tables.ready.limits.states), few-here);
+      used_le_spare = (h.6, spare_low _ _ _ _ _ room.0 room.1);
+      i_in_bounds = (λ all. omega (arith, h.7 all, c.loop-i-test.true));
+      i_bound = (omega (arith, c.loop-i-test.true, c.requires.joined_tables.ready.limits.states), few-here);
     }
 
 pub overflow_step-i : goal.overflow_step-i
@@ -131,7 +131,7 @@ unfolding tables entries columns
 returns c =
     let h = c.loop-i.invariant in
     record {
-        groups_upto = groups_all _ _ _ _ _ _ c.loop-i-test.false h.0;
-        totalled = summed_all _ _ c.loop-i.i c.loop-i.rules c.loop-i.rows h.1 (omega (arith, h.3, c.loop-i-test.false)) (omega (arith, h.3, c.requires.joined_tables.ready.limits.states));
-        kept_rules = kept_all _ _ _ _ _ _ _ _ (omega (arith, h.3, c.loop-i-test.false)) h.5;
+      groups_upto = groups_all _ _ _ _ _ _ c.loop-i-test.false h.0;
+      totalled = summed_all _ _ c.loop-i.i c.loop-i.rules c.loop-i.rows h.1 (omega (arith, h.3, c.loop-i-test.false)) (omega (arith, h.3, c.requires.joined_tables.ready.limits.states));
+      kept_rules = kept_all _ _ _ _ _ _ _ _ (omega (arith, h.3, c.loop-i-test.false)) h.5;
     }

@@ -34,12 +34,12 @@ pub compare-over-requires : goal.compare-over-requires
 compare-over-requires c =
     let h = c.ceilings.invariant in
     record {
-        whole = whole_of _ _ c.requires.joined_tables.ready;
-        in_form = c.requires.ceilings_ready.in_form;
-        limits_table = c.requires.ceilings_ready.limits_table;
-        holders = c.requires.ceilings_ready.held_by;
-        k_lt_ceilings = (c.ceilings-test.true, c.requires.ceilings_ready.starts_table.start _ c.ceilings-test.true);
-        n_in_bounds = omega (arith, h.4, c.requires.rooms.near_room);
+      whole = whole_of _ _ c.requires.joined_tables.ready;
+      in_form = c.requires.ceilings_ready.in_form;
+      limits_table = c.requires.ceilings_ready.limits_table;
+      holders = c.requires.ceilings_ready.held_by;
+      k_lt_ceilings = (c.ceilings-test.true, c.requires.ceilings_ready.starts_table.start _ c.ceilings-test.true);
+      n_in_bounds = omega (arith, h.4, c.requires.rooms.near_room);
     }
 
 pub held_letters-requires : goal.held_letters-requires
@@ -74,8 +74,8 @@ left_after-left-requires c =
     let h = c.states.invariant in
     let few = states_few _ _ _ _ c.requires.joined_tables.ready c.requires.ceilings_ready.counted c.requires.ceilings_ready.limits_table in
     record {
-        beside = beside_at _ _ _ _ _ _ _ _ h.0 c.compare-over.ensures.beside;
-        i_lt_n = (omega (arith, few, c.if-i-s.false), walk_limit _ _ _ _ _ c.requires.groups_upto _ _ _ h.1 few _ c.counter_at-i.ensures c.if-i-s.false);
+      beside = beside_at _ _ _ _ _ _ _ _ h.0 c.compare-over.ensures.beside;
+      i_lt_n = (omega (arith, few, c.if-i-s.false), walk_limit _ _ _ _ _ c.requires.groups_upto _ _ _ h.1 few _ c.counter_at-i.ensures c.if-i-s.false);
     }
 
 pub settled-requires : goal.settled-requires
@@ -96,9 +96,9 @@ rules_under-found-requires c =
     let h = c.states.invariant in
     let l = c.ceilings.invariant in
     record {
-        joined_tables = c.requires.joined_tables;
-        under = record { counted = c.requires.ceilings_ready.counted; state = c.if-i-s.false; width = c.set_words-words.ensures; beside = beside_at _ _ _ _ _ _ _ _ h.0 c.compare-over.ensures.beside; remains = c.left_after-left.ensures; row = rw c.set_words-words.ensures (set_room c.requires.joined_tables.ready _ c.requires.joined_tables.few (c.held_letters.auto.within ∙ l.6)); holds = rw h.0 c.held_letters.ensures };
-        rule_room = (room_kept _ _ _ _ _ _ c.requires.rooms.rules (h.2 ∙ l.2) (h.3 ∙ l.3), h.4);
+      joined_tables = c.requires.joined_tables;
+      under = record { counted = c.requires.ceilings_ready.counted; state = c.if-i-s.false; width = c.set_words-words.ensures; beside = beside_at _ _ _ _ _ _ _ _ h.0 c.compare-over.ensures.beside; remains = c.left_after-left.ensures; row = rw c.set_words-words.ensures (set_room c.requires.joined_tables.ready _ c.requires.joined_tables.few (c.held_letters.auto.within ∙ l.6)); holds = rw h.0 c.held_letters.ensures };
+      rule_room = (room_kept _ _ _ _ _ _ c.requires.rooms.rules (h.2 ∙ l.2) (h.3 ∙ l.3), h.4);
     }
 
 pub kind_at-kind-requires : goal.kind_at-kind-requires
@@ -142,8 +142,8 @@ pub is_usable-requires : goal.is_usable-requires
 is_usable-requires c =
     let h = c.states.invariant in
     record {
-        k_lt_ceilings = (omega (arith, h.0, c.ceilings-test.true), room_all _ _ _ _ c.requires.ceilings_ready.in_form c.requires.ceilings_ready.limits_table);
-        step_apart = step_shape _ _ _ _ c.requires.joined_tables.ready c.requires.ceilings_ready.counted c.requires.ceilings_ready.limits_table c.ceilings.k _ _ _ _ _ _ _ c.if-i-s.false c.rules.invariant.3 c.kind_at-kind.ensures.value c.kind_at-kind.ensures.upper_bound c.rules.invariant.2 c.rules-test.true;
+      k_lt_ceilings = (omega (arith, h.0, c.ceilings-test.true), room_all _ _ _ _ c.requires.ceilings_ready.in_form c.requires.ceilings_ready.limits_table);
+      step_apart = step_shape _ _ _ _ c.requires.joined_tables.ready c.requires.ceilings_ready.counted c.requires.ceilings_ready.limits_table c.ceilings.k _ _ _ _ _ _ _ c.if-i-s.false c.rules.invariant.3 c.kind_at-kind.ensures.value c.kind_at-kind.ensures.upper_bound c.rules.invariant.2 c.rules-test.true;
     }
 
 pub rules-preserved-then-not-is_usable : goal.rules-preserved-then-not-is_usable
@@ -156,10 +156,10 @@ pub candidates-mask-requires : goal.candidates-mask-requires
 candidates-mask-requires c =
     let h = c.states.invariant in
     record {
-        beside = beside_at _ _ _ _ _ _ _ _ h.0 c.compare-over.ensures.beside;
-        step_apart = step_shape _ _ _ _ c.requires.joined_tables.ready c.requires.ceilings_ready.counted c.requires.ceilings_ready.limits_table c.ceilings.k _ _ _ _ _ _ _ c.if-i-s.false c.rules.invariant.3 c.kind_at-kind.ensures.value c.kind_at-kind.ensures.upper_bound c.rules.invariant.2 c.rules-test.true;
-        left = c.left_after-left.ensures;
-        k_value = sym c.is_usable.ensures ∙ c.if-not-is_usable.false;
+      beside = beside_at _ _ _ _ _ _ _ _ h.0 c.compare-over.ensures.beside;
+      step_apart = step_shape _ _ _ _ c.requires.joined_tables.ready c.requires.ceilings_ready.counted c.requires.ceilings_ready.limits_table c.ceilings.k _ _ _ _ _ _ _ c.if-i-s.false c.rules.invariant.3 c.kind_at-kind.ensures.value c.kind_at-kind.ensures.upper_bound c.rules.invariant.2 c.rules-test.true;
+      left = c.left_after-left.ensures;
+      k_value = sym c.is_usable.ensures ∙ c.if-not-is_usable.false;
     }
 
 pub overflow_step-j-then-surely_covered : goal.overflow_step-j-then-surely_covered
@@ -188,9 +188,9 @@ pub passes-requires : goal.passes-requires
 passes-requires c =
     let h = c.states.invariant in
     record {
-        k_lt_ceilings = (omega (arith, h.0, c.ceilings-test.true), left_low _ _ _ _ _ _ _ c.candidates-mask.ensures.candidates c.requires.joined_tables.ready.limits.ceilings _ c.candidates.invariant.1 c.candidates-test.true);
-        row = row_at _ _ _ _ c.requires.ceilings_ready.in_form c.requires.ceilings_ready.limits_table _ c.if-y-n.true;
-        kind_bound = c.kind_at-kind.ensures.upper_bound;
+      k_lt_ceilings = (omega (arith, h.0, c.ceilings-test.true), left_low _ _ _ _ _ _ _ c.candidates-mask.ensures.candidates c.requires.joined_tables.ready.limits.ceilings _ c.candidates.invariant.1 c.candidates-test.true);
+      row = row_at _ _ _ _ c.requires.ceilings_ready.in_form c.requires.ceilings_ready.limits_table _ c.if-y-n.true;
+      kind_bound = c.kind_at-kind.ensures.upper_bound;
     }
 
 pub overflow_add-k2 : goal.overflow_add-k2

@@ -31,11 +31,11 @@ left_moved-mask-requires c = record { beside = c.requires.under.beside; states_l
 
 pub open_letters-requires : goal.open_letters-requires
 open_letters-requires c = record {
-        letters_room = c.requires.letters_room;
-        one_more = more_tables _ _ _ _ _ _ _ c.requires.under.beside;
-        row = c.requires.under.row;
-        held_set = c.requires.under.holds c.if-not-wanted.false;
-    }
+  letters_room = c.requires.letters_room;
+  one_more = more_tables _ _ _ _ _ _ _ c.requires.under.beside;
+  row = c.requires.under.row;
+  held_set = c.requires.under.holds c.if-not-wanted.false;
+}
 
 pub returns : goal.returns
 returns c =

@@ -33,9 +33,9 @@ overflow_sub-x c = c.loop-x.invariant.2
 
 pub put-requires : goal.put-requires
 put-requires c = record {
-        v_bound = omega (arith, c.loop-x-test.true, c.requires.bits, c.loop-x.invariant.2);
-        row = record { room = omega (arith, c.requires.row.room, c.loop-x.invariant.1, c.clear.ensures.long) };
-    }
+  v_bound = omega (arith, c.loop-x-test.true, c.requires.bits, c.loop-x.invariant.2);
+  row = record { room = omega (arith, c.requires.row.room, c.loop-x.invariant.1, c.clear.ensures.long) };
+}
 
 pub overflow_step-x-in-loop-x : goal.overflow_step-x-in-loop-x
 overflow_step-x-in-loop-x c = record { fits = omega (arith, c.loop-x-test.true, c.requires.few) }

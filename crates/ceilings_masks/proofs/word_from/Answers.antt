@@ -24,8 +24,8 @@ pub loop-j-preserved : goal.loop-j-preserved
 loop-j-preserved c =
     let b = c.loop-j in
     elim c.if-limit-least.branch [
-      then-limit-least w ↦ (rw w.w-is (word_hit _ _ _ b.invariant.0 (omega (arith, c.in_word-end.ensures.upper_bound, c.loop-j-test.true)) (reaches_in _ _ _ _ _ _ (c.in_word-end.ensures.by_index b.j c.loop-j-test.true) c.limit.ensures.value w.if-limit-least.true)), search rules)
-    | else-limit-least w ↦ (rw w.w-is (word_miss _ _ _ b.invariant.0 (reaches_low _ _ _ _ _ _ c.limit.ensures.value w.if-limit-least.false)), search rules)
+      | then-limit-least w ↦ (rw w.w-is (word_hit _ _ _ b.invariant.0 (omega (arith, c.in_word-end.ensures.upper_bound, c.loop-j-test.true)) (reaches_in _ _ _ _ _ _ (c.in_word-end.ensures.by_index b.j c.loop-j-test.true) c.limit.ensures.value w.if-limit-least.true)), search rules)
+      | else-limit-least w ↦ (rw w.w-is (word_miss _ _ _ b.invariant.0 (reaches_low _ _ _ _ _ _ c.limit.ensures.value w.if-limit-least.false)), search rules)
     ]
 
 pub returns : goal.returns

@@ -13,10 +13,10 @@ loop-x-init c = (filled_none _ c.args.sums.now, sum_none _, search rules, search
 
 pub sum_with-sum-requires : goal.sum_with-sum-requires
 sum_with-sum-requires c = record {
-        k_lt_ceilings = search rules;
-        row = row_in c.args.limits.now c.args.n c.args.s.ceilings c.loop-x.x (search rules) (search rules);
-        x_lt_max_counters = search rules;
-    }
+  k_lt_ceilings = search rules;
+  row = row_in c.args.limits.now c.args.n c.args.s.ceilings c.loop-x.x (search rules) (search rules);
+  x_lt_max_counters = search rules;
+}
 
 pub loop-x-preserved : goal.loop-x-preserved
 loop-x-preserved c = (filled_more _ c.loop-x.x c.loop-x.sum c.loop-x.sums c.loop-x.invariant.0 (search rules) c.loop-x.invariant.1, sum_more _ c.loop-x.x c.loop-x.sum c.sum_with-sum.result c.loop-x.invariant.1 c.sum_with-sum.ensures.value, omega (arith, c.sum_with-sum.ensures.upper_bound, c.loop-x.invariant.2), search rules, length-set c.loop-x.sums c.loop-x.x _ ∙ c.loop-x.invariant.4)

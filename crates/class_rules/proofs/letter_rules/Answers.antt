@@ -79,6 +79,6 @@ unfolding class_turn
 returns c =
     let e : c.loop-y.y ≡ c.word-to.result = omega (arith, c.loop-y.invariant.2, c.loop-y-test.false) in
     record {
-        added = λ k. added_same k _ _ _ _ _ _ _ _ (c.loop-y.invariant.0 k) (λ i. rw (e, c.word-from.ensures.0, c.word-to.ensures.0));
-        d_bound = omega (arith, c.loop-y.invariant.3, c.word-from.ensures.0, c.word-to.ensures.0);
+      added = λ k. added_same k _ _ _ _ _ _ _ _ (c.loop-y.invariant.0 k) (λ i. rw (e, c.word-from.ensures.0, c.word-to.ensures.0));
+      d_bound = omega (arith, c.loop-y.invariant.3, c.word-from.ensures.0, c.word-to.ensures.0);
     }

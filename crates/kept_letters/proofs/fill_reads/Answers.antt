@@ -22,9 +22,9 @@ loop-i-preserved-then-tag-ne-TAG_RECEIVE c = (c.loop-i.invariant.0, c.loop-i.inv
 
 pub keep_receive-requires : goal.keep_receive-requires
 keep_receive-requires c = record {
-        read_tables = read_tables c.requires.pattern_tables c.loop-i.invariant.0 c.loop-i.invariant.1;
-        i_lt_states = (search rules, sym c.tag.ensures ∙ c.if-tag-ne-TAG_RECEIVE.false);
-    }
+  read_tables = read_tables c.requires.pattern_tables c.loop-i.invariant.0 c.loop-i.invariant.1;
+  i_lt_states = (search rules, sym c.tag.ensures ∙ c.if-tag-ne-TAG_RECEIVE.false);
+}
 
 pub overflow_step-i-in-loop-i : goal.overflow_step-i-in-loop-i
 overflow_step-i-in-loop-i c = record { fits = omega (arith, c.requires.pattern_tables.match_tables.ready.limits.states) }

@@ -37,9 +37,9 @@ state_index-x-requires c = c.requires.read_tables.pattern_tables.match_tables.re
 
 pub keep_branch-requires : goal.keep_branch-requires
 keep_branch-requires c = record {
-        read_tables = read_tables c.requires.read_tables.pattern_tables c.loop-b.invariant.2 c.loop-b.invariant.3;
-        c_le_rows = (receive_class c.requires.read_tables.pattern_tables.match_tables.ready c.args.i _ c.requires.i_lt_states.0 c.state_class-c.ensures, branch_pattern c.requires.read_tables.pattern_tables.match_tables.ready _ _ _ _ c.loop-b.invariant.0 (search rules));
-    }
+  read_tables = read_tables c.requires.read_tables.pattern_tables c.loop-b.invariant.2 c.loop-b.invariant.3;
+  c_le_rows = (receive_class c.requires.read_tables.pattern_tables.match_tables.ready c.args.i _ c.requires.i_lt_states.0 c.state_class-c.ensures, branch_pattern c.requires.read_tables.pattern_tables.match_tables.ready _ _ _ _ c.loop-b.invariant.0 (search rules));
+}
 
 pub overflow_step-b : goal.overflow_step-b
 overflow_step-b c = record { fits = omega (arith, receive_count c.requires.read_tables.pattern_tables.match_tables.ready c.args.r c.requires.i_lt_states.1, c.num-m.ensures) }

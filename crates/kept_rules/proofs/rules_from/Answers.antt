@@ -35,6 +35,6 @@ returns c =
     let begins-here : (c.args.first ≤ length c.args.tos.now) × (c.args.first ≤ length c.args.others.now) = starts_low _ _ _ _ _ c.requires.room_from in
     let low = begins-here in
     record {
-        rules_from = put_rules _ _ _ _ _ _ _ _ _ low.0 low.1 c.rules_of.ensures;
-        same_below = (put_below _ _ _ low.0, put_below _ _ _ low.1);
+      rules_from = put_rules _ _ _ _ _ _ _ _ _ low.0 low.1 c.rules_of.ensures;
+      same_below = (put_below _ _ _ low.0, put_below _ _ _ low.1);
     }

@@ -68,8 +68,8 @@ loop-y-preserved c =
     let h = c.requires.letters_known.heads.ready in
     let i = c.loop-y.invariant in (
       elim c.if-allows.branch [
-        then-allows z ↦ rw z.letters-is (allowed_put h _ _ _ _ _ _ _ _ _ _ _ _ _ i.0 i.1 c.mail_value-v.ensures refl refl c.allows.ensures z.if-allows.true z.put.ensures)
-      | else-allows z ↦ rw z.letters-is (allowed_left h _ _ _ _ _ _ _ _ _ _ _ i.0 i.1 c.mail_value-v.ensures refl c.allows.ensures z.if-allows.false)
+        | then-allows z ↦ rw z.letters-is (allowed_put h _ _ _ _ _ _ _ _ _ _ _ _ _ i.0 i.1 c.mail_value-v.ensures refl refl c.allows.ensures z.if-allows.true z.put.ensures)
+        | else-allows z ↦ rw z.letters-is (allowed_left h _ _ _ _ _ _ _ _ _ _ _ i.0 i.1 c.mail_value-v.ensures refl c.allows.ensures z.if-allows.false)
       ],
       search rules,
       search rules,

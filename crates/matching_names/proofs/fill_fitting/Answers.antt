@@ -15,9 +15,9 @@ loop-q-preserved-then-not-asks_names c = (fitting_skip c.loop-q.invariant.0 c.as
 
 pub fill_names-requires : goal.fill_names-requires
 fill_names-requires c = record {
-        ready = c.requires.ready;
-        row = (room_row _ _ _ _ _ _ refl c.requires.room refl (search rules), room_row _ _ _ _ _ _ refl c.requires.unfitted.room c.loop-q.invariant.1 (search rules));
-    }
+  ready = c.requires.ready;
+  row = (room_row _ _ _ _ _ _ refl c.requires.room refl (search rules), room_row _ _ _ _ _ _ refl c.requires.unfitted.room c.loop-q.invariant.1 (search rules));
+}
 
 pub loop-q-preserved : goal.loop-q-preserved
 unfolding program

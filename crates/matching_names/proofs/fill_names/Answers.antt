@@ -16,9 +16,9 @@ right-v-requires c = (flow_usable c.requires.ready _ c.flow-l.ensures).0
 
 pub value_fits-requires : goal.value_fits-requires
 value_fits-requires c = record {
-        ready = c.requires.ready;
-        w_value = (c.width-w.ensures, (flow_entry c.requires.ready _ _ _ _ _ c.flow-l.ensures c.width-w.ensures (search rules) refl c.right-v.ensures).0, row_kept c.width-w.ensures c.requires.row.0 refl);
-    }
+  ready = c.requires.ready;
+  w_value = (c.width-w.ensures, (flow_entry c.requires.ready _ _ _ _ _ c.flow-l.ensures c.width-w.ensures (search rules) refl c.right-v.ensures).0, row_kept c.width-w.ensures c.requires.row.0 refl);
+}
 
 pub loop-i-preserved-then-not-value_fits : goal.loop-i-preserved-then-not-value_fits
 loop-i-preserved-then-not-value_fits c = (names_skip _ _ _ _ _ _ _ c.loop-i.invariant.0 c.right-v.ensures c.value_fits.ensures c.if-not-value_fits.true, search rules)
@@ -30,8 +30,8 @@ pub put-requires : goal.put-requires
 put-requires c =
     let (a, n) = flow_entry c.requires.ready _ _ _ _ _ c.flow-l.ensures c.width-w.ensures (search rules) c.left-n.ensures c.right-v.ensures in
     record {
-        v_bound = rw c.name_width-words.ensures (width_above _ _ (omega arith));
-        row = row_kept c.name_width-words.ensures c.requires.row.1 c.loop-i.invariant.0.long;
+      v_bound = rw c.name_width-words.ensures (width_above _ _ (omega arith));
+      row = row_kept c.name_width-words.ensures c.requires.row.1 c.loop-i.invariant.0.long;
     }
 
 pub loop-i-preserved : goal.loop-i-preserved

@@ -38,9 +38,9 @@ pub leave_argument-requires : goal.leave_argument-requires
 leave_argument-requires c =
     let a = (argument_at c.requires.leaving_tables.match_tables.ready c.requires.ends _ c.requires.pattern.0 c.requires.pattern.1 (sym c.tag.ensures ∙ c.if-tag-ne-TAG_PATTERN_CONSTRUCTOR.false) c.num-made.ensures c.num-arity.ensures (search rules) c.loop-i.invariant.1) in
     record {
-        leaving_tables = c.requires.leaving_tables;
-        i_lt_max_arity = (a.short, (argument_name c.requires.leaving_tables.match_tables.ready c.requires.ends _ c.requires.pattern.0 c.requires.pattern.1 (sym c.tag.ensures ∙ c.if-tag-ne-TAG_PATTERN_CONSTRUCTOR.false) c.num-made.ensures c.num-arity.ensures (search rules) c.loop-i.invariant.1 _ _ (search rules) c.num-name.ensures).1);
-        pattern = (a.stands, wide_row _ _ _ c.requires.leaving_tables.wide c.loop-i.invariant.2.row);
+      leaving_tables = c.requires.leaving_tables;
+      i_lt_max_arity = (a.short, (argument_name c.requires.leaving_tables.match_tables.ready c.requires.ends _ c.requires.pattern.0 c.requires.pattern.1 (sym c.tag.ensures ∙ c.if-tag-ne-TAG_PATTERN_CONSTRUCTOR.false) c.num-made.ensures c.num-arity.ensures (search rules) c.loop-i.invariant.1 _ _ (search rules) c.num-name.ensures).1);
+      pattern = (a.stands, wide_row _ _ _ c.requires.leaving_tables.wide c.loop-i.invariant.2.row);
     }
 
 pub word-sub-requires : goal.word-sub-requires

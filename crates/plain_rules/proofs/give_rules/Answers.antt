@@ -19,16 +19,16 @@ returns-then-b-s c = added_same give _ [] 0 _ [] 0 _ _ (added_nothing give _ [] 
 
 pub heads_to-to-requires : goal.heads_to-to-requires
 heads_to-to-requires c = record {
-        ready = c.requires.ready;
-        r_bound = omega (arith, here_low c.requires.ready c.state_return-b.result (tag_head _ 4 (return_call c.requires.ready c.args.i _ c.requires.i_lt_states c.state_return-b.ensures c.if-b-s.false) (omega arith) (omega arith)), c.requires.ready.limits.rows);
-    }
+  ready = c.requires.ready;
+  r_bound = omega (arith, here_low c.requires.ready c.state_return-b.result (tag_head _ 4 (return_call c.requires.ready c.args.i _ c.requires.i_lt_states c.state_return-b.ensures c.if-b-s.false) (omega arith) (omega arith)), c.requires.ready.limits.rows);
+}
 
 pub rest-e-requires : goal.rest-e-requires
 rest-e-requires c = record {
-        ready = c.requires.ready;
-        ends = c.requires.ends;
-        r_value = tag_head _ 4 (return_call c.requires.ready c.args.i _ c.requires.i_lt_states c.state_return-b.ensures c.if-b-s.false) (omega arith) (omega arith);
-    }
+  ready = c.requires.ready;
+  ends = c.requires.ends;
+  r_value = tag_head _ 4 (return_call c.requires.ready c.args.i _ c.requires.i_lt_states c.state_return-b.ensures c.if-b-s.false) (omega arith) (omega arith);
+}
 
 pub loop-j-init : goal.loop-j-init
 loop-j-init c = (added_none give _ [] 0 _ _ (omega arith), omega arith, (give_range c.requires.ready c.args.i _ _ c.requires.i_value c.state_return-b.ensures c.state_class-c.ensures _ _ c.heads_from-from.ensures c.heads_to-to.ensures).0, omega arith)

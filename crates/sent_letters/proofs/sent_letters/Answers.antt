@@ -32,9 +32,9 @@ place-j-requires c =
 
 pub entry_set-set-requires : goal.entry_set-set-requires
 entry_set-set-requires c = record {
-        within_limits = c.requires.sent_tables.letter_tables.ready.limits;
-        j_lt_mails = (mailed_at c.requires.sent_tables.letter_tables.ready _ _ _ _ _ _ _ c.requires.sent_to.mailed (name_starts c.requires.sent_tables.letter_tables.ready _ _ _ _ c.requires.sent_tables.flow_starts c.requires.sent_to.name c.word-from.ensures.0 c.word-to.ensures.0).0 (name_starts c.requires.sent_tables.letter_tables.ready _ _ _ _ c.requires.sent_tables.flow_starts c.requires.sent_to.name c.word-from.ensures.0 c.word-to.ensures.0).1 (omega (arith, c.loop-i.invariant.0)) (omega (arith, c.loop-i.invariant.0, c.loop-i-test.true)) c.flow_value-v.ensures (mail_placed _ _ _ _ _ c.place-j.ensures c.mail.ensures)).0;
-    }
+  within_limits = c.requires.sent_tables.letter_tables.ready.limits;
+  j_lt_mails = (mailed_at c.requires.sent_tables.letter_tables.ready _ _ _ _ _ _ _ c.requires.sent_to.mailed (name_starts c.requires.sent_tables.letter_tables.ready _ _ _ _ c.requires.sent_tables.flow_starts c.requires.sent_to.name c.word-from.ensures.0 c.word-to.ensures.0).0 (name_starts c.requires.sent_tables.letter_tables.ready _ _ _ _ c.requires.sent_tables.flow_starts c.requires.sent_to.name c.word-from.ensures.0 c.word-to.ensures.0).1 (omega (arith, c.loop-i.invariant.0)) (omega (arith, c.loop-i.invariant.0, c.loop-i-test.true)) c.flow_value-v.ensures (mail_placed _ _ _ _ _ c.place-j.ensures c.mail.ensures)).0;
+}
 
 pub join_into-requires : goal.join_into-requires
 unfolding tables entries columns

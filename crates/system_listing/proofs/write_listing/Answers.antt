@@ -19,10 +19,10 @@ letter_count-count-requires c = record { ready = c.requires.joined_tables.ready;
 
 pub write_sizes-requires : goal.write_sizes-requires
 write_sizes-requires c = record {
-        in_bounds = omega (arith, words_told _ _ _ c.requires.n_value, c.requires.s_in_bounds);
-        states_bound = (omega (arith, c.requires.joined_tables.ready.limits.states), omega (arith, c.letter_count-count.ensures.1));
-        rules_bound = c.requires.rules_bound;
-    }
+  in_bounds = omega (arith, words_told _ _ _ c.requires.n_value, c.requires.s_in_bounds);
+  states_bound = (omega (arith, c.requires.joined_tables.ready.limits.states), omega (arith, c.letter_count-count.ensures.1));
+  rules_bound = c.requires.rules_bound;
+}
 
 pub write_rules-requires : goal.write_rules-requires
 write_rules-requires c = record { joined_tables = c.requires.joined_tables; rule_room = c.requires.rule_room; room = rules_room _ _ c.args.out.now _ _ c.requires.s_in_bounds c.requires.n_value c.write_sizes.auto.out }

@@ -22,10 +22,10 @@ state_head-head-requires c = c.requires.joined_tables.ready
 pub put_rules-e-requires : goal.put_rules-e-requires
 unfolding rules tables entries columns
 put_rules-e-requires c = record {
-        m_in_bounds = (c.rules_of-m.ensures.tos_room, c.rules_of-m.ensures.others_room);
-        i_bound = omega (arith, c.loop-i-test.true, c.requires.joined_tables.ready.limits.states);
-        room = state_room _ _ _ _ _ _ _ c.rules_of-m.ensures c.state_head-head.ensures _ _ _ (put_room _ _ _ _ _ _ 0 c.loop-i.i c.loop-i.invariant.0 (omega arith) _ c.loop-i-test.true c.requires.room);
-    }
+  m_in_bounds = (c.rules_of-m.ensures.tos_room, c.rules_of-m.ensures.others_room);
+  i_bound = omega (arith, c.loop-i-test.true, c.requires.joined_tables.ready.limits.states);
+  room = state_room _ _ _ _ _ _ _ c.rules_of-m.ensures c.state_head-head.ensures _ _ _ (put_room _ _ _ _ _ _ 0 c.loop-i.i c.loop-i.invariant.0 (omega arith) _ c.loop-i-test.true c.requires.room);
+}
 
 pub overflow_add-i : goal.overflow_add-i
 overflow_add-i c = record { fits = omega (arith, c.loop-i-test.true, c.requires.joined_tables.ready.limits.states) }

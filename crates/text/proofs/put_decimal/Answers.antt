@@ -6,8 +6,8 @@ pub put_digits-requires : goal.put_digits-requires
 put_digits-requires c =
     let n = c.args.n in
     record {
-        lt_base = (search rules, search rules);
-        k_in_bounds = let w = c.width_of.ensures in let z = width_most n in search rules;
+      lt_base = (search rules, search rules);
+      k_in_bounds = let w = c.width_of.ensures in let z = width_most n in search rules;
     }
 
 pub returns : goal.returns

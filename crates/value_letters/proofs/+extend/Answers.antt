@@ -14,8 +14,8 @@ pub insert-requires : goal.insert-requires
 insert-requires t c =
     let r = c.requires.prefixed.room in
     record {
-        from_le_n = (r.begun, omega (arith, c.if-n-most.false, r.limit), omega (arith, c.if-n-most.false, r.long));
-        rising = r.rising;
+      from_le_n = (r.begun, omega (arith, c.if-n-most.false, r.limit), omega (arith, c.if-n-most.false, r.long));
+      rising = r.rising;
     }
 
 pub returns-then-i-eq-MAX_ARITY : goal.returns-then-i-eq-MAX_ARITY
@@ -44,9 +44,9 @@ overflow_add-v-2 t c = record { fits = omega (arith, c.requires.prefixed.value.l
 
 pub next_of_two-h-requires : goal.next_of_two-h-requires
 next_of_two-h-requires t c = record {
-        row = argument_row c.requires.heads_known c.requires.prefixed.value.arguments _ _ c.num-name.ensures c.if-i-arity.false;
-        from_le_end = (omega arith, omega (arith, c.requires.heads_known.ready.limits.constructors));
-    }
+  row = argument_row c.requires.heads_known c.requires.prefixed.value.arguments _ _ c.num-name.ensures c.if-i-arity.false;
+  from_le_end = (omega arith, omega (arith, c.requires.heads_known.ready.limits.constructors));
+}
 
 pub loop-h-init : goal.loop-h-init
 loop-h-init t c = (
@@ -71,9 +71,9 @@ overflow_add-h t c = record { fits = omega (arith, c.requires.heads_known.ready.
 
 pub next_of_two-h-requires-in-loop-h : goal.next_of_two-h-requires-in-loop-h
 next_of_two-h-requires-in-loop-h t c = record {
-        row = argument_row c.requires.heads_known c.requires.prefixed.value.arguments _ _ c.num-name.ensures c.if-i-arity.false;
-        from_le_end = (omega arith, omega (arith, c.requires.heads_known.ready.limits.constructors));
-    }
+  row = argument_row c.requires.heads_known c.requires.prefixed.value.arguments _ _ c.num-name.ensures c.if-i-arity.false;
+  from_le_end = (omega arith, omega (arith, c.requires.heads_known.ready.limits.constructors));
+}
 
 pub loop-h-smaller : goal.loop-h-smaller
 loop-h-smaller t c = omega (arith, (next_range _ _ _ _ _ c.next_of_two-h-in-loop-h.ensures (omega arith)).0)

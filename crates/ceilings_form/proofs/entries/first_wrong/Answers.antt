@@ -52,8 +52,8 @@ loop-e-preserved c =
     let x = c.entry_counter-x.ensures in
     let l = c.entry_number-number.ensures in
     elim c.if-x-n.branch [
-      then-x-n+else-number-ne0 w ↦ closed_so_far _ _ _ _ h.e h.least h.closed h.invariant more inside _ _ x l w.if-x-n.true w.if-number-ne0.false _ _ w.least-is w.closed-is
-    | else-x-n+else-not-in_bound w ↦ next_so_far _ _ _ _ h.e h.least h.closed h.invariant more inside _ _ x l w.if-x-n.false (sym w.in_bound.ensures ∙ w.if-not-in_bound.false) _ _ w.least-is w.closed-is
+      | then-x-n+else-number-ne0 w ↦ closed_so_far _ _ _ _ h.e h.least h.closed h.invariant more inside _ _ x l w.if-x-n.true w.if-number-ne0.false _ _ w.least-is w.closed-is
+      | else-x-n+else-not-in_bound w ↦ next_so_far _ _ _ _ h.e h.least h.closed h.invariant more inside _ _ x l w.if-x-n.false (sym w.in_bound.ensures ∙ w.if-not-in_bound.false) _ _ w.least-is w.closed-is
     ]
 
 pub returns-then-closed-count-2 : goal.returns-then-closed-count-2

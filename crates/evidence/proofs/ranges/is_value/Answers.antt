@@ -12,8 +12,8 @@ unfolding program columns
 returns-in_default c =
     value_start _ _ _ c.tag.ensures
     (elim c.in_default.branch [
-      in_default-via-then-this-lt2 w ↦ inl (omega arith)
-    | in_default-via-else-this-lt2+else-this-lt4 w ↦ inr (omega arith)
+      | in_default-via-then-this-lt2 w ↦ inl (omega arith)
+      | in_default-via-else-this-lt2+else-this-lt4 w ↦ inr (omega arith)
     ])
     (omega arith)
 

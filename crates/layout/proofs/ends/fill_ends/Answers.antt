@@ -19,9 +19,9 @@ pub end_row-end-requires : goal.end_row-end-requires
 end_row-end-requires c =
     let l = c.loop-r in
     record {
-        whole = c.requires.whole;
-        r_lt_rows = omega (arith, c.loop-r-test.true, l.invariant.0);
-        after_from = after_by _ l.r (l.r - 1 + 1) l.afters (omega (arith, c.loop-r-test.true)) l.invariant.2;
+      whole = c.requires.whole;
+      r_lt_rows = omega (arith, c.loop-r-test.true, l.invariant.0);
+      after_from = after_by _ l.r (l.r - 1 + 1) l.afters (omega (arith, c.loop-r-test.true)) l.invariant.2;
     }
 
 pub offset_bounds-afters-r : goal.offset_bounds-afters-r

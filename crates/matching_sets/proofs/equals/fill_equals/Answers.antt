@@ -25,9 +25,9 @@ loop-u-preserved-then-not-holds c = (equals_skip _ _ _ _ _ _ _ c.loop-u.invarian
 
 pub put_equals-requires : goal.put_equals-requires
 put_equals-requires c = record {
-        build_ready = c.requires.build_ready;
-        equals_room = record { low = omega (arith, c.width-w.ensures); row = row_kept refl c.requires.held_name.row c.loop-u.invariant.0.long; alike = held_alike _ _ _ _ _ _ _ c.width-w.ensures c.loop-u.invariant.0 c.requires.held_name.clear };
-    }
+  build_ready = c.requires.build_ready;
+  equals_room = record { low = omega (arith, c.width-w.ensures); row = row_kept refl c.requires.held_name.row c.loop-u.invariant.0.long; alike = held_alike _ _ _ _ _ _ _ c.width-w.ensures c.loop-u.invariant.0 c.requires.held_name.clear };
+}
 
 pub overflow_step-u-in-loop-u : goal.overflow_step-u-in-loop-u
 unfolding width

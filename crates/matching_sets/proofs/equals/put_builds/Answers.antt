@@ -24,9 +24,9 @@ loop-v-init c = building_begin _ _ _ _ _ _ (build_first c.requires.build_ready.b
 
 pub put-requires : goal.put-requires
 put-requires c = record {
-        v_bound = rw c.width-w.ensures (width_above _ _ (search rules));
-        row = row_kept c.width-w.ensures c.requires.row.0 c.loop-v.invariant.joined.long;
-    }
+  v_bound = rw c.width-w.ensures (width_above _ _ (search rules));
+  row = row_kept c.width-w.ensures c.requires.row.0 c.loop-v.invariant.joined.long;
+}
 
 pub word-v-requires-in-loop-v : goal.word-v-requires-in-loop-v
 unfolding program columns

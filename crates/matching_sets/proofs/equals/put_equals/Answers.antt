@@ -25,9 +25,9 @@ returns-then-holds c = put_there _ _ _ _ _ _ _ _ c.is_class.ensures _ c.tag.ensu
 pub put_builds-requires : goal.put_builds-requires
 unfolding program columns
 put_builds-requires c = record {
-        build_ready = c.requires.build_ready;
-        row = (c.requires.equals_room.row, (sym c.tag.ensures ∙ c.if-tag-ne-TAG_BUILD.false, row_within (columns_whole c.requires.build_ready.ready) _ (omega (arith, c.tag.ensures, c.if-tag-ne-TAG_BUILD.false))));
-    }
+  build_ready = c.requires.build_ready;
+  row = (c.requires.equals_room.row, (sym c.tag.ensures ∙ c.if-tag-ne-TAG_BUILD.false, row_within (columns_whole c.requires.build_ready.ready) _ (omega (arith, c.tag.ensures, c.if-tag-ne-TAG_BUILD.false))));
+}
 
 pub returns : goal.returns
 returns c = put_build _ _ _ _ 0 _ _ _ c.is_class.ensures _ c.tag.ensures c.if-is_class.false c.if-tag-ne-TAG_BUILD.false c.put_builds.ensures

@@ -26,21 +26,21 @@ loop-v-init c = let z = pattern_constructor (pattern_stands (rows_fit c.requires
 pub arguments_code-code-requires : goal.arguments_code-code-requires
 unfolding program columns is_build is_same_constructor
 arguments_code-code-requires c = record {
-        cases = fill_match c.requires.fill_ready (still _ _ _ _ c.requires.filled_from.1.0 _ _ _ _ _ c.width-w.ensures c.loop-v.invariant c.requires.filled_from.0.patterns);
-        same_made = record { stands = pattern_stands (rows_fit c.requires.fill_ready.ready) _ c.requires.filled_from.1.1 c.requires.filled_from.1.0; made = c.requires.filled_from.1.0; same = c.loop-v.invariant.here (search rules) };
-    }
+  cases = fill_match c.requires.fill_ready (still _ _ _ _ c.requires.filled_from.1.0 _ _ _ _ _ c.width-w.ensures c.loop-v.invariant c.requires.filled_from.0.patterns);
+  same_made = record { stands = pattern_stands (rows_fit c.requires.fill_ready.ready) _ c.requires.filled_from.1.1 c.requires.filled_from.1.0; made = c.requires.filled_from.1.0; same = c.loop-v.invariant.here (search rules) };
+}
 
 pub put_if-requires : goal.put_if-requires
 put_if-requires c = record {
-        v_bound = rw c.width-w.ensures (width_above _ _ (search rules));
-        row = room_row _ _ _ _ _ _ c.width-w.ensures c.requires.filled_from.0.may_room c.loop-v.invariant.may_long c.requires.filled_from.1.1;
-    }
+  v_bound = rw c.width-w.ensures (width_above _ _ (search rules));
+  row = room_row _ _ _ _ _ _ c.width-w.ensures c.requires.filled_from.0.may_room c.loop-v.invariant.may_long c.requires.filled_from.1.1;
+}
 
 pub put_if-requires-in-loop-v : goal.put_if-requires-in-loop-v
 put_if-requires-in-loop-v c = record {
-        v_bound = rw c.width-w.ensures (width_above _ _ (search rules));
-        row = room_row _ _ _ _ _ _ c.width-w.ensures c.requires.filled_from.0.held_room c.loop-v.invariant.held_long c.requires.filled_from.1.1;
-    }
+  v_bound = rw c.width-w.ensures (width_above _ _ (search rules));
+  row = room_row _ _ _ _ _ _ c.width-w.ensures c.requires.filled_from.0.held_room c.loop-v.invariant.held_long c.requires.filled_from.1.1;
+}
 
 pub word-v-requires-in-loop-v : goal.word-v-requires-in-loop-v
 unfolding program columns

@@ -22,9 +22,9 @@ num-name-requires c = c.requires.flow_ready.ready.whole
 
 pub includes-requires : goal.includes-requires
 includes-requires c = record {
-        flow_sets = c.requires.flow_ready.names;
-        a_lt_names = (give_here c.requires.flow_ready.ready _ _ c.requires.i_lt_states.1 c.num-given.ensures, call_name c.requires.flow_ready.ready _ _ (return_some c.requires.flow_ready.ready _ _ c.requires.i_lt_states.0 c.state_return-call.ensures c.if-call-s.false) c.num-name.ensures);
-    }
+  flow_sets = c.requires.flow_ready.names;
+  a_lt_names = (give_here c.requires.flow_ready.ready _ _ c.requires.i_lt_states.1 c.num-given.ensures, call_name c.requires.flow_ready.ready _ _ (return_some c.requires.flow_ready.ready _ _ c.requires.i_lt_states.0 c.state_return-call.ensures c.if-call-s.false) c.num-name.ensures);
+}
 
 pub returns-then-not-includes : goal.returns-then-not-includes
 returns-then-not-includes c = name_given _ _ _ _ _ _ c.num-given.ensures (gives_lack _ _ (states_rise c.requires.flow_ready.ready) _ _ _ _ _ _ c.state_return-call.ensures c.state_class-c.ensures c.heads_from-from.ensures c.heads_to-to.ensures _ _ c.if-from-to.false c.num-name.ensures c.includes.ensures (ap not c.if-not-includes.true))
