@@ -13,7 +13,7 @@ use Rattle.model.specs.declared.Verdict.{Verdict}
 use Rattle.model.specs.declared.Verdict.TheVariants.{Safe, Open}
 use Rattle.model.specs.Words.{left, right, columns}
 use Rattle.model.specs.Message.{tables_offset}
-use Rattle.model.specs.Rows.{Program, program, tag, num}
+use Rattle.model.specs.Rows.{Program, program, num}
 use Rattle.model.specs.Heads.{head_at, cases, receives, branch_rows}
 use Rattle.model.specs.Tables.{Tables, entries, tables, state_at}
 use Rattle.model.specs.Verdict.{◌>>◌, unless, number}

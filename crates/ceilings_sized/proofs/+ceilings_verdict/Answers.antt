@@ -1,8 +1,7 @@
 use Rattle.stages.proofs.Laying.{few_counters}
 use Rattle.ceilings_sized.proofs.Laying.{all_cells}
-use Prim.Native.Nat.{ℕ, ◌<◌, ◌-◌}
+use Prim.Native.Nat.{◌-◌}
 use native.Mathlib.Omega.{arith}
-use borrow.Author.Rules.{rules}
 use Rattle.ceilings_sized.proofs.+ceilings_verdict.Goals as goal
 
 pub all_limits-requires : goal.all_limits-requires

@@ -1,6 +1,5 @@
 use native.Mathlib.Omega.{arith}
 use mathlib.Core.Path.{refl, sym, ap, ◌∙◌}
-use borrow.Author.Tests.{not-true, not-false}
 use Rattle.model.specs.Verify.{answer}
 use Rattle.model.proofs.Exact.Answer.{start_refuses, met_refuses}
 use Rattle.answers.proofs.Passing.{passed}
@@ -27,6 +26,9 @@ pub returns-then-not-is_safe : goal.returns-then-not-is_safe
 unfolding below_ceilings
 returns-then-not-is_safe c =
     let z = ends_with _ _ _ _ _ _ _ _ refl c.start_verdict-begins.ensures c.is_safe.ensures c.if-not-is_safe.true in record { value = z.0; lent_after = z.1 }
+
+pub slice_bounds-met_verdict-start : goal.slice_bounds-met_verdict-start
+slice_bounds-met_verdict-start c = let l = long _ _ _ _ _ _ c.requires.joined_tables in search rules
 
 pub slice_bounds-met_verdict-count : goal.slice_bounds-met_verdict-count
 slice_bounds-met_verdict-count c = omega (arith, long _ _ _ _ _ _ c.requires.joined_tables)
@@ -55,15 +57,6 @@ leaks_on-leaks-requires c =
       rule_room = c.requires.rule_room;
     }
 
-pub shape_of-limits-then-not-is_safe-3 : goal.shape_of-limits-then-not-is_safe-3
-shape_of-limits-then-not-is_safe-3 c = c.fill_limits.auto.1.1.1.0
-
-pub shape_of-ceiling_at-then-not-is_safe-3 : goal.shape_of-ceiling_at-then-not-is_safe-3
-shape_of-ceiling_at-then-not-is_safe-3 c = c.fill_limits.auto.1.1.1.1.0
-
-pub shape_of-sums-then-not-is_safe-3 : goal.shape_of-sums-then-not-is_safe-3
-shape_of-sums-then-not-is_safe-3 c = c.met_verdict-met.auto.1.1.1.1.1.1.0
-
 pub returns-then-not-is_safe-3 : goal.returns-then-not-is_safe-3
 unfolding below_ceilings
 returns-then-not-is_safe-3 c =
@@ -72,24 +65,9 @@ returns-then-not-is_safe-3 c =
 pub space_verdict-requires : goal.space_verdict-requires
 space_verdict-requires c = record {
   joined_tables = c.requires.joined_tables;
-  rule_room = room_kept _ _ _ _ _ _ c.requires.rule_room.0 c.leaks_on-leaks.auto.1.1.1.1.1.1.1.1.1.1.1.1.1.0 c.leaks_on-leaks.auto.1.1.1.1.1.1.1.1.1.1.1.1.1.1.0;
+  rule_room = room_kept _ _ _ _ _ _ c.requires.rule_room.0 c.leaks_on-leaks.auto.tos c.leaks_on-leaks.auto.others;
   totalled = c.leaks_on-leaks.ensures.totalled;
 }
-
-pub shape_of-limits : goal.shape_of-limits
-shape_of-limits c = c.fill_limits.auto.1.1.1.0
-
-pub shape_of-ceiling_at : goal.shape_of-ceiling_at
-shape_of-ceiling_at c = c.fill_limits.auto.1.1.1.1.0
-
-pub shape_of-sums : goal.shape_of-sums
-shape_of-sums c = c.met_verdict-met.auto.1.1.1.1.1.1.0
-
-pub shape_of-tos : goal.shape_of-tos
-shape_of-tos c = c.space_verdict.auto.1.1.1.1.1.1.1.1.0 ∙ c.leaks_on-leaks.auto.1.1.1.1.1.1.1.1.1.1.1.1.1.0
-
-pub shape_of-others : goal.shape_of-others
-shape_of-others c = c.space_verdict.auto.1.1.1.1.1.1.1.1.1.0 ∙ c.leaks_on-leaks.auto.1.1.1.1.1.1.1.1.1.1.1.1.1.1.0
 
 pub returns : goal.returns
 unfolding below_ceilings

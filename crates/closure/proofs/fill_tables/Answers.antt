@@ -1,4 +1,3 @@
-use borrow.Author.Rules.{rules}
 use Rattle.closure.proofs.fill_tables.Goals as goal
 
 pub fill_patterns-requires : goal.fill_patterns-requires

@@ -1,13 +1,10 @@
 use Prim.Native.Nat.{◌-◌}
-use mathlib.Core.Path.{◌≡◌, refl, ◌∙◌}
-use native.Mathlib.Omega.{arith}
+use mathlib.Core.Path.{◌≡◌}
 use lib.ListN.{length}
-use Rattle.model.specs.Words.{columns}
 use Rattle.model.specs.Rows.{program}
-use Rattle.model.specs.Tables.{tables, entries}
+use Rattle.model.specs.Tables.{tables}
 use Rattle.codes.specs.Codes.{Codes}
-use Rattle.closure.proofs.Opens.{Opens, opens_begin, opens_here, opens_next, opens_over}
-use borrow.Author.Rules.{rules}
+use Rattle.closure.proofs.Opens.{Opens}
 use Rattle.closure.proofs.first_open.Given as goal
 
 abbrev pub invariant-loop-i : goal.invariant-loop-i

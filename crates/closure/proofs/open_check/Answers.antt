@@ -1,6 +1,5 @@
-use mathlib.Core.Path.{◌≡◌, ◌∙◌}
+use mathlib.Core.Path.{◌∙◌}
 use native.Mathlib.Omega.{arith}
-use borrow.Author.Tests.{not-true, not-false}
 use Rattle.model.specs.Words.{columns}
 use Rattle.model.specs.Tables.{tables, entries}
 use Rattle.matching_sets.proofs.Filling.{same_room}
@@ -29,63 +28,6 @@ first_open-i-requires c = record { closure_ready = c.fill_tables.ensures; states
 pub state_verdict-requires : goal.state_verdict-requires
 state_verdict-requires c = record { within_limits = c.requires.openable.ready.limits; i_lt_states = search rules }
 
-pub shape_of-starts-then-i-s : goal.shape_of-starts-then-i-s
-shape_of-starts-then-i-s c = c.fill_tables.auto.1.1.1.0
-
-pub shape_of-flow-then-i-s : goal.shape_of-flow-then-i-s
-shape_of-flow-then-i-s c = c.fill_tables.auto.1.1.1.1.0
-
-pub shape_of-mail-then-i-s : goal.shape_of-mail-then-i-s
-shape_of-mail-then-i-s c = c.fill_tables.auto.1.1.1.1.1.0
-
-pub shape_of-firsts-then-i-s : goal.shape_of-firsts-then-i-s
-shape_of-firsts-then-i-s c = c.fill_tables.auto.1.1.1.1.1.1.0
-
-pub shape_of-nexts-then-i-s : goal.shape_of-nexts-then-i-s
-shape_of-nexts-then-i-s c = c.first_open-i.auto.1.1.1.1.1.1.1.1.1.0 ∙ c.fill_tables.auto.1.1.1.1.1.1.1.0
-
-pub shape_of-may-then-i-s : goal.shape_of-may-then-i-s
-shape_of-may-then-i-s c = c.fill_tables.auto.1.1.1.1.1.1.1.1.0
-
-pub shape_of-held-then-i-s : goal.shape_of-held-then-i-s
-shape_of-held-then-i-s c = c.fill_tables.auto.1.1.1.1.1.1.1.1.1.0
-
-pub shape_of-codes-then-i-s : goal.shape_of-codes-then-i-s
-shape_of-codes-then-i-s c = c.first_open-i.auto.1.1.1.1.1.1.1.1.0
-
-pub shape_of-branches-then-i-s : goal.shape_of-branches-then-i-s
-shape_of-branches-then-i-s c = c.first_open-i.auto.1.1.1.1.1.1.1.1.1.1.0
-
-pub shape_of-starts : goal.shape_of-starts
-shape_of-starts c = c.fill_tables.auto.1.1.1.0
-
-pub shape_of-fitting : goal.shape_of-fitting
-shape_of-fitting c = c.fill_fitting.auto.1.1.1.0
-
-pub shape_of-flow : goal.shape_of-flow
-shape_of-flow c = c.fill_tables.auto.1.1.1.1.0
-
-pub shape_of-mail : goal.shape_of-mail
-shape_of-mail c = c.fill_tables.auto.1.1.1.1.1.0
-
-pub shape_of-firsts : goal.shape_of-firsts
-shape_of-firsts c = c.fill_tables.auto.1.1.1.1.1.1.0
-
-pub shape_of-nexts : goal.shape_of-nexts
-shape_of-nexts c = c.first_open-i.auto.1.1.1.1.1.1.1.1.1.0 ∙ c.fill_tables.auto.1.1.1.1.1.1.1.0
-
-pub shape_of-may : goal.shape_of-may
-shape_of-may c = c.fill_tables.auto.1.1.1.1.1.1.1.1.0
-
-pub shape_of-held : goal.shape_of-held
-shape_of-held c = c.fill_tables.auto.1.1.1.1.1.1.1.1.1.0
-
-pub shape_of-codes : goal.shape_of-codes
-shape_of-codes c = c.first_open-i.auto.1.1.1.1.1.1.1.1.0
-
-pub shape_of-branches : goal.shape_of-branches
-shape_of-branches c = c.first_open-i.auto.1.1.1.1.1.1.1.1.1.1.0
-
 pub returns-then-i-s : goal.returns-then-i-s
 returns-then-i-s c =
     let e = c.state_verdict.ensures in
@@ -100,7 +42,7 @@ returns-then-i-s c =
 pub fill_fitting-requires : goal.fill_fitting-requires
 fill_fitting-requires c = record {
   ready = c.requires.openable.ready;
-  room = same_room _ _ c.fill_tables.auto.1.1.1.1.1.1.1.1.0 c.requires.open_scratch.cleared.patterns.may_room;
+  room = same_room _ _ c.fill_tables.auto.may c.requires.open_scratch.cleared.patterns.may_room;
   unfitted = c.requires.openable.unfitted;
 }
 
@@ -114,6 +56,6 @@ returns c =
     record {
       says = verdict_safe _ _ (omega arith) ∙ opening-there _ _ _ c.opening_closed.ensures _ c.if-not-opening_closed.false c.first_open-i.ensures.value.0;
       begins = λ _. f.begins;
-      fits = λ _. fitting_sets_of h.ready _ h.unfitted.room c.fill_fitting.auto.1.1.1.0 f.patterns c.fill_fitting.ensures;
+      fits = λ _. fitting_sets_of h.ready _ h.unfitted.room c.fill_fitting.auto.fitting f.patterns c.fill_fitting.ensures;
       bits = λ _. bits_told _ _ (omega arith) (omega (arith, h.states)) c.first_open-i.ensures.told;
     }

@@ -1,6 +1,5 @@
 use Rattle.asks.proofs.Rows.{row_below}
 use Rattle.stated.proofs.Giving.{head_some}
-use borrow.Author.Rules.{rules}
 use Rattle.closure.proofs.settled_bits.Goals as goal
 
 pub code_at-k-requires : goal.code_at-k-requires

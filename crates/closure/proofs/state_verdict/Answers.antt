@@ -1,7 +1,6 @@
 use native.Mathlib.Omega.{arith}
 use Rattle.model.specs.Message.{tables_offset}
 use Rattle.closure.proofs.Answers.{verdict-open}
-use borrow.Author.Rules.{rules}
 use Rattle.closure.proofs.state_verdict.Goals as goal
 
 pub overflow_add-place : goal.overflow_add-place

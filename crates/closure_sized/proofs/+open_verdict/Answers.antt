@@ -1,7 +1,5 @@
 use Prim.Native.Nat.{◌-◌}
 use native.Mathlib.Omega.{arith}
-use borrow.Author.Rules.{rules}
-use Prim.Native.Nat.{ℕ, ◌<◌}
 use Rattle.closure_sized.proofs.+open_verdict.Goals as goal
 
 pub small_open-requires : goal.small_open-requires

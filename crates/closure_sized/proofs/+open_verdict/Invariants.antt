@@ -1,7 +1,4 @@
 use Prim.Native.Nat.{◌-◌}
-use native.Mathlib.Omega.{arith}
-use borrow.Author.Rules.{rules}
-use Prim.Native.Nat.{ℕ, ◌<◌}
 use Rattle.closure_sized.proofs.+open_verdict.Given as goal
 
 abbrev pub decreases-open_verdict : goal.decreases-open_verdict

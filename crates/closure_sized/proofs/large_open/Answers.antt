@@ -2,7 +2,6 @@ use native.Mathlib.Omega.{arith}
 use Rattle.model.specs.Limits.{max_rows, max_names}
 use Rattle.values.specs.Values.{width}
 use Rattle.closure_sized.proofs.Opening.{lends}
-use borrow.Author.Rules.{rules}
 use Rattle.closure_sized.proofs.large_open.Goals as goal
 
 pub open_check-requires : goal.open_check-requires

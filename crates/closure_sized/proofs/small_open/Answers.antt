@@ -1,7 +1,6 @@
 use native.Mathlib.Omega.{arith}
 use Rattle.values.specs.Values.{width}
 use Rattle.closure_sized.proofs.Opening.{lends}
-use borrow.Author.Rules.{rules}
 use Rattle.closure_sized.proofs.small_open.Goals as goal
 
 pub open_check-requires : goal.open_check-requires

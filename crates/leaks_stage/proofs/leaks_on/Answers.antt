@@ -1,5 +1,4 @@
 use native.Mathlib.Omega.{arith}
-use mathlib.Core.Path.{◌∙◌}
 use Rattle.model.specs.Ceilings.{ceilings_of}
 use Rattle.system_totals.proofs.Walk.{room_kept}
 use Rattle.rule_tables.proofs.Joining.{long, lent_letters}
@@ -17,6 +16,9 @@ fill_holders-requires c =
       ceilings_in_bounds = l.limits_table.room;
       n_in_bounds = m.held;
     }
+
+pub slice_bounds-letter_at-start : goal.slice_bounds-letter_at-start
+slice_bounds-letter_at-start c = let l = long _ _ _ _ _ _ c.requires.joined_tables in search rules
 
 pub slice_bounds-letter_at-count : goal.slice_bounds-letter_at-count
 slice_bounds-letter_at-count c = omega (arith, long _ _ _ _ _ _ c.requires.joined_tables)
@@ -48,11 +50,8 @@ leak_check-verdict-requires c =
       groups_upto = c.fill_groups-gathered.ensures.groups_upto;
       kept_rules = c.fill_groups-gathered.ensures.kept_rules;
       states_in_bounds = omega (arith, m.states, states_few _ _ _ l.counted);
-      rooms = record { rules = room_kept _ _ _ _ _ _ c.requires.rule_room.0 c.fill_groups-gathered.auto.1.1.1.1.1.1.1.1.1.1.1.1.0 c.fill_groups-gathered.auto.1.1.1.1.1.1.1.1.1.1.1.1.1.0; near_room = m.beside };
+      rooms = record { rules = room_kept _ _ _ _ _ _ c.requires.rule_room.0 c.fill_groups-gathered.auto.tos c.fill_groups-gathered.auto.others; near_room = m.beside };
     }
-
-pub shape_of-holders : goal.shape_of-holders
-shape_of-holders c = c.fill_holders.auto.1.1.1.0
 
 pub returns : goal.returns
 returns c = record { verdict_value = c.leak_check-verdict.ensures; totalled = c.fill_groups-gathered.ensures.totalled }

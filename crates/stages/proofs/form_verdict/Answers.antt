@@ -1,6 +1,4 @@
 -- Each return is the form of what the message has.
-use native.Mathlib.Omega.{arith}
-use borrow.Author.Rules.{rules}
 use Rattle.stages.specs.Order.{form_check}
 use Rattle.stages.proofs.Answering.{by_ceilings, by_weights}
 use Rattle.stages.proofs.form_verdict.Goals as goal

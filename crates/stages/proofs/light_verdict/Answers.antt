@@ -1,5 +1,4 @@
 use native.Mathlib.Omega.{arith}
-use borrow.Author.Rules.{rules}
 use Rattle.stages.proofs.Laying.{ceilings_of_ready, start_counted}
 use Rattle.stages.proofs.light_verdict.Goals as goal
 

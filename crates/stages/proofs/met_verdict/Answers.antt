@@ -1,6 +1,5 @@
 use native.Mathlib.Omega.{arith}
 use Rattle.stages.proofs.Laying.{ceilings_of_ready}
-use borrow.Author.Rules.{rules}
 use Rattle.stages.proofs.met_verdict.Goals as goal
 
 pub fill_items-requires : goal.fill_items-requires

@@ -1,5 +1,4 @@
 use Rattle.stages.proofs.Laying.{start_told}
-use borrow.Author.Rules.{rules}
 use Rattle.stages.proofs.start_counter.Goals as goal
 
 pub returns : goal.returns

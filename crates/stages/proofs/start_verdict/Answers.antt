@@ -1,6 +1,5 @@
 use native.Mathlib.Omega.{arith}
 use Rattle.stages.proofs.Laying.{ceilings_of_ready, start_counted}
-use borrow.Author.Rules.{rules}
 use Rattle.stages.proofs.start_verdict.Goals as goal
 
 pub start_counter-counter-requires : goal.start_counter-counter-requires

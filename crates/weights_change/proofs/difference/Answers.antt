@@ -1,6 +1,5 @@
 use native.Mathlib.Omega.{arith}
 use mathlib.Core.Path.{◌∙◌}
-use borrow.Author.Rules.{rules}
 use mir.Facts.{to_z-of_z}
 use Rattle.weights_change.proofs.Weighing.{difference_is, difference_fits}
 use Rattle.weights_change.proofs.difference.Goals as goal

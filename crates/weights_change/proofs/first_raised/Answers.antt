@@ -1,8 +1,7 @@
-use Prim.Native.Nat.{◌-◌, ◌≤◌, zero-le}
+use Prim.Native.Nat.{◌-◌, zero-le}
 use native.Mathlib.Omega.{arith}
-use mathlib.Core.Path.{◌≡◌, refl, sym, ◌∙◌}
+use mathlib.Core.Path.{refl, sym, ◌∙◌}
 use borrow.Author.Rules.{rules}
-use Rattle.model.specs.Index.{first}
 use Rattle.model.specs.Weights.{change, above_zero}
 use Rattle.model.proofs.Index.{first_end, first_hit, first_miss}
 use Rattle.steps.specs.Steps.{rule_of_step}

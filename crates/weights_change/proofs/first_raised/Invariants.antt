@@ -1,11 +1,8 @@
 -- The loop's invariant: the first line of all is the first of those from k on.
-use Prim.Native.Nat.{◌-◌, ◌≤◌, zero-le}
-use native.Mathlib.Omega.{arith}
-use mathlib.Core.Path.{◌≡◌, refl, sym, ◌∙◌}
-use borrow.Author.Rules.{rules}
+use Prim.Native.Nat.{◌-◌, ◌≤◌}
+use mathlib.Core.Path.{◌≡◌}
 use Rattle.model.specs.Index.{first}
 use Rattle.model.specs.Weights.{change, above_zero}
-use Rattle.model.proofs.Index.{first_end, first_hit, first_miss}
 use Rattle.steps.specs.Steps.{rule_of_step}
 use Rattle.weights_change.specs.Changes.{weight_of}
 use Rattle.weights_change.proofs.first_raised.Given as goal

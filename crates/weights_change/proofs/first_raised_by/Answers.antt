@@ -1,8 +1,7 @@
 use Prim.Native.Nat.{◌-◌}
 use native.Mathlib.Omega.{arith}
 use borrow.Author.Rules.{rules}
-use Rattle.weights_change.specs.Changes.{weight_of}
-use Rattle.weights_change.proofs.Raised.{SoFar, so_far_start, so_far_next, so_far_end}
+use Rattle.weights_change.proofs.Raised.{so_far_start, so_far_next, so_far_end}
 use Rattle.weights_change.proofs.first_raised_by.Goals as goal
 
 pub loop-j-init : goal.loop-j-init

@@ -1,9 +1,7 @@
 -- The loop's invariant: what all rules give, those from j on give below the first line so far.
 use Prim.Native.Nat.{◌-◌}
-use native.Mathlib.Omega.{arith}
-use borrow.Author.Rules.{rules}
 use Rattle.weights_change.specs.Changes.{weight_of}
-use Rattle.weights_change.proofs.Raised.{SoFar, so_far_start, so_far_next, so_far_end}
+use Rattle.weights_change.proofs.Raised.{SoFar}
 use Rattle.weights_change.proofs.first_raised_by.Given as goal
 
 abbrev pub invariant-loop-j : goal.invariant-loop-j

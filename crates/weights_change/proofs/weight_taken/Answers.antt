@@ -1,5 +1,4 @@
 use native.Mathlib.Omega.{arith}
-use borrow.Author.Rules.{rules}
 use Rattle.weights_change.proofs.Weighing.{takes_alone, takes_both}
 use Rattle.weights_change.proofs.weight_taken.Goals as goal
 

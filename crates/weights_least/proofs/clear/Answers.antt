@@ -1,7 +1,7 @@
-use Prim.Native.Nat.{◌-◌, ◌≤◌}
+use Prim.Native.Nat.{◌-◌}
 use mathlib.Core.Path.{◌≡◌, refl, ◌∙◌}
-use lib.ListN.{length, length-set}
-use Rattle.ceilings_met.proofs.Filled.{Filled, filled_none, filled_more}
+use lib.ListN.{length-set}
+use Rattle.ceilings_met.proofs.Filled.{filled_none, filled_more}
 use Rattle.weights_least.proofs.Filling.{none_counted}
 use borrow.Author.Rules.{rules}
 use Rattle.weights_least.proofs.clear.Goals as goal

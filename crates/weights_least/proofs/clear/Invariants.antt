@@ -1,10 +1,8 @@
 -- The loop's invariant: the words before x are 0.
 use Prim.Native.Nat.{◌-◌, ◌≤◌}
-use mathlib.Core.Path.{◌≡◌, refl, ◌∙◌}
-use lib.ListN.{length, length-set}
-use Rattle.ceilings_met.proofs.Filled.{Filled, filled_none, filled_more}
-use Rattle.weights_least.proofs.Filling.{none_counted}
-use borrow.Author.Rules.{rules}
+use mathlib.Core.Path.{◌≡◌}
+use lib.ListN.{length}
+use Rattle.ceilings_met.proofs.Filled.{Filled}
 use Rattle.weights_least.proofs.clear.Given as goal
 
 abbrev pub invariant-loop-x : goal.invariant-loop-x

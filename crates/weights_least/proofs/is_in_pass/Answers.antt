@@ -1,5 +1,4 @@
 use Rattle.weights_least.proofs.Items.{pass_of}
-use borrow.Author.Rules.{rules}
 use Rattle.weights_least.proofs.is_in_pass.Goals as goal
 
 pub returns-then-single : goal.returns-then-single

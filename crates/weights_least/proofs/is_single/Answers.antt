@@ -1,5 +1,4 @@
 use Rattle.weights_least.proofs.Items.{single_tag, single_none}
-use borrow.Author.Rules.{rules}
 use Rattle.weights_least.proofs.is_single.Goals as goal
 
 pub returns-then-next-r : goal.returns-then-next-r

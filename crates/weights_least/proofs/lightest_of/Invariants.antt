@@ -1,12 +1,8 @@
 -- The loop's invariant: `best` is the lightest of the counters before x, and `least` is its weight.
 use Prim.Native.Nat.{◌-◌, ◌≤◌}
 use mathlib.Core.Path.{◌≡◌}
-use mathlib.Core.Logic.{inl, inr, ⊎_elim}
 use Rattle.ceilings.specs.Table.{held}
-use Rattle.ceilings.proofs.Cells.{row_in}
 use Rattle.weights_least.specs.Least.{LightestIn}
-use Rattle.weights_least.proofs.Lightest.{lightest_one, lightest_next}
-use borrow.Author.Rules.{rules}
 use Rattle.weights_least.proofs.lightest_of.Given as goal
 
 abbrev pub invariant-loop-x : goal.invariant-loop-x

@@ -1,14 +1,13 @@
-use Prim.Native.Nat.{◌+◌, ◌*◌, ◌-◌, ◌≤◌}
+use Prim.Native.Nat.{◌-◌}
 use native.Mathlib.Omega.{arith}
-use mathlib.Core.Path.{◌≡◌, refl, sym, ◌∙◌, ap}
-use lib.ListN.{length}
+use mathlib.Core.Path.{refl, sym, ◌∙◌, ap}
 use Rattle.model.specs.Rows.{program}
 use Rattle.model.specs.Tables.{tables}
 use Rattle.model.specs.Bads.{bad_rows}
 use Rattle.model.specs.Weights.{fill_those}
 use Rattle.bads_rows.specs.Items.{items_at}
 use Rattle.bads_rows.proofs.BadRows.{bad_inside}
-use Rattle.weights_least.specs.Least.{counters_of, line_of, counts_in, in_pass, AllCounted, most_put, Grown}
+use Rattle.weights_least.specs.Least.{counters_of, line_of, counts_in, in_pass}
 use Rattle.weights_least.proofs.Items.{those_over, those_in, those_out, item_counted, rest_counted}
 use borrow.Author.Rules.{rules}
 use Rattle.weights_least.proofs.put_items.Goals as goal

@@ -1,8 +1,6 @@
-use Prim.Native.Nat.{◌+◌, ◌*◌, ◌-◌, ◌≤◌}
+use Prim.Native.Nat.{◌-◌}
 use native.Mathlib.Omega.{arith}
-use mathlib.Core.Path.{◌≡◌}
 use lib.ListN.{get_or}
-use Rattle.model.specs.Index.{total}
 use Rattle.model.proofs.Index.{total_turn, total_end}
 use borrow.Author.Rules.{rules}
 use Rattle.weights_least.proofs.sum_over.Goals as goal

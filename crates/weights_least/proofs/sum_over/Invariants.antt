@@ -1,11 +1,8 @@
 -- The loop's invariant: the sum so far and that of the counts from x on are the sum of all.
 use Prim.Native.Nat.{◌+◌, ◌*◌, ◌-◌, ◌≤◌}
-use native.Mathlib.Omega.{arith}
 use mathlib.Core.Path.{◌≡◌}
 use lib.ListN.{get_or}
 use Rattle.model.specs.Index.{total}
-use Rattle.model.proofs.Index.{total_turn, total_end}
-use borrow.Author.Rules.{rules}
 use Rattle.weights_least.proofs.sum_over.Given as goal
 
 abbrev pub invariant-loop-x : goal.invariant-loop-x

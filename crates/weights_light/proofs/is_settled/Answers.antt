@@ -1,11 +1,9 @@
-use Prim.Native.Nat.{◌-◌, ◌≤◌}
-use mathlib.Core.Path.{◌≡◌, refl, sym, ◌∙◌}
+use Prim.Native.Nat.{◌-◌}
+use mathlib.Core.Path.{refl, sym, ◌∙◌}
 use mathlib.Core.Bool.{true, false}
-use lib.ListN.{length}
-use Rattle.model.specs.Index.{any}
 use Rattle.model.proofs.Index.{any_end}
 use Rattle.ceilings.proofs.Cells.{row_in}
-use Rattle.weights_light.proofs.Settled.{above_start, settled_without, settled_by, weighable, weights_room, above_hit, above_miss}
+use Rattle.weights_light.proofs.Settled.{settled_without, settled_by, weighable, weights_room, above_hit, above_miss}
 use borrow.Author.Rules.{rules}
 use Rattle.weights_light.proofs.is_settled.Goals as goal
 

@@ -1,13 +1,9 @@
 -- The loop's invariant: some line weighs the bad above the start exactly where one from line k on does.
 use Prim.Native.Nat.{◌-◌, ◌≤◌}
-use mathlib.Core.Path.{◌≡◌, refl, sym, ◌∙◌}
-use mathlib.Core.Bool.{true, false}
+use mathlib.Core.Path.{◌≡◌}
 use lib.ListN.{length}
 use Rattle.model.specs.Index.{any}
-use Rattle.model.proofs.Index.{any_end}
-use Rattle.ceilings.proofs.Cells.{row_in}
-use Rattle.weights_light.proofs.Settled.{above_start, settled_without, settled_by, weighable, weights_room, above_hit, above_miss}
-use borrow.Author.Rules.{rules}
+use Rattle.weights_light.proofs.Settled.{above_start}
 use Rattle.weights_light.proofs.is_settled.Given as goal
 
 abbrev pub invariant-loop-k : goal.invariant-loop-k

@@ -1,11 +1,6 @@
-use Prim.Native.Nat.{◌+◌, ◌-◌, ◌≤◌}
+use Prim.Native.Nat.{◌-◌}
 use native.Mathlib.Omega.{arith}
-use mathlib.Core.Path.{◌≡◌, refl, sym, ◌∙◌}
-use Rattle.model.specs.Rows.{program}
-use Rattle.model.specs.Tables.{tables}
-use Rattle.model.specs.Bads.{bad_rows}
-use Rattle.model.specs.Weights.{without_counter}
-use Rattle.bads_rows.specs.Items.{items_at}
+use mathlib.Core.Path.{refl, sym, ◌∙◌}
 use Rattle.bads_rows.proofs.BadRows.{bad_inside}
 use Rattle.bads_rows.proofs.Walking.{row_room}
 use Rattle.weights_least.proofs.Items.{without_over}

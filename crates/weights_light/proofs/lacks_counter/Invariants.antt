@@ -1,17 +1,11 @@
 -- The loop's invariant: the items from row i on lack a counter exactly where those of the bad do.
 use Prim.Native.Nat.{◌+◌, ◌-◌, ◌≤◌}
-use native.Mathlib.Omega.{arith}
-use mathlib.Core.Path.{◌≡◌, refl, sym, ◌∙◌}
+use mathlib.Core.Path.{◌≡◌}
 use Rattle.model.specs.Rows.{program}
 use Rattle.model.specs.Tables.{tables}
 use Rattle.model.specs.Bads.{bad_rows}
 use Rattle.model.specs.Weights.{without_counter}
 use Rattle.bads_rows.specs.Items.{items_at}
-use Rattle.bads_rows.proofs.BadRows.{bad_inside}
-use Rattle.bads_rows.proofs.Walking.{row_room}
-use Rattle.weights_least.proofs.Items.{without_over}
-use Rattle.weights_light.proofs.Settled.{without_here, without_next}
-use borrow.Author.Rules.{rules}
 use Rattle.weights_light.proofs.lacks_counter.Given as goal
 
 abbrev pub invariant-loop-s : goal.invariant-loop-s

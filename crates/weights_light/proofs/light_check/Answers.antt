@@ -1,13 +1,11 @@
 use mathlib.Core.Bool.{not}
 use mathlib.Core.Path.{ap}
-use Prim.Native.Nat.{◌-◌, ◌≤◌}
+use Prim.Native.Nat.{◌-◌}
 use native.Mathlib.Omega.{arith}
-use mathlib.Core.Path.{◌≡◌, refl, ◌∙◌}
-use lib.ListN.{length}
-use Rattle.model.specs.Index.{first}
+use mathlib.Core.Path.{refl, ◌∙◌}
 use Rattle.model.specs.Message.{bads_offset}
 use Rattle.model.proofs.Index.{first_hit, first_miss, first_end}
-use Rattle.bads_rows.proofs.Walking.{BadsWalked, bads_start, bads_stand, bads_next, bads_inside}
+use Rattle.bads_rows.proofs.Walking.{bads_start, bads_stand, bads_next, bads_inside}
 use Rattle.weights_light.proofs.Settled.{unsettled, unsettled_at, light_refused, light_passed}
 use borrow.Author.Rules.{rules}
 use Rattle.weights_light.proofs.light_check.Goals as goal

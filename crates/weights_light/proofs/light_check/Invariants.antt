@@ -1,14 +1,10 @@
 -- The loop's invariant: the first bad that is not settled is the first of those from bad j on, which stand from row r.
 use Prim.Native.Nat.{◌-◌, ◌≤◌}
-use native.Mathlib.Omega.{arith}
-use mathlib.Core.Path.{◌≡◌, refl, ◌∙◌}
+use mathlib.Core.Path.{◌≡◌}
 use lib.ListN.{length}
 use Rattle.model.specs.Index.{first}
-use Rattle.model.specs.Message.{bads_offset}
-use Rattle.model.proofs.Index.{first_hit, first_miss, first_end}
-use Rattle.bads_rows.proofs.Walking.{BadsWalked, bads_start, bads_stand, bads_next, bads_inside}
-use Rattle.weights_light.proofs.Settled.{unsettled, unsettled_at, light_refused, light_passed}
-use borrow.Author.Rules.{rules}
+use Rattle.bads_rows.proofs.Walking.{BadsWalked}
+use Rattle.weights_light.proofs.Settled.{unsettled}
 use Rattle.weights_light.proofs.light_check.Given as goal
 
 abbrev pub invariant-loop-j : goal.invariant-loop-j

@@ -1,17 +1,12 @@
 -- The loop's invariant: what all states give, those from i on give below the first line so far; the rules and rows of the
 -- states before i are counted.
 use Prim.Native.Nat.{◌-◌, ◌≤◌}
-use native.Mathlib.Omega.{arith}
-use mathlib.Core.Path.{◌∙◌, ap}
-use borrow.Author.Rules.{rules}
-use Rattle.model.specs.Words.{columns}
 use Rattle.model.specs.Rows.{program}
-use Rattle.model.specs.Tables.{tables, entries}
-use Rattle.steps.specs.Steps.{effect_kind_of}
-use Rattle.system_totals.proofs.Lined.{Summed, summed_none, summed_more, summed_all}
-use Rattle.system_totals.proofs.Walk.{Walk, walk_begin, walk_next, walk_room}
+use Rattle.model.specs.Tables.{tables}
+use Rattle.system_totals.proofs.Lined.{Summed}
+use Rattle.system_totals.proofs.Walk.{Walk}
 use Rattle.weights_change.specs.Changes.{weight_of}
-use Rattle.weights_rise.proofs.Rising.{SoFar, so_far_start, so_far_next, so_far_end, room, by_lines}
+use Rattle.weights_rise.proofs.Rising.{SoFar}
 use Rattle.weights_rise.proofs.raised_line.Given as goal
 
 abbrev pub invariant-loop-i : goal.invariant-loop-i

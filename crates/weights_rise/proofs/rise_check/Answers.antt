@@ -1,5 +1,4 @@
 use mathlib.Core.Path.{◌∙◌}
-use borrow.Author.Rules.{rules}
 use Rattle.weights_rise.proofs.Rising.{rise_told}
 use Rattle.weights_rise.proofs.rise_check.Goals as goal
 

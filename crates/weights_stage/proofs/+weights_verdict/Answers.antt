@@ -1,6 +1,5 @@
-use Prim.Native.Nat.{ℕ, ◌<◌, ◌-◌}
+use Prim.Native.Nat.{◌-◌}
 use native.Mathlib.Omega.{arith}
-use borrow.Author.Rules.{rules}
 use Rattle.weights_stage.proofs.+weights_verdict.Goals as goal
 
 pub all_weights-requires : goal.all_weights-requires

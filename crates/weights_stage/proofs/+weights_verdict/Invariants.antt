@@ -1,6 +1,4 @@
-use Prim.Native.Nat.{ℕ, ◌<◌, ◌-◌}
-use native.Mathlib.Omega.{arith}
-use borrow.Author.Rules.{rules}
+use Prim.Native.Nat.{◌-◌}
 use Rattle.weights_stage.proofs.+weights_verdict.Given as goal
 
 abbrev pub decreases-weights_verdict : goal.decreases-weights_verdict

@@ -1,7 +1,6 @@
 use native.Mathlib.Omega.{arith}
 use mathlib.Core.Path.{refl, sym, ap, ◌∙◌}
 use borrow.Author.Rules.{rules}
-use borrow.Author.Tests.{not-true, not-false}
 use Rattle.model.specs.Verify.{answer}
 use Rattle.model.proofs.Exact.Answer.{rise_refuses, light_refuses}
 use Rattle.answers.proofs.Passing.{passed}
@@ -25,6 +24,9 @@ unfolding below_weights
 returns-then-not-is_safe c =
     let z = ends_with _ _ _ _ _ _ _ _ refl c.rise_check-rises.ensures.verdict_value c.is_safe.ensures c.if-not-is_safe.true in record { value = z.0; lent_after = z.1 }
 
+pub slice_bounds-light_verdict-start : goal.slice_bounds-light_verdict-start
+slice_bounds-light_verdict-start c = let l = long _ _ _ _ _ _ c.requires.joined_tables in search rules
+
 pub slice_bounds-light_verdict-count : goal.slice_bounds-light_verdict-count
 slice_bounds-light_verdict-count c = omega (arith, long _ _ _ _ _ _ c.requires.joined_tables)
 
@@ -38,9 +40,6 @@ light_verdict-light-requires c =
       weights_table = (c.fill_weights.ensures.weights_table, c.requires.bounds_room.1);
     }
 
-pub shape_of-weights-then-not-is_safe-2 : goal.shape_of-weights-then-not-is_safe-2
-shape_of-weights-then-not-is_safe-2 c = c.fill_weights.auto.1.1.1.0
-
 pub returns-then-not-is_safe-2 : goal.returns-then-not-is_safe-2
 unfolding below_weights
 returns-then-not-is_safe-2 c =
@@ -49,15 +48,9 @@ returns-then-not-is_safe-2 c =
 pub space_verdict-requires : goal.space_verdict-requires
 space_verdict-requires c = record {
   joined_tables = c.requires.joined_tables;
-  rule_room = room_kept _ _ _ _ _ _ c.requires.rule_room.0 c.rise_check-rises.auto.1.1.1.1.1.1.1.1.1.1.0 c.rise_check-rises.auto.1.1.1.1.1.1.1.1.1.1.1.0;
+  rule_room = room_kept _ _ _ _ _ _ c.requires.rule_room.0 c.rise_check-rises.auto.tos c.rise_check-rises.auto.others;
   totalled = c.rise_check-rises.ensures.totalled;
 }
-
-pub shape_of-weights : goal.shape_of-weights
-shape_of-weights c = c.fill_weights.auto.1.1.1.0
-
-pub shape_of-starts : goal.shape_of-starts
-shape_of-starts c = c.fill_weights.auto.1.1.1.1.0
 
 pub returns : goal.returns
 unfolding below_weights
