@@ -1,6 +1,6 @@
 // What is told of a message, as text.
 ghost use Rattle.std.specs.Prelude.{◌≡◌, ◌≤◌, length, replicate};
-ghost use Rattle.io.specs.Counts.{IsPrefixLen};
+ghost use Rattle.input.specs.Counts.{IsPrefixLen};
 ghost use Rattle.text.specs.Text.{put_at};
 ghost use Rattle.verify.specs.Told.{lent_words, most_read, most_text, told};
 
