@@ -12,7 +12,7 @@ ghost use Rattle.model.specs.Tables.{tables};
 ghost use Rattle.lists.specs.Ready.{Ready};
 ghost use Rattle.layout.specs.Tables.{Ends};
 ghost use Rattle.ceilings_masks.specs.Compared.{takes_more};
-ghost use Rattle.ceilings_letters.specs.Letters.{Under, LettersRoom, is-held, HeldSet, OneMore};
+ghost use Rattle.ceilings_letters.specs.Letters.{Under, LettersRoom, is_held_of, HeldSet, OneMore};
 ghost use Rattle.ceilings_letters.specs.Letters.{OpenSet, Narrowed};
 
 use ceilings::limit;
@@ -67,7 +67,7 @@ fn one_more_by(
 ) -> Mask
     requires one_more { OneMore limits.now ceilings n k holders.now near.now }
     requires x_lt_n { (x < n) × (n ≤ max_counters) }
-    requires is_held_value { is_held ≡ is-held limits.now ceilings k x }
+    requires is_held_value { is_held ≡ is_held_of limits.now ceilings k x }
     ensures { (j : ℕ) → j < 256 → has result j ≡ takes_more limits.now ceilings k x j }
 {
     if is_held {

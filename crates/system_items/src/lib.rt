@@ -9,7 +9,7 @@ ghost use Rattle.model.specs.Bads.{bad_rows};
 ghost use Rattle.model.specs.Counters.{letter_count_of};
 ghost use Rattle.lists.specs.Lists.{head_from, head_to};
 ghost use Rattle.lists.specs.Ready.{Ready};
-ghost use Rattle.system_letters.specs.Letters.{letter-at, letters_before, digits};
+ghost use Rattle.system_letters.specs.Letters.{letter_at_of, letters_before, digits};
 ghost use Rattle.bads_rows.specs.Items.{subject_from, Range, ItemsCounted};
 ghost use Rattle.system_items.specs.Stretches.{LettersFilled, SetsFilled, ItemsRoom};
 ghost use Rattle.system_items.specs.Stretches.{is_named_of, names_letters_of, Stretched};
@@ -44,7 +44,7 @@ fn head_counters(ws: &[u16], s: Sizes, c: usize, r: usize) -> Stretch
 fn is_digit(ws: &[u16], s: Sizes, letters: &[u64], w: usize, i: usize, r: usize, y: usize) -> bool
     requires sets_filled { SetsFilled ws.now s letters.now w }
     requires i_lt_digits { (i < digits) × (y < letter_count_of (program ws.now s) (tables ws.now s)) }
-    ensures { result ≡ eqb (get_or (letter-at (program ws.now s) (tables ws.now s) y) i 0)
+    ensures { result ≡ eqb (get_or (letter_at_of (program ws.now s) (tables ws.now s) y) i 0)
         (right (bad_rows ws.now s) r) }
 {
     let heads = s.constructors + OTHER_HEADS;

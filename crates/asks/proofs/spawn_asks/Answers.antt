@@ -1,3 +1,5 @@
+use mathlib.Core.Bool.{not}
+use mathlib.Core.Path.{ap}
 use borrow.Author.Rules.{rules}
 use mathlib.Core.Path.{refl, sym, ◌∙◌}
 use mathlib.Core.Bool.{true, false}
@@ -15,7 +17,7 @@ pub takes-requires : goal.takes-requires
 takes-requires c = c.requires.flow_ready.ready.whole
 
 pub returns-then-not-takes : goal.returns-then-not-takes
-returns-then-not-takes c = spawn_none _ _ _ _ _ c.takes.ensures c.if-not-takes.true
+returns-then-not-takes c = spawn_none _ _ _ _ _ c.takes.ensures (ap not c.if-not-takes.true)
 
 pub num-name-requires : goal.num-name-requires
 num-name-requires c = c.requires.flow_ready.ready.whole
@@ -28,15 +30,15 @@ holds-requires c = record {
     }
 
 pub returns-then-not-holds : goal.returns-then-not-holds
-returns-then-not-holds c = spawn_lacks _ _ _ _ _ c.takes.ensures c.if-not-takes.false _ c.num-name.ensures _ (held _ _ c.requires.flow_ready.names _ _ _ _ c.width-w.ensures (spawn_below c.requires.flow_ready.ready _ _ c.requires.r_value c.num-name.ensures) (row_below c.requires.flow_ready.ready c.args.r (omega (arith, c.requires.r_value))).0 c.holds.ensures) c.if-not-holds.true
+returns-then-not-holds c = spawn_lacks _ _ _ _ _ c.takes.ensures (ap not c.if-not-takes.false) _ c.num-name.ensures _ (held _ _ c.requires.flow_ready.names _ _ _ _ c.width-w.ensures (spawn_below c.requires.flow_ready.ready _ _ c.requires.r_value c.num-name.ensures) (row_below c.requires.flow_ready.ready c.args.r (omega (arith, c.requires.r_value))).0 c.holds.ensures) (ap not c.if-not-holds.true)
 
 pub body-first-requires : goal.body-first-requires
-body-first-requires c = record { ready = c.requires.flow_ready.ready; f_value = takes_function _ _ _ _ c.takes.ensures c.if-not-takes.false }
+body-first-requires c = record { ready = c.requires.flow_ready.ready; f_value = takes_function _ _ _ _ c.takes.ensures (ap not c.if-not-takes.false) }
 
 pub returns-then-state_index-s : goal.returns-then-state_index-s
 unfolding program tables entries columns
-returns-then-state_index-s c = spawn_told _ _ _ _ _ c.takes.ensures c.if-not-takes.false _ c.num-name.ensures _ (held _ _ c.requires.flow_ready.names _ _ _ _ c.width-w.ensures (spawn_below c.requires.flow_ready.ready _ _ c.requires.r_value c.num-name.ensures) (row_below c.requires.flow_ready.ready c.args.r (omega (arith, c.requires.r_value))).0 c.holds.ensures) c.if-not-holds.false _ _ _ c.body-first.ensures refl c.state_index.ensures _ _ (sym (lt-ltb _ _ c.if-state_index-s.true)) (there_yes true refl)
+returns-then-state_index-s c = spawn_told _ _ _ _ _ c.takes.ensures (ap not c.if-not-takes.false) _ c.num-name.ensures _ (held _ _ c.requires.flow_ready.names _ _ _ _ c.width-w.ensures (spawn_below c.requires.flow_ready.ready _ _ c.requires.r_value c.num-name.ensures) (row_below c.requires.flow_ready.ready c.args.r (omega (arith, c.requires.r_value))).0 c.holds.ensures) (ap not c.if-not-holds.false) _ _ _ c.body-first.ensures refl c.state_index.ensures _ _ (sym (lt-ltb _ _ c.if-state_index-s.true)) (there_yes true refl)
 
 pub returns-else-state_index-s : goal.returns-else-state_index-s
 unfolding program tables entries columns
-returns-else-state_index-s c = spawn_told _ _ _ _ _ c.takes.ensures c.if-not-takes.false _ c.num-name.ensures _ (held _ _ c.requires.flow_ready.names _ _ _ _ c.width-w.ensures (spawn_below c.requires.flow_ready.ready _ _ c.requires.r_value c.num-name.ensures) (row_below c.requires.flow_ready.ready c.args.r (omega (arith, c.requires.r_value))).0 c.holds.ensures) c.if-not-holds.false _ _ _ c.body-first.ensures refl c.state_index.ensures _ _ (sym (le-ltb _ _ c.if-state_index-s.false)) (there_no false refl)
+returns-else-state_index-s c = spawn_told _ _ _ _ _ c.takes.ensures (ap not c.if-not-takes.false) _ c.num-name.ensures _ (held _ _ c.requires.flow_ready.names _ _ _ _ c.width-w.ensures (spawn_below c.requires.flow_ready.ready _ _ c.requires.r_value c.num-name.ensures) (row_below c.requires.flow_ready.ready c.args.r (omega (arith, c.requires.r_value))).0 c.holds.ensures) (ap not c.if-not-holds.false) _ _ _ c.body-first.ensures refl c.state_index.ensures _ _ (sym (le-ltb _ _ c.if-state_index-s.false)) (there_no false refl)

@@ -5,7 +5,7 @@ use borrow.Author.Rules.{rules}
 use Rattle.bads.proofs.is_done.Goals as goal
 
 pub returns-in-Bads : goal.returns-in-Bads
-returns-in-Bads c = let e = c.expected-1.given in done_bads _ e.0.0 e.1
+returns-in-Bads c = done_bads _ c.in-Bads.k c.in-Bads.is
 
 pub returns-in-Subject : goal.returns-in-Subject
 unfolding stack

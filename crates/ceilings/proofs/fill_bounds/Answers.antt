@@ -47,7 +47,7 @@ loop-k-preserved c =
     (
       rw c.fill_ceiling-e.ensures.value (filled_next _ _ _ _ _ _ _ _ below (omega (arith, below, h.invariant.3, c.requires.bounds_room.firsts)) h.invariant.0 c.fill_ceiling-e.ensures.ceiling_filled),
       omega (arith, below),
-      c.fill_ceiling-e.auto.1.1.1.1.1.1.0 ∙ h.invariant.2,
+      c.fill_ceiling-e.auto.limits ∙ h.invariant.2,
       length-set h.starts h.k h.e ∙ h.invariant.3,
     )
 

@@ -13,8 +13,7 @@ use Rattle.ceilings.proofs.fill_ceiling.Goals as goal
 cell_row : (c : goal.Else-x-n) → Row c.loop-part.limits c.args.count c.entry_counter-x.result
 cell_row c =
     let below = filling_counter _ _ _ _ _ _ _ _ c.loop-part.invariant (λ z. c.if-x-n.false (c.entry_counter-x.ensures ∙ z)) in
-    let p = (c.requires.part_held, (c.requires.ceiling_room)) in
-    row_in _ c.args.n _ _ (omega (arith, below, c.entry_counter-x.ensures)) (omega (arith, p.1.cells, c.loop-part.invariant.long))
+    row_in _ c.args.n _ _ (omega (arith, below, c.entry_counter-x.ensures)) (omega (arith, c.requires.ceiling_room.cells, c.loop-part.invariant.long))
 
 pub loop-part-init : goal.loop-part-init
 loop-part-init c = filling_start _ _ _ _ _ _ c.requires.part_held.1 c.requires.ceiling_room.unfilled

@@ -8,8 +8,10 @@ ceilings_part-requires c = c.requires.whole.0.limits
 
 pub fill_bounds-requires : goal.fill_bounds-requires
 fill_bounds-requires c =
-    let z = rw (c.ceilings_part.ensures, part_of) ((part_in _ _ c.requires.whole.0, c.requires.whole.1), c.requires.bounds_room) in record { part_held = z.0; bounds_room = z.1 }
+    record { part_held = rw (c.ceilings_part.ensures, part_of) (part_in _ _ c.requires.whole.0, c.requires.whole.1); bounds_room = c.requires.bounds_room }
 
 pub returns : goal.returns
 returns c =
-    let (table, begun) = rw (c.ceilings_part.ensures, part_of) at (c.fill_bounds.ensures.bounds_table, c.fill_bounds.ensures.starts_table) in record { limits_table = limits_table _ _ _ _ table; starts_table = begun }
+    let table = rw (c.ceilings_part.ensures, part_of) at c.fill_bounds.ensures.bounds_table in
+    let begun = rw (c.ceilings_part.ensures, part_of) at c.fill_bounds.ensures.starts_table in
+    record { limits_table = limits_table _ _ _ _ table; starts_table = begun }

@@ -11,7 +11,7 @@ returns-then-kind-lt2 c =
     let to = c.open_at.result in
     record {
         by_index = λ k t. and_left (has all k) (has to k) (sym (c.and-at_to.ensures k) ∙ t);
-        by_index_2 = (λ k h t. (c.open_at.ensures k h (and_right (has all k) (has to k) (sym (c.and-at_to.ensures k) ∙ t)), λ two. absurd (omega (arith, two, c.if-kind-lt2.true))), );
+        by_index_2 = λ k h t. (c.open_at.ensures k h (and_right (has all k) (has to k) (sym (c.and-at_to.ensures k) ∙ t)), λ two. absurd (omega (arith, two, c.if-kind-lt2.true)));
     }
 
 pub returns-then-to-other : goal.returns-then-to-other
@@ -25,8 +25,8 @@ returns c =
     let other = c.open_at-2.result in
     record {
         by_index = λ k t. and_left (has all k) (has to k) (sym (c.and-at_to.ensures k) ∙ and_left (has first k) (has other k) (sym (c.and.ensures k) ∙ t));
-        by_index_2 = (λ k h t. (
+        by_index_2 = λ k h t. (
         c.open_at.ensures k h (and_right (has all k) (has to k) (sym (c.and-at_to.ensures k) ∙ and_left (has first k) (has other k) (sym (c.and.ensures k) ∙ t))),
         λ two. (c.open_at-2.ensures k h (and_right (has first k) (has other k) (sym (c.and.ensures k) ∙ t)), c.if-to-other.false),
-      ), );
+      );
     }

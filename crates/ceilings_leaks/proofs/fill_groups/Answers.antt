@@ -60,11 +60,6 @@ slice_bounds-put_group-count c =
     let begins-here : (c.loop-i.auto.used ≤ length c.loop-i.tos) × (c.loop-i.auto.used ≤ length c.loop-i.others) = let h = c.loop-i.invariant in
     starts_low _ _ _ c.loop-i.tos c.loop-i.others (room_later _ _ _ _ _ c.requires.room_from.0 _ _ _ h.6 h.2.tos_long h.2.others_long) in omega (arith, begins-here.0, c.rules_from-m.auto.1.1.1.1.1.1.1.1.1.0)
 
-pub slice-bounds-put-group-start : goal.slice-bounds-put-group-start
-slice-bounds-put-group-start c =
-    let begins-here : (c.loop-i.auto.used ≤ length c.loop-i.tos) × (c.loop-i.auto.used ≤ length c.loop-i.others) = let h = c.loop-i.invariant in
-    starts_low _ _ _ c.loop-i.tos c.loop-i.others (room_later _ _ _ _ _ c.requires.room_from.0 _ _ _ h.6 h.2.tos_long h.2.others_long) in omega (arith, begins-here.0, c.rules_from-m.auto.1.1.1.1.1.1.1.1.1.0)
-
 pub offset_bounds-others-used : goal.offset_bounds-others-used
 offset_bounds-others-used c =
     let begins-here : (c.loop-i.auto.used ≤ length c.loop-i.tos) × (c.loop-i.auto.used ≤ length c.loop-i.others) = let h = c.loop-i.invariant in
@@ -72,11 +67,6 @@ offset_bounds-others-used c =
 
 pub slice_bounds-put_group-count-in-loop-i : goal.slice_bounds-put_group-count-in-loop-i
 slice_bounds-put_group-count-in-loop-i c =
-    let begins-here : (c.loop-i.auto.used ≤ length c.loop-i.tos) × (c.loop-i.auto.used ≤ length c.loop-i.others) = let h = c.loop-i.invariant in
-    starts_low _ _ _ c.loop-i.tos c.loop-i.others (room_later _ _ _ _ _ c.requires.room_from.0 _ _ _ h.6 h.2.tos_long h.2.others_long) in omega (arith, begins-here.1, c.rules_from-m.auto.1.1.1.1.1.1.1.1.1.1.0)
-
-pub slice-bounds-put-group-start-2 : goal.slice-bounds-put-group-start-2
-slice-bounds-put-group-start-2 c =
     let begins-here : (c.loop-i.auto.used ≤ length c.loop-i.tos) × (c.loop-i.auto.used ≤ length c.loop-i.others) = let h = c.loop-i.invariant in
     starts_low _ _ _ c.loop-i.tos c.loop-i.others (room_later _ _ _ _ _ c.requires.room_from.0 _ _ _ h.6 h.2.tos_long h.2.others_long) in omega (arith, begins-here.1, c.rules_from-m.auto.1.1.1.1.1.1.1.1.1.1.0)
 

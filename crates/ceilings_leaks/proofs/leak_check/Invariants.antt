@@ -45,21 +45,21 @@ decreases-candidates l = 256 - l.a
 
 abbrev pub invariant-rules : goal.invariant-rules
 invariant-rules l =
-    (leaks l.ws l.s l.n l.limits l.k ≡ (any l.j l.m (λ x. by_step l.ws l.s l.n l.limits l.k (step_at l.ws l.s l.n l.limits l.i l.kind l.tos l.others x)) || any (l.i + 1) l.s.states (by_state l.ws l.s l.n l.limits l.k))) × (l.j ≤ l.m) × (l.initial.j ≤ l.j) × RulesSeen (program l.ws l.s) (tables l.ws l.s) l.limits l.s.ceilings l.n l.k l.i l.tos l.others l.initial.j l.m
+    (leaks l.ws l.s l.n l.limits l.k ≡ (any l.j l.end (λ x. by_step l.ws l.s l.n l.limits l.k (step_at l.ws l.s l.n l.limits l.i l.kind l.tos l.others x)) || any (l.i + 1) l.s.states (by_state l.ws l.s l.n l.limits l.k))) × (l.j ≤ l.end) × (l.initial.j ≤ l.j) × RulesSeen (program l.ws l.s) (tables l.ws l.s) l.limits l.s.ceilings l.n l.k l.i l.tos l.others l.initial.j l.end
 
 abbrev pub decreases-rules : goal.decreases-rules
-decreases-rules l = l.m - l.j
+decreases-rules l = l.end - l.j
 
 abbrev pub invariant-states : goal.invariant-states
 invariant-states l =
-    (l.k ≡ l.initial.k) × Walk l.ws l.s l.n l.limits l.k (ceiling_end l.n (ceiling_entries l.ws l.s) l.first) l.e × (length l.tos ≡ length l.initial.tos) × (length l.others ≡ length l.initial.others) × KeptRules (program l.ws l.s) (tables l.ws l.s) l.s.states l.kept l.first-at l.tos l.others
+    (l.k ≡ l.initial.k) × Walk l.ws l.s l.n l.limits l.k (ceiling_end l.n (ceiling_entries l.ws l.s) l.first) l.e × (length l.tos ≡ length l.initial.tos) × (length l.others ≡ length l.initial.others) × KeptRules (program l.ws l.s) (tables l.ws l.s) l.s.states l.kept l.first_at l.tos l.others
 
 abbrev pub decreases-states : goal.decreases-states
 decreases-states l = l.s.entries - l.e
 
 abbrev pub invariant-ceilings : goal.invariant-ceilings
 invariant-ceilings l =
-    (Rattle.model.specs.Index.first 0 l.s.ceilings (leaks l.ws l.s l.n l.limits) ≡ Rattle.model.specs.Index.first l.k l.s.ceilings (leaks l.ws l.s l.n l.limits)) × (l.k ≤ l.s.ceilings) × (length l.tos ≡ length l.initial.tos) × (length l.others ≡ length l.initial.others) × (length l.near ≡ length l.initial.near) × KeptRules (program l.ws l.s) (tables l.ws l.s) l.s.states l.kept l.first-at l.tos l.others × (length l.within ≡ 17)
+    (Rattle.model.specs.Index.first 0 l.s.ceilings (leaks l.ws l.s l.n l.limits) ≡ Rattle.model.specs.Index.first l.k l.s.ceilings (leaks l.ws l.s l.n l.limits)) × (l.k ≤ l.s.ceilings) × (length l.tos ≡ length l.initial.tos) × (length l.others ≡ length l.initial.others) × (length l.near ≡ length l.initial.near) × KeptRules (program l.ws l.s) (tables l.ws l.s) l.s.states l.kept l.first_at l.tos l.others × (length l.within ≡ 17)
 
 abbrev pub decreases-ceilings : goal.decreases-ceilings
 decreases-ceilings l = l.s.ceilings - l.k

@@ -1,3 +1,4 @@
+use mathlib.Core.Bool.{not}
 use native.Mathlib.Omega.{arith}
 use mathlib.Core.Path.{◌≡◌, sym, ◌∙◌, ap}
 use borrow.Author.Tests.{not-false}
@@ -11,7 +12,7 @@ use Rattle.ceilings_letters.proofs.Sending.{more_tables, none_narrowed, held_nar
 use Rattle.ceilings_letters.proofs.asked_letters.Goals as goal
 
 pub returns-then-not-wanted : goal.returns-then-not-wanted
-returns-then-not-wanted c = none_narrowed _ _ _ _ _ c.args.words _ _ _ c.if-not-wanted.true
+returns-then-not-wanted c = none_narrowed _ _ _ _ _ c.args.words _ _ _ (ap not c.if-not-wanted.true)
 
 pub copy_into-requires : goal.copy_into-requires
 copy_into-requires c = (c.requires.letters_room.row, c.requires.under.row)

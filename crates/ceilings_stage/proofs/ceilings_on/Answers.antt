@@ -31,16 +31,13 @@ returns-then-not-is_safe c =
 pub slice_bounds-met_verdict-count : goal.slice_bounds-met_verdict-count
 slice_bounds-met_verdict-count c = omega (arith, long _ _ _ _ _ _ c.requires.joined_tables)
 
-pub slice-bounds-met-verdict-start : goal.slice-bounds-met-verdict-start
-slice-bounds-met-verdict-start c = omega (arith, long _ _ _ _ _ _ c.requires.joined_tables)
-
 pub met_verdict-met-requires : goal.met_verdict-met-requires
 met_verdict-met-requires c =
     let t = c.requires.joined_tables in
     record {
         letters_filled = (record { ready = t.ready; class_letters = lent_letters _ _ _ _ _ _ t; letter_sets_of = t.letter_sets_of }, c.requires.numbered.bads);
-        counted = ((record { counters = c.requires.numbered.counted; few = omega (arith, c.requires.numbered.counted, t.few) }, c.fill_limits.ensures.limits_table), c.requires.bounds_room.1);
-        n_in_bounds = ;
+        counted = (record { counters = c.requires.numbered.counted; few = omega (arith, c.requires.numbered.counted, t.few) }, c.fill_limits.ensures.limits_table);
+        n_in_bounds = c.requires.bounds_room.1;
     }
 
 pub returns-then-not-is_safe-2 : goal.returns-then-not-is_safe-2

@@ -10,7 +10,7 @@ use Rattle.model.proofs.Index.{any_end, any_hit, any_miss}
 use Rattle.class_rules.proofs.asks_class.Goals as goal
 
 pub returns-then-not-narrow : goal.returns-then-not-narrow
-returns-then-not-narrow c = rw c.if-not-narrow.true
+returns-then-not-narrow c = rw (ap not c.if-not-narrow.true)
 
 pub word-from-requires : goal.word-from-requires
 word-from-requires c = omega (arith, c.requires.d_in_bounds)
@@ -28,10 +28,10 @@ pub holds-requires : goal.holds-requires
 holds-requires c = record { v_bound = omega (arith, c.loop-y-test.true, c.word-to.ensures.0, c.requires.d_bound); row = c.requires.row }
 
 pub returns-then-holds : goal.returns-then-holds
-returns-then-holds c = rw (c.if-not-narrow.false, ← c.word-from.ensures.0, ← c.word-to.ensures.0) (sym (c.loop-y.invariant.0 ∙ any_hit _ _ _ c.loop-y-test.true (sym c.holds.ensures ∙ c.if-holds.true)))
+returns-then-holds c = rw ((ap not c.if-not-narrow.false), ← c.word-from.ensures.0, ← c.word-to.ensures.0) (sym (c.loop-y.invariant.0 ∙ any_hit _ _ _ c.loop-y-test.true (sym c.holds.ensures ∙ c.if-holds.true)))
 
 pub loop-y-preserved : goal.loop-y-preserved
 loop-y-preserved c = (c.loop-y.invariant.0 ∙ any_miss _ _ _ c.loop-y-test.true (sym c.holds.ensures ∙ c.if-holds.false), omega (arith, c.loop-y.invariant.1))
 
 pub returns : goal.returns
-returns c = rw (c.if-not-narrow.false, ← c.word-from.ensures.0, ← c.word-to.ensures.0) (sym (c.loop-y.invariant.0 ∙ any_end _ _ _ (omega (arith, c.loop-y-test.false))))
+returns c = rw ((ap not c.if-not-narrow.false), ← c.word-from.ensures.0, ← c.word-to.ensures.0) (sym (c.loop-y.invariant.0 ∙ any_end _ _ _ (omega (arith, c.loop-y-test.false))))

@@ -1,3 +1,5 @@
+use mathlib.Core.Bool.{not}
+use mathlib.Core.Path.{ap}
 use Prim.Native.Nat.{◌+◌, ◌-◌, ◌≤◌}
 use native.Mathlib.Omega.{arith}
 use mathlib.Core.Path.{◌≡◌}
@@ -31,7 +33,7 @@ pub overflow_step-y : goal.overflow_step-y
 overflow_step-y c = record { fits = omega (arith, c.requires.counters, c.word-to.ensures.0, c.loop-y-test.true) }
 
 pub loop-y-preserved-then-not-holds : goal.loop-y-preserved-then-not-holds
-loop-y-preserved-then-not-holds c = (λ k. added_kept k _ _ _ _ _ _ _ _ _ (c.loop-y.invariant.0 k) c.loop-y.invariant.1 (λ i. letter_skipped _ (member c.args.found.now c.args.words 0) _ _ i _ _ c.holds.ensures c.if-not-holds.true), search rules, search rules, search rules)
+loop-y-preserved-then-not-holds c = (λ k. added_kept k _ _ _ _ _ _ _ _ _ (c.loop-y.invariant.0 k) c.loop-y.invariant.1 (λ i. letter_skipped _ (member c.args.found.now c.args.words 0) _ _ i _ _ c.holds.ensures (ap not c.if-not-holds.true)), search rules, search rules, search rules)
 
 pub overflow_add-x : goal.overflow_add-x
 overflow_add-x c =
@@ -67,7 +69,7 @@ overflow_step-y-in-loop-y c =
 
 pub loop-y-preserved : goal.loop-y-preserved
 loop-y-preserved c =
-    let here-here : PutRoom c.args.s.states c.loop-y.y c.loop-y.e c.loop-y.tos c.loop-y.others = put_room c.requires _ _ _ _ _ _ c.word-from.ensures.0 c.word-to.ensures.0 c.loop-y.invariant.1 c.loop-y-test.true c.loop-y.invariant.3 (c.loop-y.invariant.0 send).tos_long (c.loop-y.invariant.0 send).others_long in (λ k. added_one k _ _ _ _ _ _ _ _ _ (c.loop-y.invariant.0 k) c.loop-y.invariant.1 _ _ here-here.tos_room here-here.others_room (λ i. letter_kept _ (member c.args.found.now c.args.words 0) _ _ i _ _ _ c.holds.ensures c.if-not-holds.false (search rules)), search rules, search rules, search rules)
+    let here-here : PutRoom c.args.s.states c.loop-y.y c.loop-y.e c.loop-y.tos c.loop-y.others = put_room c.requires _ _ _ _ _ _ c.word-from.ensures.0 c.word-to.ensures.0 c.loop-y.invariant.1 c.loop-y-test.true c.loop-y.invariant.3 (c.loop-y.invariant.0 send).tos_long (c.loop-y.invariant.0 send).others_long in (λ k. added_one k _ _ _ _ _ _ _ _ _ (c.loop-y.invariant.0 k) c.loop-y.invariant.1 _ _ here-here.tos_room here-here.others_room (λ i. letter_kept _ (member c.args.found.now c.args.words 0) _ _ i _ _ _ c.holds.ensures (ap not c.if-not-holds.false) (search rules)), search rules, search rules, search rules)
 
 pub shape_of-tos : goal.shape_of-tos
 shape_of-tos c = (c.loop-y.invariant.0 send).tos_long

@@ -11,9 +11,6 @@ use Rattle.program.proofs.Items.{give_says, bound_says, case_says, lead_of, lead
 use Rattle.program.proofs.Reading.{past_answer, wrong_answer, came_past, came_wrong, items_by, branches_past, branches_no_pattern, branches_no_body, branches_none, from_none, past_upto, past_behind, takes_row, last_row, refuses_row, then_past, then_wrong, yes_fits, no_fits}
 use Rattle.grammar.proofs.+body_form_branches_case_branches_expression_lead.Goals as goal
 
-abbrev branches_at : ℕ → In 1 branches-kinds.ps
-branches_at t = and 1 branches-kinds.ps (is 1 branches-kinds.ps μ-branches t) branches-reads.Pre
-
 pub body_form-counted-requires : goal.body_form-counted-requires
 unfolding listed
 body_form-counted-requires t c = record { whole = search rules; r_le_rows = (search rules, refl) }
@@ -62,13 +59,12 @@ branches-loop-left-preserved t c =
     let l = c.loop-left in
     let b = c.expression in
     let x = c.pattern in
-    let m = c.e-1.given in
-    let w = past_behind _ _ (pattern max_depth) [] _ l.q _ (search rules) x.ensures m.1 in
+    let w = past_behind _ _ (pattern max_depth) [] _ l.q _ (search rules) x.ensures c.in-Past.is in
     let v = past_upto _ _ (expression ∷ []) _ _ _ w.1 b.ensures c.in-Past-expression.is in (
       omega arith,
       v.1,
       l.invariant.2 ∙
-          branches_past _ l.left l.q _ _ (search rules) (came_past _ _ x.ensures m.1) (came_past _ _ b.ensures c.in-Past-expression.is),
+          branches_past _ l.left l.q _ _ (search rules) (came_past _ _ x.ensures c.in-Past.is) (came_past _ _ b.ensures c.in-Past-expression.is),
     )
 
 pub branches-returns : goal.branches-returns
@@ -78,7 +74,7 @@ pub case_branches-returns-then-tag-ne-TAG_BRANCHES : goal.case_branches-returns-
 case_branches-returns-then-tag-ne-TAG_BRANCHES t c = refuses_row _ _ branches _ _ _ c.tag.ensures c.num-n.ensures (branches_other _ _ _ _ c.if-tag-ne-TAG_BRANCHES.true)
 
 -- the count fits, and the branches follow
-case-entered : (t : ℕ) (c : goal.Then-is_branch_count) → let a = c.args in let p = program a.ws.now a.s in (a.r < a.s.rows) × (from p (branches ∷ []) a.r ≡ from p (branch_items c.num-n.result) (a.r + 1))
+case-entered : (t : ℕ) (c : goal.case_branches-Then-is_branch_count t) → let a = c.args in let p = program a.ws.now a.s in (a.r < a.s.rows) × (from p (branches ∷ []) a.r ≡ from p (branch_items c.num-n.result) (a.r + 1))
 case-entered t c =
     takes_row _ _ branches _ _ _ _ c.tag.ensures c.num-n.ensures
     (branches_25 _ _ _ _ c.if-tag-ne-TAG_BRANCHES.false ∙ yes_fits _ (sym c.is_branch_count.ensures ∙ c.if-is_branch_count.true))
@@ -97,16 +93,19 @@ case_branches-returns-else-is_branch_count t c =
     (branches_25 _ _ _ _ c.if-tag-ne-TAG_BRANCHES.false ∙ no_fits _ (sym c.is_branch_count.ensures ∙ c.if-is_branch_count.false))
 
 -- what follows the head of a case, of a receive, and of an expression that binds a name
-case-follows : (t : ℕ) (c : goal.Then-n-s-2) → let a = c.args in let p = program a.ws.now a.s in (a.r < a.s.rows) × (from p (expression ∷ []) a.r ≡ from p (branches ∷ []) (a.r + 1))
+case-follows : (t : ℕ) (c : goal.expression-Then-n-s-2 t) → let a = c.args in let p = program a.ws.now a.s in (a.r < a.s.rows) × (from p (expression ∷ []) a.r ≡ from p (branches ∷ []) (a.r + 1))
 case-follows t c =
-    takes_row _ _ expression _ _ _ _ c.tag.ensures c.num-n.ensures (case_says _ _ _ _ c.in-1.keys2 ∙ yes_fits _ (lt-ltb _ _ c.if-n-s-2.true))
+    takes_row _ _ expression _ _ _ _ c.tag.ensures c.num-n.ensures (case_says _ _ _ _ c.in-8.is ∙ yes_fits _ (lt-ltb _ _ c.if-n-s-2.true))
 
-receive-follows : (t : ℕ) (c : goal.Then-is_branch_count) → let a = c.args in let p = program a.ws.now a.s in (a.r < a.s.rows) × (from p (expression ∷ []) a.r ≡ from p (branch_items c.num-n.result) (a.r + 1))
+receive-follows : (t : ℕ) (c : goal.expression-Then-is_branch_count t) → let a = c.args in let p = program a.ws.now a.s in (a.r < a.s.rows) × (from p (expression ∷ []) a.r ≡ from p (branch_items c.num-n.result) (a.r + 1))
 receive-follows t c =
     takes_row _ _ expression _ _ _ _ c.tag.ensures c.num-n.ensures
-    (receive_says _ _ _ _ c.in-1.keys3 ∙ yes_fits _ (sym c.is_branch_count.ensures ∙ c.if-is_branch_count.true))
+    (receive_says _ _ _ _ c.in-9.is ∙ yes_fits _ (sym c.is_branch_count.ensures ∙ c.if-is_branch_count.true))
 
-lead-follows : (t : ℕ) (c : goal.Else-n-s-3) → let a = c.args in let p = program a.ws.now a.s in (a.r < a.s.rows) × (from p (expression ∷ []) a.r ≡ from p (lead (kind (tag p a.r)) ++ expression ∷ []) (a.r + 1))
+lead-follows : (t : ℕ) (c : goal.expression-Else-n-s-3 t) → let a = c.args in let p = program a.ws.now a.s in (a.r < a.s.rows) × (from p (expression ∷ []) a.r ≡ from p (lead (kind (tag p a.r)) ++ expression ∷ []) (a.r + 1))
+lead-follows t c =
+    let e = c.tag.ensures in
+    takes_row _ _ expression _ _ _ _ refl c.num-n.ensures (bound_says _ _ _ _ (omega (arith, e, c.in-2-to-7.if-this-lt1-own.false)) (omega (arith, e, c.in-2-to-7.if-this-lt8-own.true)) ∙ yes_fits _ (lt-ltb _ _ c.if-n-s-3.false))
 
 pub expression-case_branches-requires : goal.expression-case_branches-requires
 expression-case_branches-requires t c = let w = case-follows t c in (omega (arith, w.0, c.requires.whole), (c.requires.whole, omega (arith, w.0)))
@@ -122,7 +121,9 @@ expression-lead-requires t c = let w = lead-follows t c in (omega (arith, w.0, c
 
 pub expression-expression-requires : goal.expression-expression-requires
 expression-expression-requires t c =
-    let w = lead-follows t c.before.before.before.before in
+    let lead-follows-here : let a = c.args in let p = program a.ws.now a.s in (a.r < a.s.rows) × (from p (expression ∷ []) a.r ≡ from p (lead (kind (tag p a.r)) ++ expression ∷ []) (a.r + 1)) = let e = c.tag.ensures in
+    takes_row _ _ expression _ _ _ _ refl c.num-n.ensures (bound_says _ _ _ _ (omega (arith, e, c.in-2-to-7.if-this-lt1-own.false)) (omega (arith, e, c.in-2-to-7.if-this-lt8-own.true)) ∙ yes_fits _ (lt-ltb _ _ c.if-n-s-3.false)) in
+    let w = lead-follows-here in
     let a = c.args in
     let v = past_upto a.ws.now a.s (lead _) _ (a.r + 1) _ (omega (arith, w.0)) c.lead.ensures c.in-Past.is in
     (omega arith, (search rules, v.1))
@@ -150,12 +151,16 @@ expression-returns-else-is_branch_count t c = refuses_row _ _ expression _ _ _ c
 
 pub expression-returns-in-Past : goal.expression-returns-in-Past
 expression-returns-in-Past t c =
+    let lead-follows-here : let a = c.args in let p = program a.ws.now a.s in (a.r < a.s.rows) × (from p (expression ∷ []) a.r ≡ from p (lead (kind (tag p a.r)) ++ expression ∷ []) (a.r + 1)) = let e = c.tag.ensures in
+    takes_row _ _ expression _ _ _ _ refl c.num-n.ensures (bound_says _ _ _ _ (omega (arith, e, c.in-2-to-7.if-this-lt1-own.false)) (omega (arith, e, c.in-2-to-7.if-this-lt8-own.true)) ∙ yes_fits _ (lt-ltb _ _ c.if-n-s-3.false)) in
     c.expression.ensures ∙
-    sym ((lead-follows t c.before.before.before.before.before).1 ∙ then_past _ (lead _) (expression ∷ []) _ _ _ c.lead.ensures c.in-Past.is)
+    sym (lead-follows-here.1 ∙ then_past _ (lead _) (expression ∷ []) _ _ _ c.lead.ensures c.in-Past.is)
 
 pub expression-returns-in-Wrong : goal.expression-returns-in-Wrong
 expression-returns-in-Wrong t c =
-    then_wrong _ (lead _) (expression ∷ []) _ _ _ c.lead.ensures c.in-Wrong.is ∙ sym (lead-follows t c.before.before.before.before).1
+    let lead-follows-here : let a = c.args in let p = program a.ws.now a.s in (a.r < a.s.rows) × (from p (expression ∷ []) a.r ≡ from p (lead (kind (tag p a.r)) ++ expression ∷ []) (a.r + 1)) = let e = c.tag.ensures in
+    takes_row _ _ expression _ _ _ _ refl c.num-n.ensures (bound_says _ _ _ _ (omega (arith, e, c.in-2-to-7.if-this-lt1-own.false)) (omega (arith, e, c.in-2-to-7.if-this-lt8-own.true)) ∙ yes_fits _ (lt-ltb _ _ c.if-n-s-3.false)) in
+    then_wrong _ (lead _) (expression ∷ []) _ _ _ c.lead.ensures c.in-Wrong.is ∙ sym lead-follows-here.1
 
 pub expression-returns-in-10 : goal.expression-returns-in-10
 expression-returns-in-10 t c = refuses_row _ _ expression _ _ _ c.tag.ensures c.num-n.ensures (no_head_says _ _ _ _ (λ a. omega (arith, c.in-10.if-this-lt8-own.false, c.in-10.in_default-own.rest)))
@@ -177,10 +182,6 @@ expression-returns-in_default-3 t c = refuses_row _ _ expression _ _ _ c.tag.ens
 
 pub expression-returns-in_default-4 : goal.expression-returns-in_default-4
 expression-returns-in_default-4 t c = refuses_row _ _ expression _ _ _ c.tag.ensures c.num-n.ensures (no_head_says _ _ _ _ (λ a. omega (arith, c.in_default.if-this-lt8-own.false, c.in_default.in_default-own.rest)))
-
-lead-follows t c =
-    let e = c.tag.ensures in
-    takes_row _ _ expression _ _ _ _ refl c.num.ensures (bound_says _ _ _ _ (omega (arith, e, c.if4.false)) (omega (arith, e, c.if5.true)) ∙ yes_fits _ (lt-ltb _ _ c.if6.false))
 
 pub lead-body_form-requires : goal.lead-body_form-requires
 lead-body_form-requires t c = (omega arith, (search rules, search rules))

@@ -12,5 +12,5 @@ returns-then-states-first_at c = record { used_value = refl; states_in_bounds = 
 pub returns : goal.returns
 returns c = record {
         used_value = refl;
-        states_in_bounds = λ h. (omega (arith, c.if-states-first_at.false, length-set c.args.first-at.now 0 0), get_or-set_same c.args.first-at.now 0 0 0 (omega (arith, c.if-states-first_at.false)));
+        states_in_bounds = λ h. (omega (arith, c.if-states-first_at.false, length-set c.args.first_at.now 0 0), get_or-set_same c.args.first_at.now 0 0 0 (omega (arith, c.if-states-first_at.false)));
     }

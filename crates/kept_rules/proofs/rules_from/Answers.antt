@@ -13,19 +13,11 @@ pub slice_bounds-rules_of-count : goal.slice_bounds-rules_of-count
 slice_bounds-rules_of-count c =
     let begins-here : (c.args.first ≤ length c.args.tos.now) × (c.args.first ≤ length c.args.others.now) = starts_low _ _ _ _ _ c.requires.room_from in begins-here.0
 
-pub slice-bounds-rules-of-start : goal.slice-bounds-rules-of-start
-slice-bounds-rules-of-start c =
-    let begins-here : (c.args.first ≤ length c.args.tos.now) × (c.args.first ≤ length c.args.others.now) = starts_low _ _ _ _ _ c.requires.room_from in begins-here.0
-
 pub offset_bounds-others-first : goal.offset_bounds-others-first
 offset_bounds-others-first c = record { fits = omega (arith, c.requires.i_lt_states.1) }
 
 pub slice_bounds-rules_of-count-2 : goal.slice_bounds-rules_of-count-2
 slice_bounds-rules_of-count-2 c =
-    let begins-here : (c.args.first ≤ length c.args.tos.now) × (c.args.first ≤ length c.args.others.now) = starts_low _ _ _ _ _ c.requires.room_from in begins-here.1
-
-pub slice-bounds-rules-of-start-2 : goal.slice-bounds-rules-of-start-2
-slice-bounds-rules-of-start-2 c =
     let begins-here : (c.args.first ≤ length c.args.tos.now) × (c.args.first ≤ length c.args.others.now) = starts_low _ _ _ _ _ c.requires.room_from in begins-here.1
 
 pub rules_of-requires : goal.rules_of-requires

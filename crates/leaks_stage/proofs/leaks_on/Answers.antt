@@ -21,9 +21,6 @@ fill_holders-requires c =
 pub slice_bounds-letter_at-count : goal.slice_bounds-letter_at-count
 slice_bounds-letter_at-count c = omega (arith, long _ _ _ _ _ _ c.requires.joined_tables)
 
-pub slice-bounds-letter-at-start : goal.slice-bounds-letter-at-start
-slice-bounds-letter-at-start c = omega (arith, long _ _ _ _ _ _ c.requires.joined_tables)
-
 pub spare_words-spare-requires : goal.spare_words-spare-requires
 spare_words-spare-requires c = record {
         ready = c.requires.joined_tables.ready;

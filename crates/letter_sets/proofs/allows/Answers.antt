@@ -1,3 +1,5 @@
+use mathlib.Core.Bool.{not}
+use mathlib.Core.Path.{ap}
 use Prim.Native.Nat.{◌-◌, ◌≤◌, ◌<◌}
 use native.Mathlib.Omega.{arith}
 use borrow.Author.Rules.{rules}
@@ -30,10 +32,10 @@ holds-requires c =
     let z = head_room c.requires.heads_known c.requires.value_told _ c.loop-i-test.true _ _ _ c.num-n.ensures c.digit-h.ensures in record { v_bound = z.0; row = z.1 }
 
 pub returns-then-not-holds : goal.returns-then-not-holds
-returns-then-not-holds c = allows_miss _ _ _ _ _ _ c.requires.value_told _ _ _ _ c.loop-i.invariant.0 c.loop-i-test.true c.num-n.ensures c.digit-h.ensures c.holds.ensures c.if-not-holds.true
+returns-then-not-holds c = allows_miss _ _ _ _ _ _ c.requires.value_told _ _ _ _ c.loop-i.invariant.0 c.loop-i-test.true c.num-n.ensures c.digit-h.ensures c.holds.ensures (ap not c.if-not-holds.true)
 
 pub loop-i-preserved : goal.loop-i-preserved
-loop-i-preserved c = (allows_next _ _ _ _ _ _ c.requires.value_told _ _ _ _ c.loop-i.invariant.0 c.loop-i-test.true c.num-n.ensures c.digit-h.ensures c.holds.ensures c.if-not-holds.false, search rules)
+loop-i-preserved c = (allows_next _ _ _ _ _ _ c.requires.value_told _ _ _ _ c.loop-i.invariant.0 c.loop-i-test.true c.num-n.ensures c.digit-h.ensures c.holds.ensures (ap not c.if-not-holds.false), search rules)
 
 pub returns : goal.returns
 returns c = allows_end _ _ _ _ _ _ c.requires.value_told _ c.loop-i.invariant.0 (search rules)

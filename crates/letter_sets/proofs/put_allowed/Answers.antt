@@ -13,13 +13,10 @@ use Rattle.letter_sets.specs.Sets.{is_allowed}
 use Rattle.letter_sets.proofs.Putting.{PutUpto, upto_start}
 use Rattle.letter_sets.proofs.Filling.{mail_class, class_inside, ClassRange, class_words, allowed_row, allowed_put, allowed_left, allowed_over}
 use Rattle.letter_sets.proofs.put_allowed.Goals as goal
+use Rattle.letter_sets.proofs.put_allowed.Goals.{then-allows, else-allows}
 
 pub letter_width-w-requires : goal.letter_width-w-requires
 letter_width-w-requires c = record { ready = c.requires.letters_known.heads.ready; class_letters = c.requires.letters_known.class_letters }
-
--- the value of a mail entry is a word
-low : (c : goal.After-mail_value-v) → c.mail_value-v.result < 65536
-low c = mail_value_low c.requires.letters_known.heads.ready _ _ c.requires.j_lt_mails.0 c.mail_value-v.ensures
 
 pub value_arity-count-requires : goal.value_arity-count-requires
 value_arity-count-requires c =
@@ -40,22 +37,25 @@ word-from-requires c = omega (arith, inside c)
 
 pub overflow_add-c : goal.overflow_add-c
 overflow_add-c c =
-    let inside-here : (c.left-c.result + 1 < length c.args.letter_at.now) × (c.left-c.result ≤ c.args.s.rows) = class_inside c.requires.letters_known.heads.ready _ _ _ c.requires.letters_known.class_letters c.requires.j_lt_mails.0 (class c) in record { fits = omega (arith, inside-here, c.requires.letters_known.heads.ready.limits.rows) }
+    let class_here : c.left-c.result ≡ left (tables c.args.ws.now c.args.s).mail c.args.j = mail_class _ _ _ _ _ c.left-c.ensures c.mail-list.ensures in
+    let inside-here : (c.left-c.result + 1 < length c.args.letter_at.now) × (c.left-c.result ≤ c.args.s.rows) = class_inside c.requires.letters_known.heads.ready _ _ _ c.requires.letters_known.class_letters c.requires.j_lt_mails.0 class_here in record { fits = omega (arith, inside-here, c.requires.letters_known.heads.ready.limits.rows) }
 
 pub word-to-requires : goal.word-to-requires
 word-to-requires c =
-    let inside-here : (c.left-c.result + 1 < length c.args.letter_at.now) × (c.left-c.result ≤ c.args.s.rows) = class_inside c.requires.letters_known.heads.ready _ _ _ c.requires.letters_known.class_letters c.requires.j_lt_mails.0 (class c) in omega (arith, inside-here)
+    let class_here : c.left-c.result ≡ left (tables c.args.ws.now c.args.s).mail c.args.j = mail_class _ _ _ _ _ c.left-c.ensures c.mail-list.ensures in
+    let inside-here : (c.left-c.result + 1 < length c.args.letter_at.now) × (c.left-c.result ≤ c.args.s.rows) = class_inside c.requires.letters_known.heads.ready _ _ _ c.requires.letters_known.class_letters c.requires.j_lt_mails.0 class_here in omega (arith, inside-here)
 
 -- the letters of the class, as the words tell them
 range : (c : goal.After-word-to) → ClassRange c.requires.letters_known.heads.ready c.args.j c.word-from.result c.word-to.result
-range c = class_words c.requires.letters_known.heads.ready _ _ _ _ _ c.requires.letters_known.class_letters c.requires.j_lt_mails.0 (class c.before.before) c.word-from.ensures.0 c.word-to.ensures.0
+range c = class_words c.requires.letters_known.heads.ready _ _ _ _ _ c.requires.letters_known.class_letters c.requires.j_lt_mails.0 (mail_class _ _ _ _ _ c.left-c.ensures c.mail-list.ensures) c.word-from.ensures.0 c.word-to.ensures.0
 
 pub loop-y-init : goal.loop-y-init
 loop-y-init c = (upto_start _ _ _ _, search rules, (range c).order)
 
 pub bounds-codes-y : goal.bounds-codes-y
 bounds-codes-y c =
-    let range-here : ClassRange c.requires.letters_known.heads.ready c.args.j c.word-from.result c.word-to.result = class_words c.requires.letters_known.heads.ready _ _ _ _ _ c.requires.letters_known.class_letters c.requires.j_lt_mails.0 (class c.before.before) c.word-from.ensures.0 c.word-to.ensures.0 in omega (arith, range-here.most, c.requires.letters_known.coded.room)
+    let class_here : c.left-c.result ≡ left (tables c.args.ws.now c.args.s).mail c.args.j = mail_class _ _ _ _ _ c.left-c.ensures c.mail-list.ensures in
+    let range-here : ClassRange c.requires.letters_known.heads.ready c.args.j c.word-from.result c.word-to.result = class_words c.requires.letters_known.heads.ready _ _ _ _ _ c.requires.letters_known.class_letters c.requires.j_lt_mails.0 class_here c.word-from.ensures.0 c.word-to.ensures.0 in omega (arith, range-here.most, c.requires.letters_known.coded.room)
 
 pub allows-requires : goal.allows-requires
 allows-requires c =
@@ -63,16 +63,17 @@ allows-requires c =
 
 pub put-requires : goal.put-requires
 put-requires c =
-    let range-here : ClassRange c.requires.letters_known.heads.ready c.args.j c.word-from.result c.word-to.result = class_words c.requires.letters_known.heads.ready _ _ _ _ _ c.requires.letters_known.class_letters c.requires.j_lt_mails.0 (class c.before.before) c.word-from.ensures.0 c.word-to.ensures.0 in let z = allowed_row c.requires.letters_known.heads.ready _ _ _ _ _ _ _ _ c.letter_width-w.ensures refl c.requires.j_lt_mails.0 c.requires.j_lt_mails.1 c.loop-y.invariant.0.long range-here c.loop-y-test.true in record { v_bound = z.0; row = z.1 }
+    let class_here : c.left-c.result ≡ left (tables c.args.ws.now c.args.s).mail c.args.j = mail_class _ _ _ _ _ c.left-c.ensures c.mail-list.ensures in
+    let range-here : ClassRange c.requires.letters_known.heads.ready c.args.j c.word-from.result c.word-to.result = class_words c.requires.letters_known.heads.ready _ _ _ _ _ c.requires.letters_known.class_letters c.requires.j_lt_mails.0 class_here c.word-from.ensures.0 c.word-to.ensures.0 in let z = allowed_row c.requires.letters_known.heads.ready _ _ _ _ _ _ _ _ c.letter_width-w.ensures refl c.requires.j_lt_mails.0 c.requires.j_lt_mails.1 c.loop-y.invariant.0.long range-here c.loop-y-test.true in record { v_bound = z.0; row = z.1 }
 
 pub loop-y-preserved : goal.loop-y-preserved
 loop-y-preserved c =
     let h = c.requires.letters_known.heads.ready in
     let i = c.loop-y.invariant in (
-      ⊎_elim
-          (λ z. rw z.5 (allowed_put h _ _ _ _ _ _ _ _ _ _ _ _ _ i.0 i.1 c.mail_value-v.ensures refl refl c.allows.ensures z.0.taken z.2.ensures))
-          (λ z. rw z.1 (allowed_left h _ _ _ _ _ _ _ _ _ _ _ i.0 i.1 c.mail_value-v.ensures refl c.allows.ensures z.0.left))
-          c.if-allows.branch,
+      elim c.if-allows.branch [
+        then-allows z ↦ rw z.letters-is (allowed_put h _ _ _ _ _ _ _ _ _ _ _ _ _ i.0 i.1 c.mail_value-v.ensures refl refl c.allows.ensures z.if-allows.true z.put.ensures)
+      | else-allows z ↦ rw z.letters-is (allowed_left h _ _ _ _ _ _ _ _ _ _ _ i.0 i.1 c.mail_value-v.ensures refl c.allows.ensures z.if-allows.false)
+      ],
       search rules,
       search rules,
     )
@@ -82,4 +83,5 @@ shape_of-letters c = c.loop-y.invariant.0.long
 
 pub returns : goal.returns
 returns c =
-    let range-here : ClassRange c.requires.letters_known.heads.ready c.args.j c.word-from.result c.word-to.result = class_words c.requires.letters_known.heads.ready _ _ _ _ _ c.requires.letters_known.class_letters c.requires.j_lt_mails.0 (class c.before.before) c.word-from.ensures.0 c.word-to.ensures.0 in allowed_over c.requires.letters_known.heads.ready _ _ _ _ _ _ _ _ _ c.letter_width-w.ensures range-here c.loop-y.invariant.0 (search rules)
+    let class_here : c.left-c.result ≡ left (tables c.args.ws.now c.args.s).mail c.args.j = mail_class _ _ _ _ _ c.left-c.ensures c.mail-list.ensures in
+    let range-here : ClassRange c.requires.letters_known.heads.ready c.args.j c.word-from.result c.word-to.result = class_words c.requires.letters_known.heads.ready _ _ _ _ _ c.requires.letters_known.class_letters c.requires.j_lt_mails.0 class_here c.word-from.ensures.0 c.word-to.ensures.0 in allowed_over c.requires.letters_known.heads.ready _ _ _ _ _ _ _ _ _ c.letter_width-w.ensures range-here c.loop-y.invariant.0 (search rules)

@@ -12,7 +12,8 @@ branch_letters-requires c = record {
     }
 
 pub class_rules-requires : goal.class_rules-requires
-class_rules-requires c = letter_room c.requires.read_tables.pattern_tables.letter_tables.ready _ _ _ _ _ _ _ _ _ c.requires.read_tables.pattern_tables.letter_tables c.requires.class_room _ c.letter_width-words.ensures _ _ (search rules) (search rules)
+class_rules-requires c =
+    let z = letter_room c.requires.read_tables.pattern_tables.letter_tables.ready _ _ _ _ _ _ _ _ _ c.requires.read_tables.pattern_tables.letter_tables c.requires.class_room _ c.letter_width-words.ensures _ _ (search rules) (search rules) in record { letter_room = z.0; row = z.1 }
 
 pub returns : goal.returns
 returns c = record {

@@ -1,3 +1,5 @@
+use mathlib.Core.Bool.{not}
+use mathlib.Core.Path.{ap}
 use Prim.Native.Nat.{◌-◌, ◌≤◌}
 use native.Mathlib.Omega.{arith}
 use mathlib.Core.Path.{◌≡◌, refl, sym, ◌∙◌}
@@ -47,7 +49,7 @@ pub overflow_step-j : goal.overflow_step-j
 overflow_step-j c = omega (arith, (mail_order c.requires.pattern_tables.match_tables.ready _ _ _ c.mail_from-from.ensures c.mail_to-to.ensures).1, c.requires.pattern_tables.match_tables.ready.limits.mails)
 
 pub loop-j-preserved-then-not-begins : goal.loop-j-preserved-then-not-begins
-loop-j-preserved-then-not-begins c = (search rules, search rules, c.loop-j.invariant.2, c.loop-j.invariant.3, found_passed _ _ (head_low c.requires.pattern_tables.match_tables.ready) _ _ _ _ _ c.loop-j.invariant.0 c.mail_value-v.ensures _ _ c.begins.ensures c.if-not-begins.true c.loop-j.invariant.4)
+loop-j-preserved-then-not-begins c = (search rules, search rules, c.loop-j.invariant.2, c.loop-j.invariant.3, found_passed _ _ (head_low c.requires.pattern_tables.match_tables.ready) _ _ _ _ _ c.loop-j.invariant.0 c.mail_value-v.ensures _ _ c.begins.ensures (ap not c.if-not-begins.true) c.loop-j.invariant.4)
 
 pub entry_set-allowed-requires : goal.entry_set-allowed-requires
 entry_set-allowed-requires c = record {
@@ -64,7 +66,7 @@ overflow_step-j-then-not-meets c = omega (arith, (mail_order c.requires.pattern_
 
 pub loop-j-preserved-then-not-meets : goal.loop-j-preserved-then-not-meets
 unfolding tables entries columns
-loop-j-preserved-then-not-meets c = (search rules, search rules, c.loop-j.invariant.2, c.loop-j.invariant.3, found_hollow _ _ (head_low c.requires.pattern_tables.match_tables.ready) _ _ _ _ _ c.loop-j.invariant.0 c.mail_value-v.ensures _ c.requires.pattern_tables.letter_tables.letter_sets_of _ _ c.letter_width-words.ensures (entry_number _ _ _ _ c.entry_set-allowed.ensures) (omega (arith, (mail_order c.requires.pattern_tables.match_tables.ready _ _ _ c.mail_from-from.ensures c.mail_to-to.ensures).1)) (mail_class c.requires.pattern_tables.match_tables.ready _ _ _ c.mail_from-from.ensures c.mail_to-to.ensures _ c.loop-j.invariant.0 (search rules)) _ _ c.meets.ensures c.if-not-meets.true c.loop-j.invariant.4)
+loop-j-preserved-then-not-meets c = (search rules, search rules, c.loop-j.invariant.2, c.loop-j.invariant.3, found_hollow _ _ (head_low c.requires.pattern_tables.match_tables.ready) _ _ _ _ _ c.loop-j.invariant.0 c.mail_value-v.ensures _ c.requires.pattern_tables.letter_tables.letter_sets_of _ _ c.letter_width-words.ensures (entry_number _ _ _ _ c.entry_set-allowed.ensures) (omega (arith, (mail_order c.requires.pattern_tables.match_tables.ready _ _ _ c.mail_from-from.ensures c.mail_to-to.ensures).1)) (mail_class c.requires.pattern_tables.match_tables.ready _ _ _ c.mail_from-from.ensures c.mail_to-to.ensures _ c.loop-j.invariant.0 (search rules)) _ _ c.meets.ensures (ap not c.if-not-meets.true) c.loop-j.invariant.4)
 
 pub copy_into-requires : goal.copy_into-requires
 unfolding tables entries columns
@@ -85,7 +87,7 @@ overflow_step-j-in-loop-j c = omega (arith, (mail_order c.requires.pattern_table
 
 pub loop-j-preserved : goal.loop-j-preserved
 unfolding tables entries columns
-loop-j-preserved c = (omega (arith, c.loop-j.invariant.0), search rules, c.join_into.ensures.long ∙ c.loop-j.invariant.2, c.leave_letters.ensures.long ∙ (c.copy_into.ensures.long ∙ c.loop-j.invariant.3), found_read _ _ (head_low c.requires.pattern_tables.match_tables.ready) _ _ _ _ _ c.loop-j.invariant.0 c.mail_value-v.ensures _ c.requires.pattern_tables.letter_tables.letter_sets_of _ _ c.letter_width-words.ensures (entry_number _ _ _ _ c.entry_set-allowed.ensures) (omega (arith, (mail_order c.requires.pattern_tables.match_tables.ready _ _ _ c.mail_from-from.ensures c.mail_to-to.ensures).1)) (mail_class c.requires.pattern_tables.match_tables.ready _ _ _ c.mail_from-from.ensures c.mail_to-to.ensures _ c.loop-j.invariant.0 (search rules)) _ _ _ _ _ _ c.begins.ensures c.if-not-begins.false c.loop-j.invariant.4 c.copy_into.ensures c.leave_letters.ensures c.join_into.ensures)
+loop-j-preserved c = (omega (arith, c.loop-j.invariant.0), search rules, c.join_into.ensures.long ∙ c.loop-j.invariant.2, c.leave_letters.ensures.long ∙ (c.copy_into.ensures.long ∙ c.loop-j.invariant.3), found_read _ _ (head_low c.requires.pattern_tables.match_tables.ready) _ _ _ _ _ c.loop-j.invariant.0 c.mail_value-v.ensures _ c.requires.pattern_tables.letter_tables.letter_sets_of _ _ c.letter_width-words.ensures (entry_number _ _ _ _ c.entry_set-allowed.ensures) (omega (arith, (mail_order c.requires.pattern_tables.match_tables.ready _ _ _ c.mail_from-from.ensures c.mail_to-to.ensures).1)) (mail_class c.requires.pattern_tables.match_tables.ready _ _ _ c.mail_from-from.ensures c.mail_to-to.ensures _ c.loop-j.invariant.0 (search rules)) _ _ _ _ _ _ c.begins.ensures (ap not c.if-not-begins.false) c.loop-j.invariant.4 c.copy_into.ensures c.leave_letters.ensures c.join_into.ensures)
 
 pub shape_of-part : goal.shape_of-part
 shape_of-part c = c.loop-j.invariant.3

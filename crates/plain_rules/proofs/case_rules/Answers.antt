@@ -1,3 +1,5 @@
+use mathlib.Core.Bool.{not}
+use mathlib.Core.Path.{ap}
 use Prim.Native.Nat.{◌+◌, ◌-◌, ◌≤◌}
 use native.Mathlib.Omega.{arith}
 use mathlib.Core.Path.{◌≡◌, refl, sym, ◌∙◌}
@@ -43,7 +45,7 @@ overflow_step-b c = record { fits = omega (arith, case_count c.requires.ready c.
 
 pub loop-b-preserved-then-not-may_match : goal.loop-b-preserved-then-not-may_match
 unfolding case_turn
-loop-b-preserved-then-not-may_match c = (added_kept case _ [] 0 _ [] _ _ _ _ c.loop-b.invariant.0 (omega arith) (λ e. skipped _ _ _ c.may_match.ensures c.if-not-may_match.true), branch_next _ _ c.requires.ends _ _ _ _ c.loop-b.invariant.1 (search rules) _ _ (c.branch_body-e.ensures ∙ sym (branch_here _ _ c.requires.ends _ _ _ _ c.loop-b.invariant.1 (search rules)).1) c.word-q.ensures.0, search rules, search rules)
+loop-b-preserved-then-not-may_match c = (added_kept case _ [] 0 _ [] _ _ _ _ c.loop-b.invariant.0 (omega arith) (λ e. skipped _ _ _ c.may_match.ensures (ap not c.if-not-may_match.true)), branch_next _ _ c.requires.ends _ _ _ _ c.loop-b.invariant.1 (search rules) _ _ (c.branch_body-e.ensures ∙ sym (branch_here _ _ c.requires.ends _ _ _ _ c.loop-b.invariant.1 (search rules)).1) c.word-q.ensures.0, search rules, search rules)
 
 pub offset_bounds-tos-n : goal.offset_bounds-tos-n
 offset_bounds-tos-n c = record { fits = omega (arith, case_count c.requires.ready c.args.r c.requires.r_value, c.num-m.ensures, c.loop-b.invariant.3) }
@@ -59,7 +61,7 @@ overflow_step-b-in-loop-b c = record { fits = omega (arith, case_count c.require
 
 pub loop-b-preserved : goal.loop-b-preserved
 unfolding kind_effect
-loop-b-preserved c = (added_quiet case _ [] 0 _ [] _ _ _ _ c.loop-b.invariant.0 (omega arith) _ (λ y. refl) (omega (arith, case_count c.requires.ready c.args.r c.requires.r_value, c.num-m.ensures, c.requires.max_branches_in_bounds, c.loop-b.invariant.3, c.loop-b.invariant.0.tos_long)) (λ e. case_kept c.requires.ready c.args.branches.now c.args.i _ _ _ _ _ _ e _ c.loop-b.invariant.1 c.may_match.ensures c.if-not-may_match.false c.branch_body-e.ensures c.onto-here.ensures), branch_next _ _ c.requires.ends _ _ _ _ c.loop-b.invariant.1 (search rules) _ _ (c.branch_body-e.ensures ∙ sym (branch_here _ _ c.requires.ends _ _ _ _ c.loop-b.invariant.1 (search rules)).1) c.word-q.ensures.0, search rules, search rules)
+loop-b-preserved c = (added_quiet case _ [] 0 _ [] _ _ _ _ c.loop-b.invariant.0 (omega arith) _ (λ y. refl) (omega (arith, case_count c.requires.ready c.args.r c.requires.r_value, c.num-m.ensures, c.requires.max_branches_in_bounds, c.loop-b.invariant.3, c.loop-b.invariant.0.tos_long)) (λ e. case_kept c.requires.ready c.args.branches.now c.args.i _ _ _ _ _ _ e _ c.loop-b.invariant.1 c.may_match.ensures (ap not c.if-not-may_match.false) c.branch_body-e.ensures c.onto-here.ensures), branch_next _ _ c.requires.ends _ _ _ _ c.loop-b.invariant.1 (search rules) _ _ (c.branch_body-e.ensures ∙ sym (branch_here _ _ c.requires.ends _ _ _ _ c.loop-b.invariant.1 (search rules)).1) c.word-q.ensures.0, search rules, search rules)
 
 pub returns : goal.returns
 returns c = added_same case _ [] 0 _ [] _ _ _ c.loop-b.invariant.0 (λ e. let z : c.loop-b.b ≡ c.num-m.result = omega (arith, c.loop-b.invariant.2, c.loop-b-test.false) in rw z (case_gathered c.requires.ready _ c.requires.branch_bits _ _ _ e c.requires.r_value c.requires.i_lt_states.0 c.requires.i_lt_states.1 c.num-m.ensures))

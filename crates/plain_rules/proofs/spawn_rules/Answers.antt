@@ -1,3 +1,5 @@
+use mathlib.Core.Bool.{not}
+use mathlib.Core.Path.{ap}
 use Prim.Native.Nat.{◌+◌, ◌-◌, ◌≤◌, ◌<◌}
 use native.Mathlib.Omega.{arith}
 use mathlib.Core.Path.{◌≡◌, sym, ◌∙◌}
@@ -40,45 +42,53 @@ loop-j-init c = let (u, v) = begin c in (added_none spawn _ _ 0 _ _ (omega arith
 
 pub overflow_step-j : goal.overflow_step-j
 overflow_step-j c =
-    let few-here : (c.loop-j.n + 1 ≤ c.args.s.rows + 1) × (c.loop-j.j < c.args.s.flows) = let (u, v) = begin c.before.before in let (x, y) = flow_order c.requires.ready _ _ _ u v in let (a, b) = value_from c.requires.ready _ _ c.loop-j.j u c.loop-j.invariant.1 (omega arith) in (omega (arith, c.loop-j.invariant.3), omega arith) in record { fits = omega (arith, few-here.1, c.requires.ready.limits.flows) }
+    let begin-here : (c.word-from.result ≡ range_from (tables c.args.ws.now c.args.s).flow c.num-name.result) × (c.word-to.result ≡ range_to (tables c.args.ws.now c.args.s).flow c.num-name.result) = name_starts c.requires.ready _ _ _ _ c.requires.starts (spawn_low c.requires.ready _ _ c.requires.r_value c.num-name.ensures) c.word-from.ensures.0 c.word-to.ensures.0 in
+    let few-here : (c.loop-j.n + 1 ≤ c.args.s.rows + 1) × (c.loop-j.j < c.args.s.flows) = let (u, v) = begin-here in let (x, y) = flow_order c.requires.ready _ _ _ u v in let (a, b) = value_from c.requires.ready _ _ c.loop-j.j u c.loop-j.invariant.1 (omega arith) in (omega (arith, c.loop-j.invariant.3), omega arith) in record { fits = omega (arith, few-here.1, c.requires.ready.limits.flows) }
 
 pub loop-j-preserved-then-not-takes : goal.loop-j-preserved-then-not-takes
-loop-j-preserved-then-not-takes c = (added_kept spawn _ _ 0 _ _ _ _ _ _ c.loop-j.invariant.0 c.loop-j.invariant.1 (λ i. spawn_skipped c.requires.ready _ _ _ _ i _ c.flow_value-f.ensures c.takes.ensures c.if-not-takes.true), search rules, search rules, search rules)
+loop-j-preserved-then-not-takes c = (added_kept spawn _ _ 0 _ _ _ _ _ _ c.loop-j.invariant.0 c.loop-j.invariant.1 (λ i. spawn_skipped c.requires.ready _ _ _ _ i _ c.flow_value-f.ensures c.takes.ensures (ap not c.if-not-takes.true)), search rules, search rules, search rules)
 
 pub body-requires : goal.body-requires
 body-requires c = record { ready = c.requires.ready; f_value = takes_function _ _ _ (sym c.takes.ensures ∙ c.if-not-takes.false) }
 
 pub offset_bounds-tos-n : goal.offset_bounds-tos-n
 offset_bounds-tos-n c =
-    let few-here : (c.loop-j.n + 1 ≤ c.args.s.rows + 1) × (c.loop-j.j < c.args.s.flows) = let (u, v) = begin c.before.before in let (x, y) = flow_order c.requires.ready _ _ _ u v in let (a, b) = value_from c.requires.ready _ _ c.loop-j.j u c.loop-j.invariant.1 (omega arith) in (omega (arith, c.loop-j.invariant.3), omega arith) in record { fits = omega (arith, few-here.0, c.requires.ready.limits.rows) }
+    let begin-here : (c.word-from.result ≡ range_from (tables c.args.ws.now c.args.s).flow c.num-name.result) × (c.word-to.result ≡ range_to (tables c.args.ws.now c.args.s).flow c.num-name.result) = name_starts c.requires.ready _ _ _ _ c.requires.starts (spawn_low c.requires.ready _ _ c.requires.r_value c.num-name.ensures) c.word-from.ensures.0 c.word-to.ensures.0 in
+    let few-here : (c.loop-j.n + 1 ≤ c.args.s.rows + 1) × (c.loop-j.j < c.args.s.flows) = let (u, v) = begin-here in let (x, y) = flow_order c.requires.ready _ _ _ u v in let (a, b) = value_from c.requires.ready _ _ c.loop-j.j u c.loop-j.invariant.1 (omega arith) in (omega (arith, c.loop-j.invariant.3), omega arith) in record { fits = omega (arith, few-here.0, c.requires.ready.limits.rows) }
 
 pub bounds-tos-n : goal.bounds-tos-n
 bounds-tos-n c =
-    let few-here : (c.loop-j.n + 1 ≤ c.args.s.rows + 1) × (c.loop-j.j < c.args.s.flows) = let (u, v) = begin c.before.before in let (x, y) = flow_order c.requires.ready _ _ _ u v in let (a, b) = value_from c.requires.ready _ _ c.loop-j.j u c.loop-j.invariant.1 (omega arith) in (omega (arith, c.loop-j.invariant.3), omega arith) in omega (arith, few-here.0, c.requires.rule_room.values, c.requires.rule_room.alike, c.loop-j.invariant.0.tos_long, c.loop-j.invariant.0.others_long)
+    let begin-here : (c.word-from.result ≡ range_from (tables c.args.ws.now c.args.s).flow c.num-name.result) × (c.word-to.result ≡ range_to (tables c.args.ws.now c.args.s).flow c.num-name.result) = name_starts c.requires.ready _ _ _ _ c.requires.starts (spawn_low c.requires.ready _ _ c.requires.r_value c.num-name.ensures) c.word-from.ensures.0 c.word-to.ensures.0 in
+    let few-here : (c.loop-j.n + 1 ≤ c.args.s.rows + 1) × (c.loop-j.j < c.args.s.flows) = let (u, v) = begin-here in let (x, y) = flow_order c.requires.ready _ _ _ u v in let (a, b) = value_from c.requires.ready _ _ c.loop-j.j u c.loop-j.invariant.1 (omega arith) in (omega (arith, c.loop-j.invariant.3), omega arith) in omega (arith, few-here.0, c.requires.rule_room.values, c.requires.rule_room.alike, c.loop-j.invariant.0.tos_long, c.loop-j.invariant.0.others_long)
 
 pub overflow_cast-others : goal.overflow_cast-others
 overflow_cast-others c = omega (arith, index_small c.requires.ready _ _ c.begun-x.ensures)
 
 pub offset_bounds-others-n : goal.offset_bounds-others-n
 offset_bounds-others-n c =
-    let few-here : (c.loop-j.n + 1 ≤ c.args.s.rows + 1) × (c.loop-j.j < c.args.s.flows) = let (u, v) = begin c.before.before in let (x, y) = flow_order c.requires.ready _ _ _ u v in let (a, b) = value_from c.requires.ready _ _ c.loop-j.j u c.loop-j.invariant.1 (omega arith) in (omega (arith, c.loop-j.invariant.3), omega arith) in record { fits = omega (arith, few-here.0, c.requires.ready.limits.rows) }
+    let begin-here : (c.word-from.result ≡ range_from (tables c.args.ws.now c.args.s).flow c.num-name.result) × (c.word-to.result ≡ range_to (tables c.args.ws.now c.args.s).flow c.num-name.result) = name_starts c.requires.ready _ _ _ _ c.requires.starts (spawn_low c.requires.ready _ _ c.requires.r_value c.num-name.ensures) c.word-from.ensures.0 c.word-to.ensures.0 in
+    let few-here : (c.loop-j.n + 1 ≤ c.args.s.rows + 1) × (c.loop-j.j < c.args.s.flows) = let (u, v) = begin-here in let (x, y) = flow_order c.requires.ready _ _ _ u v in let (a, b) = value_from c.requires.ready _ _ c.loop-j.j u c.loop-j.invariant.1 (omega arith) in (omega (arith, c.loop-j.invariant.3), omega arith) in record { fits = omega (arith, few-here.0, c.requires.ready.limits.rows) }
 
 pub bounds-others-n : goal.bounds-others-n
 bounds-others-n c =
-    let few-here : (c.loop-j.n + 1 ≤ c.args.s.rows + 1) × (c.loop-j.j < c.args.s.flows) = let (u, v) = begin c.before.before in let (x, y) = flow_order c.requires.ready _ _ _ u v in let (a, b) = value_from c.requires.ready _ _ c.loop-j.j u c.loop-j.invariant.1 (omega arith) in (omega (arith, c.loop-j.invariant.3), omega arith) in omega (arith, few-here.0, c.requires.rule_room.values, c.requires.rule_room.alike, c.loop-j.invariant.0.tos_long, c.loop-j.invariant.0.others_long)
+    let begin-here : (c.word-from.result ≡ range_from (tables c.args.ws.now c.args.s).flow c.num-name.result) × (c.word-to.result ≡ range_to (tables c.args.ws.now c.args.s).flow c.num-name.result) = name_starts c.requires.ready _ _ _ _ c.requires.starts (spawn_low c.requires.ready _ _ c.requires.r_value c.num-name.ensures) c.word-from.ensures.0 c.word-to.ensures.0 in
+    let few-here : (c.loop-j.n + 1 ≤ c.args.s.rows + 1) × (c.loop-j.j < c.args.s.flows) = let (u, v) = begin-here in let (x, y) = flow_order c.requires.ready _ _ _ u v in let (a, b) = value_from c.requires.ready _ _ c.loop-j.j u c.loop-j.invariant.1 (omega arith) in (omega (arith, c.loop-j.invariant.3), omega arith) in omega (arith, few-here.0, c.requires.rule_room.values, c.requires.rule_room.alike, c.loop-j.invariant.0.tos_long, c.loop-j.invariant.0.others_long)
 
 pub overflow_add-n : goal.overflow_add-n
 overflow_add-n c =
-    let few-here : (c.loop-j.n + 1 ≤ c.args.s.rows + 1) × (c.loop-j.j < c.args.s.flows) = let (u, v) = begin c.before.before in let (x, y) = flow_order c.requires.ready _ _ _ u v in let (a, b) = value_from c.requires.ready _ _ c.loop-j.j u c.loop-j.invariant.1 (omega arith) in (omega (arith, c.loop-j.invariant.3), omega arith) in record { fits = omega (arith, few-here.0, c.requires.ready.limits.rows) }
+    let begin-here : (c.word-from.result ≡ range_from (tables c.args.ws.now c.args.s).flow c.num-name.result) × (c.word-to.result ≡ range_to (tables c.args.ws.now c.args.s).flow c.num-name.result) = name_starts c.requires.ready _ _ _ _ c.requires.starts (spawn_low c.requires.ready _ _ c.requires.r_value c.num-name.ensures) c.word-from.ensures.0 c.word-to.ensures.0 in
+    let few-here : (c.loop-j.n + 1 ≤ c.args.s.rows + 1) × (c.loop-j.j < c.args.s.flows) = let (u, v) = begin-here in let (x, y) = flow_order c.requires.ready _ _ _ u v in let (a, b) = value_from c.requires.ready _ _ c.loop-j.j u c.loop-j.invariant.1 (omega arith) in (omega (arith, c.loop-j.invariant.3), omega arith) in record { fits = omega (arith, few-here.0, c.requires.ready.limits.rows) }
 
 pub overflow_step-j-in-loop-j : goal.overflow_step-j-in-loop-j
 overflow_step-j-in-loop-j c =
-    let few-here : (c.loop-j.n + 1 ≤ c.args.s.rows + 1) × (c.loop-j.j < c.args.s.flows) = let (u, v) = begin c.before.before in let (x, y) = flow_order c.requires.ready _ _ _ u v in let (a, b) = value_from c.requires.ready _ _ c.loop-j.j u c.loop-j.invariant.1 (omega arith) in (omega (arith, c.loop-j.invariant.3), omega arith) in record { fits = omega (arith, few-here.1, c.requires.ready.limits.flows) }
+    let begin-here : (c.word-from.result ≡ range_from (tables c.args.ws.now c.args.s).flow c.num-name.result) × (c.word-to.result ≡ range_to (tables c.args.ws.now c.args.s).flow c.num-name.result) = name_starts c.requires.ready _ _ _ _ c.requires.starts (spawn_low c.requires.ready _ _ c.requires.r_value c.num-name.ensures) c.word-from.ensures.0 c.word-to.ensures.0 in
+    let few-here : (c.loop-j.n + 1 ≤ c.args.s.rows + 1) × (c.loop-j.j < c.args.s.flows) = let (u, v) = begin-here in let (x, y) = flow_order c.requires.ready _ _ _ u v in let (a, b) = value_from c.requires.ready _ _ c.loop-j.j u c.loop-j.invariant.1 (omega arith) in (omega (arith, c.loop-j.invariant.3), omega arith) in record { fits = omega (arith, few-here.1, c.requires.ready.limits.flows) }
 
 pub loop-j-preserved : goal.loop-j-preserved
 unfolding kind_effect
 loop-j-preserved c =
-    let few-here : (c.loop-j.n + 1 ≤ c.args.s.rows + 1) × (c.loop-j.j < c.args.s.flows) = let (u, v) = begin c.before.before in let (x, y) = flow_order c.requires.ready _ _ _ u v in let (a, b) = value_from c.requires.ready _ _ c.loop-j.j u c.loop-j.invariant.1 (omega arith) in (omega (arith, c.loop-j.invariant.3), omega arith) in (added_one spawn _ _ 0 _ _ _ _ _ _ c.loop-j.invariant.0 c.loop-j.invariant.1 _ _ (omega (arith, few-here.0, c.requires.rule_room.values, c.requires.rule_room.alike, c.loop-j.invariant.0.tos_long, c.loop-j.invariant.0.others_long)) (omega (arith, few-here.0, c.requires.rule_room.values, c.requires.rule_room.alike, c.loop-j.invariant.0.tos_long, c.loop-j.invariant.0.others_long)) (λ i. spawn_kept c.requires.ready _ _ _ _ _ _ _ i _ c.requires.i_lt_states.1 c.flow_value-f.ensures c.takes.ensures c.if-not-takes.false c.body.ensures c.begun-x.ensures), search rules, search rules, search rules)
+    let begin-here : (c.word-from.result ≡ range_from (tables c.args.ws.now c.args.s).flow c.num-name.result) × (c.word-to.result ≡ range_to (tables c.args.ws.now c.args.s).flow c.num-name.result) = name_starts c.requires.ready _ _ _ _ c.requires.starts (spawn_low c.requires.ready _ _ c.requires.r_value c.num-name.ensures) c.word-from.ensures.0 c.word-to.ensures.0 in
+    let few-here : (c.loop-j.n + 1 ≤ c.args.s.rows + 1) × (c.loop-j.j < c.args.s.flows) = let (u, v) = begin-here in let (x, y) = flow_order c.requires.ready _ _ _ u v in let (a, b) = value_from c.requires.ready _ _ c.loop-j.j u c.loop-j.invariant.1 (omega arith) in (omega (arith, c.loop-j.invariant.3), omega arith) in (added_one spawn _ _ 0 _ _ _ _ _ _ c.loop-j.invariant.0 c.loop-j.invariant.1 _ _ (omega (arith, few-here.0, c.requires.rule_room.values, c.requires.rule_room.alike, c.loop-j.invariant.0.tos_long, c.loop-j.invariant.0.others_long)) (omega (arith, few-here.0, c.requires.rule_room.values, c.requires.rule_room.alike, c.loop-j.invariant.0.tos_long, c.loop-j.invariant.0.others_long)) (λ i. spawn_kept c.requires.ready _ _ _ _ _ _ _ i _ c.requires.i_lt_states.1 c.flow_value-f.ensures c.takes.ensures (ap not c.if-not-takes.false) c.body.ensures c.begun-x.ensures), search rules, search rules, search rules)
 
 pub returns : goal.returns
 returns c =

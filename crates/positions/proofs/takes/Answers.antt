@@ -4,7 +4,7 @@ use Rattle.positions.proofs.Placed.{takes_yes, takes_no, function_row}
 use Rattle.positions.proofs.takes.Goals as goal
 
 pub overflow_add-f : goal.overflow_add-f
-overflow_add-f c = let a = c.before.before.before in let z = function_row _ _ _ _ a.requires.rows c.tag.ensures c.in-3.is in record { fits = omega arith }
+overflow_add-f c = let z = function_row _ _ _ _ c.requires.rows c.tag.ensures c.in-3.is in record { fits = omega arith }
 
 pub returns-in-3 : goal.returns-in-3
 returns-in-3 c = takes_yes _ _ _ c.tag.ensures _ _ c.in-3.is c.num.ensures

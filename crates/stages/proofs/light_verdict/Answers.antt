@@ -30,6 +30,6 @@ light_check-requires c =
         start = x;
         start_low = omega (arith, x, low, c.requires.startable.counted.counters);
       };
-        bads_in_form = (c.requires.letters_filled.1, c.requires.weights_table.1);
-        n_in_bounds = ;
+        bads_in_form = c.requires.letters_filled.1;
+        n_in_bounds = c.requires.weights_table.1;
     }

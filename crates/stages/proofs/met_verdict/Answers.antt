@@ -20,6 +20,6 @@ met_check-requires c = record {
         limits_table = c.requires.counted.1;
         items_table = c.fill_items.ensures;
       };
-        bads_in_form = (c.requires.letters_filled.1, c.requires.n_in_bounds);
-        n_in_bounds = ;
+        bads_in_form = c.requires.letters_filled.1;
+        n_in_bounds = c.requires.n_in_bounds;
     }

@@ -1,3 +1,4 @@
+use mathlib.Core.Bool.{not}
 use Prim.Native.Nat.{ℕ, ◌+◌, ◌*◌, ◌-◌, ◌≤◌, ◌<◌}
 use native.Mathlib.Omega.{arith}
 use mathlib.Core.Path.{◌≡◌, refl, sym, ◌∙◌, ap}
@@ -51,7 +52,7 @@ loop-b-smaller-then-not-may_match c = omega (arith, c.loop-b-test.true)
 pub loop-b-preserved-then-not-may_match : goal.loop-b-preserved-then-not-may_match
 loop-b-preserved-then-not-may_match c =
     let next-branch-here : BranchAt (program c.args.ws.now c.args.s) (c.args.r + 1) c.num-m.result (c.loop-b.b + 1) c.word-q.result = branch_next _ _ c.requires.receive_tables.read_tables.pattern_tables.ends _ _ _ _ c.loop-b.invariant.1 c.loop-b-test.true _ _ (c.branch_body-e.ensures ∙ sym (branch_here _ _ c.requires.receive_tables.read_tables.pattern_tables.ends _ _ _ _ c.loop-b.invariant.1 c.loop-b-test.true).1) c.word-q.ensures.0 in (
-  λ f o. added_kept receive _ _ 0 _ _ _ _ _ _ (c.loop-b.invariant.0 f o) (omega arith) (λ e. skipped_rules f _ (receive_skipped c.requires.receive_tables.read_tables.pattern_tables.letter_tables.ready c.args.i _ _ _ _ e c.loop-b.invariant.1 _ _ c.requires.receive_tables.branch_bits c.args.r c.requires.lettered_state.state.head c.requires.lettered_state.state.low c.requires.lettered_state.state.row c.num-m.ensures refl c.loop-b-test.true c.may_match.ensures c.if-not-may_match.true)),
+  λ f o. added_kept receive _ _ 0 _ _ _ _ _ _ (c.loop-b.invariant.0 f o) (omega arith) (λ e. skipped_rules f _ (receive_skipped c.requires.receive_tables.read_tables.pattern_tables.letter_tables.ready c.args.i _ _ _ _ e c.loop-b.invariant.1 _ _ c.requires.receive_tables.branch_bits c.args.r c.requires.lettered_state.state.head c.requires.lettered_state.state.low c.requires.lettered_state.state.row c.num-m.ensures refl c.loop-b-test.true c.may_match.ensures (ap not c.if-not-may_match.true))),
   next-branch-here,
   omega (arith, c.loop-b-test.true),
   most_kept c.requires.receive_tables.read_tables.pattern_tables.letter_tables.ready _ c.loop-b.b c.loop-b.invariant.3,
@@ -70,11 +71,8 @@ read_rules-n-requires c =
     let low-class-here : c.state_class-c.result ≤ c.args.s.rows = receive_class c.requires.receive_tables.read_tables.pattern_tables.letter_tables.ready c.args.i _ c.requires.lettered_state.state.low c.state_class-c.ensures in
     record {
         read_tables = c.requires.receive_tables.read_tables;
-        class_room = (
-    receive_room c.requires.receive_tables.read_tables.pattern_tables.letter_tables.ready _ _ c.requires.receive_tables.read_tables.pattern_tables.letter_tables _ _ _ _ _ _ _ c.requires.lettered_state.within_row (search rules) (search rules) c.requires.lettered_state.room c.loop-b.invariant.6 c.loop-b.invariant.7 _ c.loop-b.b c.num-m.result _ low-class-here c.loop-b-test.true few-here c.loop-b.invariant.3,
-    branch_pattern c.requires.receive_tables.read_tables.pattern_tables.letter_tables.ready _ _ _ _ c.loop-b.invariant.1 c.loop-b-test.true,
-  );
-        pattern = ;
+        class_room = receive_room c.requires.receive_tables.read_tables.pattern_tables.letter_tables.ready _ _ c.requires.receive_tables.read_tables.pattern_tables.letter_tables _ _ _ _ _ _ _ c.requires.lettered_state.within_row (search rules) (search rules) c.requires.lettered_state.room c.loop-b.invariant.6 c.loop-b.invariant.7 _ c.loop-b.b c.num-m.result _ low-class-here c.loop-b-test.true few-here c.loop-b.invariant.3;
+        pattern = branch_pattern c.requires.receive_tables.read_tables.pattern_tables.letter_tables.ready _ _ _ _ c.loop-b.invariant.1 c.loop-b-test.true;
     }
 
 pub overflow_step-b-in-loop-b : goal.overflow_step-b-in-loop-b

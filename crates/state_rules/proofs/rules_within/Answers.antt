@@ -14,21 +14,21 @@ tag-requires c = c.requires.rule_tables.ready.whole
 pub send_rules-requires : goal.send_rules-requires
 send_rules-requires c = record {
         send_tables = send_tables c.requires.rule_tables;
-        lettered_state = (record {
+        lettered_state = record {
     state = record { low = c.requires.i_lt_states; row = c.state_location-row.ensures; head = sym c.tag.ensures ∙ c.in-5.is };
     within_row = c.requires.row;
     room = c.requires.rule_room;
-  }, );
+  };
     }
 
 pub receive_rules-requires : goal.receive_rules-requires
 receive_rules-requires c = record {
         receive_tables = receive_tables c.requires.rule_tables;
-        lettered_state = (record {
+        lettered_state = record {
     state = record { low = c.requires.i_lt_states; row = c.state_location-row.ensures; head = sym c.tag.ensures ∙ c.in-9.is };
     within_row = c.requires.row;
     room = c.requires.rule_room;
-  }, );
+  };
     }
 
 pub state_rules-requires : goal.state_rules-requires

@@ -64,33 +64,36 @@ loop-j-init c = (λ f o. added_none send _ _ 0 _ _ (omega arith), omega arith, (
 
 pub sent_rules-n-requires : goal.sent_rules-n-requires
 sent_rules-n-requires c =
-    let low_value-here : c.flow_value-d.result ≤ c.args.s.rows = send_value c.requires.send_tables.sent_tables.letter_tables.ready c.num-target.result _ _ _ _ (range c.before.before.before).0 (range c.before.before.before).1 c.loop-j.invariant.1 c.loop-j-test.true c.flow_value-d.ensures in
-    let range-here : (c.word-from.result ≡ range_from (tables c.args.ws.now c.args.s).flow c.num-target.result) × (c.word-to.result ≡ range_to (tables c.args.ws.now c.args.s).flow c.num-target.result) = name_starts c.requires.send_tables.sent_tables.letter_tables.ready _ _ _ _ c.requires.send_tables.sent_tables.flow_starts (low-names c.before.before.before).0 c.word-from.ensures.0 c.word-to.ensures.0 in
+    let low-names-here : (c.num-target.result < c.args.s.names) × (c.num-message.result < c.args.s.names) = send_low c.requires.send_tables.sent_tables.letter_tables.ready _ _ _ c.requires.lettered_state.state.head c.num-target.ensures c.num-message.ensures in
+    let range-here : (c.word-from.result ≡ range_from (tables c.args.ws.now c.args.s).flow c.num-target.result) × (c.word-to.result ≡ range_to (tables c.args.ws.now c.args.s).flow c.num-target.result) = name_starts c.requires.send_tables.sent_tables.letter_tables.ready _ _ _ _ c.requires.send_tables.sent_tables.flow_starts low-names-here.0 c.word-from.ensures.0 c.word-to.ensures.0 in
+    let low-names-here : (c.num-target.result < c.args.s.names) × (c.num-message.result < c.args.s.names) = send_low c.requires.send_tables.sent_tables.letter_tables.ready _ _ _ c.requires.lettered_state.state.head c.num-target.ensures c.num-message.ensures in
+    let low_value-here : c.flow_value-d.result ≤ c.args.s.rows = send_value c.requires.send_tables.sent_tables.letter_tables.ready c.num-target.result _ _ _ _ range-here.0 range-here.1 c.loop-j.invariant.1 c.loop-j-test.true c.flow_value-d.ensures in
+    let range-here : (c.word-from.result ≡ range_from (tables c.args.ws.now c.args.s).flow c.num-target.result) × (c.word-to.result ≡ range_to (tables c.args.ws.now c.args.s).flow c.num-target.result) = name_starts c.requires.send_tables.sent_tables.letter_tables.ready _ _ _ _ c.requires.send_tables.sent_tables.flow_starts low-names-here.0 c.word-from.ensures.0 c.word-to.ensures.0 in
     let low-names-here : (c.num-target.result < c.args.s.names) × (c.num-message.result < c.args.s.names) = send_low c.requires.send_tables.sent_tables.letter_tables.ready _ _ _ c.requires.lettered_state.state.head c.num-target.ensures c.num-message.ensures in
     record {
         sent_tables = c.requires.send_tables.sent_tables;
-        class_room = (
-    send_room c.requires.send_tables.sent_tables.letter_tables.ready _ _ c.requires.send_tables.sent_tables.letter_tables _ _ _ _ _ _ _ c.requires.lettered_state.within_row (search rules) (search rules) c.requires.lettered_state.room c.loop-j.invariant.6 c.loop-j.invariant.7 _ c.loop-j.j _ c.flow_value-d.ensures low_value-here (c.loop-j.invariant.3 c.loop-j-test.true),
-    λ z. record {
+        class_room = send_room c.requires.send_tables.sent_tables.letter_tables.ready _ _ c.requires.send_tables.sent_tables.letter_tables _ _ _ _ _ _ _ c.requires.lettered_state.within_row (search rules) (search rules) c.requires.lettered_state.room c.loop-j.invariant.6 c.loop-j.invariant.7 _ c.loop-j.j _ c.flow_value-d.ensures low_value-here (c.loop-j.invariant.3 c.loop-j-test.true);
+        sent_to = λ z. record {
       name = low-names-here.1;
       mailed = sent_mailed c.requires.send_tables.sent_tables.letter_tables.ready c.args.i c.args.r _ _ _ _ _ c.requires.lettered_state.state.row (state_open c.requires.send_tables.sent_tables.letter_tables.ready c.args.i c.requires.send_tables.closed c.requires.lettered_state.state.low) c.requires.lettered_state.state.head
           (range-here.0 ∙ ap (range_from (tables c.args.ws.now c.args.s).flow) c.num-target.ensures) (range-here.1 ∙ ap (range_to (tables c.args.ws.now c.args.s).flow) c.num-target.ensures)
           c.loop-j.invariant.1 c.loop-j-test.true c.flow_value-d.ensures c.num-message.ensures z;
-    },
-  );
-        sent_to = ;
+    };
     }
 
 pub overflow_step-j : goal.overflow_step-j
 overflow_step-j c =
-    let order-here : (c.word-from.result ≤ c.word-to.result) × (c.word-to.result ≤ c.args.s.flows) = flow_order c.requires.send_tables.sent_tables.letter_tables.ready _ _ _ (range c).0 (range c).1 in record { fits = omega (arith, order-here.1, c.requires.send_tables.sent_tables.letter_tables.ready.limits.flows, c.loop-j-test.true) }
+    let low-names-here : (c.num-target.result < c.args.s.names) × (c.num-message.result < c.args.s.names) = send_low c.requires.send_tables.sent_tables.letter_tables.ready _ _ _ c.requires.lettered_state.state.head c.num-target.ensures c.num-message.ensures in
+    let range-here : (c.word-from.result ≡ range_from (tables c.args.ws.now c.args.s).flow c.num-target.result) × (c.word-to.result ≡ range_to (tables c.args.ws.now c.args.s).flow c.num-target.result) = name_starts c.requires.send_tables.sent_tables.letter_tables.ready _ _ _ _ c.requires.send_tables.sent_tables.flow_starts low-names-here.0 c.word-from.ensures.0 c.word-to.ensures.0 in
+    let order-here : (c.word-from.result ≤ c.word-to.result) × (c.word-to.result ≤ c.args.s.flows) = flow_order c.requires.send_tables.sent_tables.letter_tables.ready _ _ _ range-here.0 range-here.1 in record { fits = omega (arith, order-here.1, c.requires.send_tables.sent_tables.letter_tables.ready.limits.flows, c.loop-j-test.true) }
 
 pub loop-j-smaller : goal.loop-j-smaller
 loop-j-smaller c = omega (arith, c.loop-j-test.true)
 
 pub loop-j-preserved : goal.loop-j-preserved
 loop-j-preserved c =
-    let range-here : (c.word-from.result ≡ range_from (tables c.args.ws.now c.args.s).flow c.num-target.result) × (c.word-to.result ≡ range_to (tables c.args.ws.now c.args.s).flow c.num-target.result) = name_starts c.requires.send_tables.sent_tables.letter_tables.ready _ _ _ _ c.requires.send_tables.sent_tables.flow_starts (low-names c.before.before.before).0 c.word-from.ensures.0 c.word-to.ensures.0 in (
+    let low-names-here : (c.num-target.result < c.args.s.names) × (c.num-message.result < c.args.s.names) = send_low c.requires.send_tables.sent_tables.letter_tables.ready _ _ _ c.requires.lettered_state.state.head c.num-target.ensures c.num-message.ensures in
+    let range-here : (c.word-from.result ≡ range_from (tables c.args.ws.now c.args.s).flow c.num-target.result) × (c.word-to.result ≡ range_to (tables c.args.ws.now c.args.s).flow c.num-target.result) = name_starts c.requires.send_tables.sent_tables.letter_tables.ready _ _ _ _ c.requires.send_tables.sent_tables.flow_starts low-names-here.0 c.word-from.ensures.0 c.word-to.ensures.0 in (
   λ f o. added_more send _ _ 0 _ _ _ _ _ _ (c.loop-j.invariant.0 f o) c.loop-j.invariant.1 _ _ _ (added_same send _ _ _ _ _ _ _ _ (c.sent_rules-n.ensures.by_index f o) (send_same _ _ f _ _ _ _ c.flow_value-d.ensures)),
   omega (arith, c.loop-j.invariant.1),
   omega (arith, c.loop-j-test.true),
@@ -103,5 +106,6 @@ loop-j-preserved c =
 
 pub returns : goal.returns
 returns c =
-    let range-here : (c.word-from.result ≡ range_from (tables c.args.ws.now c.args.s).flow c.num-target.result) × (c.word-to.result ≡ range_to (tables c.args.ws.now c.args.s).flow c.num-target.result) = name_starts c.requires.send_tables.sent_tables.letter_tables.ready _ _ _ _ c.requires.send_tables.sent_tables.flow_starts (low-names c.before.before.before).0 c.word-from.ensures.0 c.word-to.ensures.0 in λ f o. added_same send _ _ 0 _ _ _ _ _ (c.loop-j.invariant.0 f o) (λ e. let z : c.loop-j.j ≡ c.word-to.result = omega (arith, c.loop-j.invariant.2, c.loop-j-test.false) in
+    let low-names-here : (c.num-target.result < c.args.s.names) × (c.num-message.result < c.args.s.names) = send_low c.requires.send_tables.sent_tables.letter_tables.ready _ _ _ c.requires.lettered_state.state.head c.num-target.ensures c.num-message.ensures in
+    let range-here : (c.word-from.result ≡ range_from (tables c.args.ws.now c.args.s).flow c.num-target.result) × (c.word-to.result ≡ range_to (tables c.args.ws.now c.args.s).flow c.num-target.result) = name_starts c.requires.send_tables.sent_tables.letter_tables.ready _ _ _ _ c.requires.send_tables.sent_tables.flow_starts low-names-here.0 c.word-from.ensures.0 c.word-to.ensures.0 in λ f o. added_same send _ _ 0 _ _ _ _ _ (c.loop-j.invariant.0 f o) (λ e. let z : c.loop-j.j ≡ c.word-to.result = omega (arith, c.loop-j.invariant.2, c.loop-j-test.false) in
     rw z (sym (only_gather f _ _ _) ∙ ap (only_passing f) (send_gathered c.requires.send_tables.sent_tables.letter_tables.ready _ _ _ _ _ _ _ e c.requires.lettered_state.state.row c.requires.lettered_state.state.head c.num-target.ensures c.num-message.ensures c.behind-next.ensures range-here.0 range-here.1)))

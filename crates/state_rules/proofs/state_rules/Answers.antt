@@ -15,7 +15,7 @@ use Rattle.state_rules.proofs.state_rules.Goals as goal
 
 -- a build, a function or self
 plain : (c : goal.In_default) → Plain (program c.args.ws.now c.args.s) c.state_location-r.result
-plain c = record { head = rw c.state_location-r.ensures (state_head c.requires.rule_tables.ready c.args.i c.requires.i_lt_states); not_give = λ z. c.in-1.rest.0.0.0.0.0.1 (c.tag.ensures ∙ z); not_call = λ z. c.in-1.rest.0.0.0.0.1 (c.tag.ensures ∙ z); not_send = λ z. c.in-1.rest.0.0.0.1 (c.tag.ensures ∙ z); not_spawn = λ z. c.in-1.rest.0.0.1 (c.tag.ensures ∙ z); not_case = λ z. c.in-1.rest.0.1 (c.tag.ensures ∙ z); not_receive = λ z. c.in-1.rest.1 (c.tag.ensures ∙ z) }
+plain c = record { head = rw c.state_location-r.ensures (state_head c.requires.rule_tables.ready c.args.i c.requires.i_lt_states); not_give = λ z. c.in_default.in_default-own.rest.0.0.0.0.0.1 (c.tag.ensures ∙ z); not_call = λ z. c.in_default.in_default-own.rest.0.0.0.0.1 (c.tag.ensures ∙ z); not_send = λ z. c.in_default.in_default-own.rest.0.0.0.1 (c.tag.ensures ∙ z); not_spawn = λ z. c.in_default.in_default-own.rest.0.0.1 (c.tag.ensures ∙ z); not_case = λ z. c.in_default.in_default-own.rest.0.1 (c.tag.ensures ∙ z); not_receive = λ z. c.in_default.in_default-own.rest.1 (c.tag.ensures ∙ z) }
 
 pub state_location-r-requires : goal.state_location-r-requires
 state_location-r-requires c = c.requires.rule_tables.ready
@@ -44,11 +44,11 @@ call_rules-requires c = record {
 pub send_rules-requires : goal.send_rules-requires
 send_rules-requires c = record {
         send_tables = send_tables c.requires.rule_tables;
-        lettered_state = (record {
+        lettered_state = record {
     state = record { low = c.requires.i_lt_states; row = c.state_location-r.ensures; head = sym c.tag.ensures ∙ c.in-5.is };
     within_row = letters_row c.requires.rule_tables.letter_sets_of;
     room = c.requires.rule_room;
-  }, );
+  };
     }
 
 pub spawn_rules-requires : goal.spawn_rules-requires
@@ -74,11 +74,11 @@ case_rules-requires c = record {
 pub receive_rules-requires : goal.receive_rules-requires
 receive_rules-requires c = record {
         receive_tables = receive_tables c.requires.rule_tables;
-        lettered_state = (record {
+        lettered_state = record {
     state = record { low = c.requires.i_lt_states; row = c.state_location-r.ensures; head = sym c.tag.ensures ∙ c.in-9.is };
     within_row = letters_row c.requires.rule_tables.letter_sets_of;
     room = c.requires.rule_room;
-  }, );
+  };
     }
 
 pub rest_rules-requires : goal.rest_rules-requires

@@ -11,9 +11,6 @@ use Rattle.system_listing.proofs.write_listing.Goals as goal
 pub slice_bounds-letter_count-count : goal.slice_bounds-letter_count-count
 slice_bounds-letter_count-count c = omega (arith, long _ _ _ _ _ _ c.requires.joined_tables)
 
-pub slice-bounds-letter-count-start : goal.slice-bounds-letter-count-start
-slice-bounds-letter-count-start c = omega (arith, long _ _ _ _ _ _ c.requires.joined_tables)
-
 pub letter_count-count-requires : goal.letter_count-count-requires
 letter_count-count-requires c = record { ready = c.requires.joined_tables.ready; class_letters = lent_letters _ _ _ _ _ _ c.requires.joined_tables }
 

@@ -29,7 +29,7 @@ pub returns-then-i-eq-MAX_ARITY : goal.returns-then-i-eq-MAX_ARITY
 returns-then-i-eq-MAX_ARITY t c = extended_put c.requires.heads_known c.requires.prefixed.value.arguments _ _ c.if-i-eq-MAX_ARITY.true c.insert.ensures.added c.insert.ensures.upper_bound c.if-n-most.false
 
 -- there is another digit
-within : (t : ℕ) (c : goal.Else-i-eq-MAX_ARITY) → c.args.i < max_arity
+within : (t : ℕ) (c : goal.Else-i-eq-MAX_ARITY t) → c.args.i < max_arity
 within t c = within_arity c.requires.prefixed.digit c.if-i-eq-MAX_ARITY.false
 
 pub overflow_mul-longer : goal.overflow_mul-longer

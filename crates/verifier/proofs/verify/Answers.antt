@@ -7,9 +7,8 @@ use Rattle.verifier.proofs.verify.Goals as goal
 
 pub returns : goal.returns
 returns c =
-    let o = c.before.before.before.before.before.before.before.before.before in
-    let b = o.args.message.now in
-    let l = o.args.lent.now in
+    let b = c.args.message.now in
+    let l = c.args.lent.now in
     let bytes : Bytes b = λ i. (c.type_inv.message i).fits in
     let told = c.told_of-told.ensures in
     let part = c.part_of.ensures in

@@ -1,3 +1,5 @@
+use mathlib.Core.Bool.{not}
+use mathlib.Core.Path.{ap}
 use Prim.Native.Nat.{◌-◌, ◌≤◌}
 use native.Mathlib.Omega.{arith}
 use mathlib.Core.Path.{◌≡◌, refl, ◌∙◌}
@@ -22,14 +24,14 @@ overflow_add-here c = let a = c.args in let h = bads_inside a.ws.now a.s _ _ c.l
 
 pub returns-then-not-is_settled : goal.returns-then-not-is_settled
 unfolding bads_offset
-returns-then-not-is_settled c = let a = c.args in let v = c.loop-j.invariant in light_refused a.ws.now a.s a.n c.loop-j.j c.loop-j.r _ (v.0 ∙ first_hit _ _ _ (search rules) (unsettled_at a.ws.now a.s a.n _ _ _ v.1 c.is_settled.ensures ∙ c.if-not-is_settled.true)) (search rules) v.1 refl
+returns-then-not-is_settled c = let a = c.args in let v = c.loop-j.invariant in light_refused a.ws.now a.s a.n c.loop-j.j c.loop-j.r _ (v.0 ∙ first_hit _ _ _ (search rules) (unsettled_at a.ws.now a.s a.n _ _ _ v.1 c.is_settled.ensures ∙ (ap not c.if-not-is_settled.true))) (search rules) v.1 refl
 
 pub next_bad-r-requires : goal.next_bad-r-requires
 next_bad-r-requires c =
     let a = c.args in let v = c.loop-j.invariant in record { whole = c.requires.weighing.whole; bad_stands = bads_stand a.ws.now a.s _ _ v.1 (search rules) }
 
 pub loop-j-preserved : goal.loop-j-preserved
-loop-j-preserved c = let a = c.args in let v = c.loop-j.invariant in (v.0 ∙ first_miss _ _ _ (search rules) (unsettled_at a.ws.now a.s a.n _ _ _ v.1 c.is_settled.ensures ∙ c.if-not-is_settled.false), bads_next a.ws.now a.s _ _ _ v.1 (search rules) c.next_bad-r.ensures, search rules, search rules)
+loop-j-preserved c = let a = c.args in let v = c.loop-j.invariant in (v.0 ∙ first_miss _ _ _ (search rules) (unsettled_at a.ws.now a.s a.n _ _ _ v.1 c.is_settled.ensures ∙ (ap not c.if-not-is_settled.false)), bads_next a.ws.now a.s _ _ _ v.1 (search rules) c.next_bad-r.ensures, search rules, search rules)
 
 pub returns : goal.returns
 returns c = let a = c.args in let v = c.loop-j.invariant in let e = first_end c.loop-j.j a.s.bads (unsettled a.ws.now a.s a.n) (search rules) in light_passed a.ws.now a.s a.n (omega (arith, v.0, v.2, e, c.loop-j-test.false))

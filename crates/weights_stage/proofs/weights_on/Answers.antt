@@ -28,17 +28,14 @@ returns-then-not-is_safe c =
 pub slice_bounds-light_verdict-count : goal.slice_bounds-light_verdict-count
 slice_bounds-light_verdict-count c = omega (arith, long _ _ _ _ _ _ c.requires.joined_tables)
 
-pub slice-bounds-light-verdict-start : goal.slice-bounds-light-verdict-start
-slice-bounds-light-verdict-start c = omega (arith, long _ _ _ _ _ _ c.requires.joined_tables)
-
 pub light_verdict-light-requires : goal.light_verdict-light-requires
 light_verdict-light-requires c =
     let t = c.requires.joined_tables in
     let l = c.requires.lined in
     record {
         startable = record { ready = t.ready; ends = t.ends; closed = t.closed; counted = record { counters = l.counted; few = omega (arith, l.counted, t.few) } };
-        letters_filled = ((record { ready = t.ready; class_letters = lent_letters _ _ _ _ _ _ t; letter_sets_of = t.letter_sets_of }, l.bads), (c.fill_weights.ensures.weights_table, c.requires.bounds_room.1));
-        weights_table = ;
+        letters_filled = (record { ready = t.ready; class_letters = lent_letters _ _ _ _ _ _ t; letter_sets_of = t.letter_sets_of }, l.bads);
+        weights_table = (c.fill_weights.ensures.weights_table, c.requires.bounds_room.1);
     }
 
 pub shape_of-weights-then-not-is_safe-2 : goal.shape_of-weights-then-not-is_safe-2

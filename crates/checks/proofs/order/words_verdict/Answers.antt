@@ -54,9 +54,10 @@ name_check-unique-requires c =
     }
 
 pub returns-then-not-is_safe-2 : goal.returns-then-not-is_safe-2
-unfolding from_4
+unfolding from_4 from_3
 returns-then-not-is_safe-2 c =
-    let goes-4-here : Goes c.before.before.before.before.before.before from_4 = goes_by _ _ _ (in_order _ _ _) (rows_pass c) in let z = ends_with _ _ _ _ _ _ _ _ goes-4-here c.name_check-unique.ensures.value c.is_safe-2.ensures c.if-not-is_safe-2.true in record { value = z.0; lent_after = z.1 }
+    let rows_pass-here : Passes c.before.before.before.before.before.before (λ ws s. row_check_of (program ws s)) = passed _ _ _ (row_refuses _) c.row_check-rows.ensures c.is_safe.ensures c.if-not-is_safe.false in
+    let goes-4-here : Goes c.before.before.before.before.before.before from_4 = goes_by _ _ _ (in_order _ _ _) rows_pass-here in let z = ends_with _ _ _ _ _ _ _ _ goes-4-here c.name_check-unique.ensures.value c.is_safe-2.ensures c.if-not-is_safe-2.true in record { value = z.0; lent_after = z.1 }
 
 pub fill_ends-requires : goal.fill_ends-requires
 fill_ends-requires c = record { whole = c.requires.parts_whole.program; rows_in_bounds = omega (arith, c.requires.parts_whole.limits.rows.1, c.rule_words16-narrow.ensures.room) }
@@ -73,9 +74,12 @@ scope_check-scopes-requires c =
     let rows_pass-here : Passes c.before.before.before.before.before.before (λ ws s. row_check_of (program ws s)) = passed _ _ _ (row_refuses _) c.row_check-rows.ensures c.is_safe.ensures c.if-not-is_safe.false in record { fitted = record { whole = c.requires.parts_whole.program; fits = rows_pass-here }; ends = (c.fill_ends.ensures, c.name_check-unique.ensures.binder_table) }
 
 pub returns-then-not-is_safe-3 : goal.returns-then-not-is_safe-3
-unfolding from_5
+unfolding from_5 from_3 from_4
 returns-then-not-is_safe-3 c =
-    let goes-5-here : Goes c.before.before.before.before.before.before.before.before.before.before.before.before from_5 = goes_by _ _ _ (goes-4 c.before.before.before.before.before.before) (names_pass c) in let z = ends_with _ _ _ _ _ _ _ _ goes-5-here c.scope_check-scopes.ensures c.is_safe-3.ensures c.if-not-is_safe-3.true in record { value = z.0; lent_after = z.1 }
+    let rows_pass-here : Passes c.before.before.before.before.before.before (λ ws s. row_check_of (program ws s)) = passed _ _ _ (row_refuses _) c.row_check-rows.ensures c.is_safe.ensures c.if-not-is_safe.false in
+    let names-pass-here : Passes c.before.before.before.before.before.before.before.before.before.before.before.before (λ ws s. name_check_of (program ws s)) = passed _ _ _ (name_refuses _) c.name_check-unique.ensures.value c.is_safe-2.ensures c.if-not-is_safe-2.false in
+    let goes-4-here : Goes c.before.before.before.before.before.before from_4 = goes_by _ _ _ (in_order _ _ _) rows_pass-here in
+    let goes-5-here : Goes c.before.before.before.before.before.before.before.before.before.before.before.before from_5 = goes_by _ _ _ goes-4-here names-pass-here in let z = ends_with _ _ _ _ _ _ _ _ goes-5-here c.scope_check-scopes.ensures c.is_safe-3.ensures c.if-not-is_safe-3.true in record { value = z.0; lent_after = z.1 }
 
 scopes_pass : (c : goal.Else-not-is_safe-3) → Passes c.before.before.before.before.before.before.before.before.before.before.before.before.before.before.before.before.before.before.before.before.before (λ ws s. scope_check_of (program ws s))
 scopes_pass c = passed _ _ _ (scopes_refuse _ (rows_pass c.before.before.before.before.before.before.before.before.before.before.before.before.before.before.before) (names_pass c.before.before.before.before.before.before.before.before.before)) c.scope_check-scopes.ensures c.is_safe-3.ensures c.if-not-is_safe-3.false
@@ -85,9 +89,15 @@ unfolding from_5
 goes-6 c = goes_by _ _ _ (goes-5 c.before.before.before.before.before.before.before.before.before) (scopes_pass c)
 
 pub returns-then-not-is_safe-4 : goal.returns-then-not-is_safe-4
-unfolding from_6
+unfolding from_6 from_3 from_4 from_5
 returns-then-not-is_safe-4 c =
-    let goes-6-here : Goes c.before.before.before.before.before.before.before.before.before.before.before.before.before.before.before.before.before.before.before.before.before from_6 = goes_by _ _ _ (goes-5 c.before.before.before.before.before.before.before.before.before) (scopes_pass c) in let z = ends_with _ _ _ _ _ _ _ _ goes-6-here c.bad_check-bads.ensures c.is_safe-4.ensures c.if-not-is_safe-4.true in record { value = z.0; lent_after = z.1 }
+    let rows_pass-here : Passes c.before.before.before.before.before.before (λ ws s. row_check_of (program ws s)) = passed _ _ _ (row_refuses _) c.row_check-rows.ensures c.is_safe.ensures c.if-not-is_safe.false in
+    let names-pass-here : Passes c.before.before.before.before.before.before.before.before.before.before.before.before (λ ws s. name_check_of (program ws s)) = passed _ _ _ (name_refuses _) c.name_check-unique.ensures.value c.is_safe-2.ensures c.if-not-is_safe-2.false in
+    let goes-4-here : Goes c.before.before.before.before.before.before from_4 = goes_by _ _ _ (in_order _ _ _) rows_pass-here in
+    let rows_pass-here : Passes c.before.before.before.before.before.before (λ ws s. row_check_of (program ws s)) = passed _ _ _ (row_refuses _) c.row_check-rows.ensures c.is_safe.ensures c.if-not-is_safe.false in
+    let scopes-pass-here : Passes c.before.before.before.before.before.before.before.before.before.before.before.before.before.before.before.before.before.before.before.before.before (λ ws s. scope_check_of (program ws s)) = passed _ _ _ (scopes_refuse _ rows_pass-here names-pass-here) c.scope_check-scopes.ensures c.is_safe-3.ensures c.if-not-is_safe-3.false in
+    let goes-5-here : Goes c.before.before.before.before.before.before.before.before.before.before.before.before from_5 = goes_by _ _ _ goes-4-here names-pass-here in
+    let goes-6-here : Goes c.before.before.before.before.before.before.before.before.before.before.before.before.before.before.before.before.before.before.before.before.before from_6 = goes_by _ _ _ goes-5-here scopes-pass-here in let z = ends_with _ _ _ _ _ _ _ _ goes-6-here c.bad_check-bads.ensures c.is_safe-4.ensures c.if-not-is_safe-4.true in record { value = z.0; lent_after = z.1 }
 
 bads-pass : (c : goal.Else-not-is_safe-4) → Passes c.before.before.before.before.before.before.before.before.before.before.before.before.before.before.before.before.before.before.before.before.before.before.before.before (λ ws s. bad_check_of ws s (program ws s))
 bads-pass c = passed _ _ _ (bad_refuses _ _ _) c.bad_check-bads.ensures c.is_safe-4.ensures c.if-not-is_safe-4.false
@@ -97,9 +107,16 @@ unfolding from_6
 goes-7 c = goes_by _ _ _ (goes-6 c.before.before.before) (bads-pass c)
 
 pub returns-then-not-is_safe-5 : goal.returns-then-not-is_safe-5
-unfolding from_7
+unfolding from_7 from_3 from_4 from_5 from_6
 returns-then-not-is_safe-5 c =
-    let goes-7-here : Goes c.before.before.before.before.before.before.before.before.before.before.before.before.before.before.before.before.before.before.before.before.before.before.before.before from_7 = goes_by _ _ _ (goes-6 c.before.before.before) (bads-pass c) in let z = ends_with _ _ _ _ _ _ _ _ goes-7-here c.entry_check-entries.ensures c.is_safe-5.ensures c.if-not-is_safe-5.true in record { value = z.0; lent_after = z.1 }
+    let names-pass-here : Passes c.before.before.before.before.before.before.before.before.before.before.before.before (λ ws s. name_check_of (program ws s)) = passed _ _ _ (name_refuses _) c.name_check-unique.ensures.value c.is_safe-2.ensures c.if-not-is_safe-2.false in
+    let goes-4-here : Goes c.before.before.before.before.before.before from_4 = goes_by _ _ _ (in_order _ _ _) (rows_pass c) in
+    let rows_pass-here : Passes c.before.before.before.before.before.before (λ ws s. row_check_of (program ws s)) = passed _ _ _ (row_refuses _) c.row_check-rows.ensures c.is_safe.ensures c.if-not-is_safe.false in
+    let scopes-pass-here : Passes c.before.before.before.before.before.before.before.before.before.before.before.before.before.before.before.before.before.before.before.before.before (λ ws s. scope_check_of (program ws s)) = passed _ _ _ (scopes_refuse _ rows_pass-here names-pass-here) c.scope_check-scopes.ensures c.is_safe-3.ensures c.if-not-is_safe-3.false in
+    let goes-5-here : Goes c.before.before.before.before.before.before.before.before.before.before.before.before from_5 = goes_by _ _ _ goes-4-here names-pass-here in
+    let bads-pass-here : Passes c.before.before.before.before.before.before.before.before.before.before.before.before.before.before.before.before.before.before.before.before.before.before.before.before (λ ws s. bad_check_of ws s (program ws s)) = passed _ _ _ (bad_refuses _ _ _) c.bad_check-bads.ensures c.is_safe-4.ensures c.if-not-is_safe-4.false in
+    let goes-6-here : Goes c.before.before.before.before.before.before.before.before.before.before.before.before.before.before.before.before.before.before.before.before.before from_6 = goes_by _ _ _ goes-5-here scopes-pass-here in
+    let goes-7-here : Goes c.before.before.before.before.before.before.before.before.before.before.before.before.before.before.before.before.before.before.before.before.before.before.before.before from_7 = goes_by _ _ _ goes-6-here bads-pass-here in let z = ends_with _ _ _ _ _ _ _ _ goes-7-here c.entry_check-entries.ensures c.is_safe-5.ensures c.if-not-is_safe-5.true in record { value = z.0; lent_after = z.1 }
 
 entries-pass : (c : goal.Else-not-is_safe-5) → Passes c.before.before.before.before.before.before.before.before.before.before.before.before.before.before.before.before.before.before.before.before.before.before.before.before.before.before.before (λ ws s. entry_check_of s (program ws s) (tables ws s))
 entries-pass c = passed _ _ _ (entry_refuses _ _ _) c.entry_check-entries.ensures c.is_safe-5.ensures c.if-not-is_safe-5.false
@@ -110,23 +127,35 @@ goes-8 c = goes_by _ _ _ (goes-7 c.before.before.before) (entries-pass c)
 
 pub open_verdict-open-requires : goal.open_verdict-open-requires
 open_verdict-open-requires c =
-    let all-ready-here : Ready c.args.ws.now c.args.s = ready _ _ c.requires.parts_whole (program_passes _ (rows_pass c.before.before.before.before.before.before.before.before.before.before.before.before.before.before.before.before.before.before.before.before.before) (names_pass c.before.before.before.before.before.before.before.before.before.before.before.before.before.before.before) (scopes_pass c.before.before.before.before.before.before)) (entries-pass c) in
+    let names-pass-here : Passes c.before.before.before.before.before.before.before.before.before.before.before.before (λ ws s. name_check_of (program ws s)) = passed _ _ _ (name_refuses _) c.name_check-unique.ensures.value c.is_safe-2.ensures c.if-not-is_safe-2.false in
+    let rows_pass-here : Passes c.before.before.before.before.before.before (λ ws s. row_check_of (program ws s)) = passed _ _ _ (row_refuses _) c.row_check-rows.ensures c.is_safe.ensures c.if-not-is_safe.false in
+    let entries-pass-here : Passes c.before.before.before.before.before.before.before.before.before.before.before.before.before.before.before.before.before.before.before.before.before.before.before.before.before.before.before (λ ws s. entry_check_of s (program ws s) (tables ws s)) = passed _ _ _ (entry_refuses _ _ _) c.entry_check-entries.ensures c.is_safe-5.ensures c.if-not-is_safe-5.false in
+    let scopes-pass-here : Passes c.before.before.before.before.before.before.before.before.before.before.before.before.before.before.before.before.before.before.before.before.before (λ ws s. scope_check_of (program ws s)) = passed _ _ _ (scopes_refuse _ rows_pass-here names-pass-here) c.scope_check-scopes.ensures c.is_safe-3.ensures c.if-not-is_safe-3.false in
+    let names-pass-here : Passes c.before.before.before.before.before.before.before.before.before.before.before.before (λ ws s. name_check_of (program ws s)) = passed _ _ _ (name_refuses _) c.name_check-unique.ensures.value c.is_safe-2.ensures c.if-not-is_safe-2.false in
+    let rows_pass-here : Passes c.before.before.before.before.before.before (λ ws s. row_check_of (program ws s)) = passed _ _ _ (row_refuses _) c.row_check-rows.ensures c.is_safe.ensures c.if-not-is_safe.false in
+    let all-ready-here : Ready c.args.ws.now c.args.s = ready _ _ c.requires.parts_whole (program_passes _ rows_pass-here names-pass-here scopes-pass-here) entries-pass-here in
     let r = c.requires.parts_whole.limits in
     record {
         le_most = omega arith;
-        openable = (record {
+        openable = record {
         ready = all-ready-here;
         layout = c.fill_ends.ensures;
         unfitted = c.requires.unfitted;
         names = omega (arith, r.names.1, c.row_words16-starts.ensures.room);
         states = omega (arith, r.states, c.row_words16-branches.ensures.room);
-      }, );
+      };
     }
 
 pub returns-then-not-is_safe-6 : goal.returns-then-not-is_safe-6
-unfolding from_8
+unfolding from_8 from_4 from_5 from_6 from_7
 returns-then-not-is_safe-6 c =
-    let goes-8-here : Goes c.before.before.before.before.before.before.before.before.before.before.before.before.before.before.before.before.before.before.before.before.before.before.before.before.before.before.before from_8 = goes_by _ _ _ (goes-7 c.before.before.before) (entries-pass c) in let z = ends_with _ _ _ _ _ _ _ _ goes-8-here c.open_verdict-open.ensures.says c.is_safe-6.ensures c.if-not-is_safe-6.true in record { value = z.0; lent_after = z.1 }
+    let scopes-pass-here : Passes c.before.before.before.before.before.before.before.before.before.before.before.before.before.before.before.before.before.before.before.before.before (λ ws s. scope_check_of (program ws s)) = passed _ _ _ (scopes_refuse _ (rows_pass c.before.before.before.before.before.before.before.before.before.before.before.before.before.before.before) (names_pass c.before.before.before.before.before.before.before.before.before)) c.scope_check-scopes.ensures c.is_safe-3.ensures c.if-not-is_safe-3.false in
+    let goes-5-here : Goes c.before.before.before.before.before.before.before.before.before.before.before.before from_5 = goes_by _ _ _ (goes-4 c.before.before.before.before.before.before) (names_pass c) in
+    let bads-pass-here : Passes c.before.before.before.before.before.before.before.before.before.before.before.before.before.before.before.before.before.before.before.before.before.before.before.before (λ ws s. bad_check_of ws s (program ws s)) = passed _ _ _ (bad_refuses _ _ _) c.bad_check-bads.ensures c.is_safe-4.ensures c.if-not-is_safe-4.false in
+    let goes-6-here : Goes c.before.before.before.before.before.before.before.before.before.before.before.before.before.before.before.before.before.before.before.before.before from_6 = goes_by _ _ _ goes-5-here scopes-pass-here in
+    let entries-pass-here : Passes c.before.before.before.before.before.before.before.before.before.before.before.before.before.before.before.before.before.before.before.before.before.before.before.before.before.before.before (λ ws s. entry_check_of s (program ws s) (tables ws s)) = passed _ _ _ (entry_refuses _ _ _) c.entry_check-entries.ensures c.is_safe-5.ensures c.if-not-is_safe-5.false in
+    let goes-7-here : Goes c.before.before.before.before.before.before.before.before.before.before.before.before.before.before.before.before.before.before.before.before.before.before.before.before from_7 = goes_by _ _ _ goes-6-here bads-pass-here in
+    let goes-8-here : Goes c.before.before.before.before.before.before.before.before.before.before.before.before.before.before.before.before.before.before.before.before.before.before.before.before.before.before.before from_8 = goes_by _ _ _ goes-7-here entries-pass-here in let z = ends_with _ _ _ _ _ _ _ _ goes-8-here c.open_verdict-open.ensures.says c.is_safe-6.ensures c.if-not-is_safe-6.true in record { value = z.0; lent_after = z.1 }
 
 closed-pass : (c : goal.Else-not-is_safe-6) → Passes c.before.before.before.before.before.before.before.before.before.before.before.before.before.before.before.before.before.before.before.before.before.before.before.before.before.before.before.before.before.before.before.before.before.before.before.before.before.before.before.before (λ ws s. open_check s (program ws s) (tables ws s))
 closed-pass c = passed _ _ _ (open_refuses _ _ _) c.open_verdict-open.ensures.says c.is_safe-6.ensures c.if-not-is_safe-6.false
@@ -158,9 +187,15 @@ slice_bounds-system_verdict-end c =
 
 pub system_verdict-requires : goal.system_verdict-requires
 system_verdict-requires c =
+    let names-pass-here : Passes c.before.before.before.before.before.before.before.before.before.before.before.before (λ ws s. name_check_of (program ws s)) = passed _ _ _ (name_refuses _) c.name_check-unique.ensures.value c.is_safe-2.ensures c.if-not-is_safe-2.false in
+    let rows_pass-here : Passes c.before.before.before.before.before.before (λ ws s. row_check_of (program ws s)) = passed _ _ _ (row_refuses _) c.row_check-rows.ensures c.is_safe.ensures c.if-not-is_safe.false in
+    let entries-pass-here : Passes c.before.before.before.before.before.before.before.before.before.before.before.before.before.before.before.before.before.before.before.before.before.before.before.before.before.before.before (λ ws s. entry_check_of s (program ws s) (tables ws s)) = passed _ _ _ (entry_refuses _ _ _) c.entry_check-entries.ensures c.is_safe-5.ensures c.if-not-is_safe-5.false in
+    let scopes-pass-here : Passes c.before.before.before.before.before.before.before.before.before.before.before.before.before.before.before.before.before.before.before.before.before (λ ws s. scope_check_of (program ws s)) = passed _ _ _ (scopes_refuse _ rows_pass-here names-pass-here) c.scope_check-scopes.ensures c.is_safe-3.ensures c.if-not-is_safe-3.false in
+    let names-pass-here : Passes c.before.before.before.before.before.before.before.before.before.before.before.before (λ ws s. name_check_of (program ws s)) = passed _ _ _ (name_refuses _) c.name_check-unique.ensures.value c.is_safe-2.ensures c.if-not-is_safe-2.false in
+    let rows_pass-here : Passes c.before.before.before.before.before.before (λ ws s. row_check_of (program ws s)) = passed _ _ _ (row_refuses _) c.row_check-rows.ensures c.is_safe.ensures c.if-not-is_safe.false in
     let closed-pass-here : Passes c.before.before.before.before.before.before.before.before.before.before.before.before.before.before.before.before.before.before.before.before.before.before.before.before.before.before.before.before.before.before.before.before.before.before.before.before.before.before.before.before (λ ws s. open_check s (program ws s) (tables ws s)) = passed _ _ _ (open_refuses _ _ _) c.open_verdict-open.ensures.says c.is_safe-6.ensures c.if-not-is_safe-6.false in
     let narrow-long-here : length c.fill_ends.new.1.1.0 ≡ rule_words = c.fill_ends.auto.1.1.0 ∙ c.rule_words16-narrow.ensures.room in
-    let all-ready-here : Ready c.args.ws.now c.args.s = ready _ _ c.requires.parts_whole (program_passes _ (rows_pass c.before.before.before.before.before.before.before.before.before.before.before.before.before.before.before.before.before.before.before.before.before) (names_pass c.before.before.before.before.before.before.before.before.before.before.before.before.before.before.before) (scopes_pass c.before.before.before.before.before.before)) (entries-pass c) in
+    let all-ready-here : Ready c.args.ws.now c.args.s = ready _ _ c.requires.parts_whole (program_passes _ rows_pass-here names-pass-here scopes-pass-here) entries-pass-here in
     let bads-pass-here : Passes c.before.before.before.before.before.before.before.before.before.before.before.before.before.before.before.before.before.before.before.before.before.before.before.before (λ ws s. bad_check_of ws s (program ws s)) = passed _ _ _ (bad_refuses _ _ _) c.bad_check-bads.ensures c.is_safe-4.ensures c.if-not-is_safe-4.false in
     let safe = safe_only _ (sym c.is_safe-6.ensures ∙ c.if-not-is_safe-6.false) in
     let long = narrow-long-here in
@@ -171,5 +206,12 @@ pub shape_of-fitting : goal.shape_of-fitting
 shape_of-fitting c = c.open_verdict-open.auto.1.1.1.1.1.0
 
 pub returns : goal.returns
+unfolding from_5 from_6 from_7 from_8
 returns c =
-    let goes-22-here : Goes c.before.before.before.before.before.before.before.before.before.before.before.before.before.before.before.before.before.before.before.before.before.before.before.before.before.before.before.before.before.before.before.before.before.before.before.before.before.before.before.before from_22 = goes_by _ _ _ (goes-8 c.before.before.before.before.before.before.before.before.before.before.before.before.before) (closed-pass c) in record { value = c.system_verdict.ensures.value ∙ sym (ap answer goes-22-here); lent_after = c.system_verdict.ensures.lent_after }
+    let bads-pass-here : Passes c.before.before.before.before.before.before.before.before.before.before.before.before.before.before.before.before.before.before.before.before.before.before.before.before (λ ws s. bad_check_of ws s (program ws s)) = passed _ _ _ (bad_refuses _ _ _) c.bad_check-bads.ensures c.is_safe-4.ensures c.if-not-is_safe-4.false in
+    let goes-6-here : Goes c.before.before.before.before.before.before.before.before.before.before.before.before.before.before.before.before.before.before.before.before.before from_6 = goes_by _ _ _ (goes-5 c.before.before.before.before.before.before.before.before.before) (scopes_pass c) in
+    let entries-pass-here : Passes c.before.before.before.before.before.before.before.before.before.before.before.before.before.before.before.before.before.before.before.before.before.before.before.before.before.before.before (λ ws s. entry_check_of s (program ws s) (tables ws s)) = passed _ _ _ (entry_refuses _ _ _) c.entry_check-entries.ensures c.is_safe-5.ensures c.if-not-is_safe-5.false in
+    let goes-7-here : Goes c.before.before.before.before.before.before.before.before.before.before.before.before.before.before.before.before.before.before.before.before.before.before.before.before from_7 = goes_by _ _ _ goes-6-here bads-pass-here in
+    let closed-pass-here : Passes c.before.before.before.before.before.before.before.before.before.before.before.before.before.before.before.before.before.before.before.before.before.before.before.before.before.before.before.before.before.before.before.before.before.before.before.before.before.before.before.before (λ ws s. open_check s (program ws s) (tables ws s)) = passed _ _ _ (open_refuses _ _ _) c.open_verdict-open.ensures.says c.is_safe-6.ensures c.if-not-is_safe-6.false in
+    let goes-8-here : Goes c.before.before.before.before.before.before.before.before.before.before.before.before.before.before.before.before.before.before.before.before.before.before.before.before.before.before.before from_8 = goes_by _ _ _ goes-7-here entries-pass-here in
+    let goes-22-here : Goes c.before.before.before.before.before.before.before.before.before.before.before.before.before.before.before.before.before.before.before.before.before.before.before.before.before.before.before.before.before.before.before.before.before.before.before.before.before.before.before.before from_22 = goes_by _ _ _ goes-8-here closed-pass-here in record { value = c.system_verdict.ensures.value ∙ sym (ap answer goes-22-here); lent_after = c.system_verdict.ensures.lent_after }

@@ -10,9 +10,6 @@ all_letters-requires t c = c.requires.lettered
 pub slice_bounds-letter_words-count : goal.slice_bounds-letter_words-count
 slice_bounds-letter_words-count t c = omega (arith, letters_from _ _ _ _ _ _ _ c.requires.lettered)
 
-pub slice-bounds-letter-words-start : goal.slice-bounds-letter-words-start
-slice-bounds-letter-words-start t c = omega (arith, letters_from _ _ _ _ _ _ _ c.requires.lettered)
-
 pub letter_words-words-requires : goal.letter_words-words-requires
 letter_words-words-requires t c =
     let l = c.requires.lettered in

@@ -7,9 +7,6 @@ use Rattle.checks.proofs.system.lettered_verdict.Goals as goal
 pub slice_bounds-letter_at-count : goal.slice_bounds-letter_at-count
 slice_bounds-letter_at-count c = omega (arith, letters_from _ _ _ _ _ _ _ c.requires.lettered)
 
-pub slice-bounds-letter-at-start : goal.slice-bounds-letter-at-start
-slice-bounds-letter-at-start c = omega (arith, letters_from _ _ _ _ _ _ _ c.requires.lettered)
-
 pub fill_letters-requires : goal.fill_letters-requires
 fill_letters-requires c =
     let l = c.requires.lettered in
@@ -27,7 +24,7 @@ fill_reads-requires c =
         ends = l.closed_tables.ends;
         letter_tables = record { ready = l.closed_tables.ready; few = counters_few _ _ _ _ _ _ _ l; class_letters = lent_classes _ _ _ _ _ _ _ l; letter_sets_of = c.fill_letters.ensures };
       };
-        owners_room = (owners_kept _ _ _ _ c.requires.owners_room (search rules), );
+        owners_room = owners_kept _ _ _ _ c.requires.owners_room (search rules);
     }
 
 pub bounds_verdict-requires : goal.bounds_verdict-requires

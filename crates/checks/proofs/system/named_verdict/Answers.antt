@@ -17,9 +17,6 @@ fill_names-requires c = record { ready = c.requires.closed_tables.ready; names_i
 pub slice_bounds-fill_codes-count : goal.slice_bounds-fill_codes-count
 slice_bounds-fill_codes-count c = omega (arith, c.requires.closed_tables.room)
 
-pub slice-bounds-fill-codes-start : goal.slice-bounds-fill-codes-start
-slice-bounds-fill-codes-start c = omega (arith, c.requires.closed_tables.room)
-
 pub fill_codes-l-requires : goal.fill_codes-l-requires
 fill_codes-l-requires c =
     let k = c.requires.closed_tables in
@@ -63,14 +60,14 @@ sets_verdict-requires c =
     let all = all_counted _ _ _ c.fill_codes-l.ensures.value (counters_fit _ _ _ (passed _ _ _ (then_counters_refuse _ _ _) c.counters_verdict-counters.ensures c.is_safe.ensures c.if-not-is_safe.false)) in
     record {
         le_most = omega arith;
-        lettered = (record {
+        lettered = record {
         closed_tables = closed_kept _ _ _ _ c.fill_codes-l.new.1.1.1.1.0 k c.fill_codes-l.auto.1.1.1.1.0;
         name_heads = c.fill_names.ensures;
         class_letters = letters_kept _ _ _ _ c.fill_codes-l.new.1.1.1.1.0 k (c.fill_codes-l.ensures.class_letters (omega (arith, all.1)));
         coded = c.fill_codes-l.ensures.coded (omega (arith, all.1));
         formed = record { counted = all.0; in_form = passed _ _ _ (form_refuses _ _ _) c.form_verdict-form.ensures c.is_safe-2.ensures c.if-not-is_safe-2.false; bads = k.bads };
         few = all.1;
-      }, );
+      };
     }
 
 pub shape_of-names : goal.shape_of-names

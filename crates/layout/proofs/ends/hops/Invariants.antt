@@ -5,7 +5,7 @@ use borrow.Author.Rules.{rules}
 use Rattle.layout.proofs.ends.hops.Given as goal
 
 abbrev pub invariant-loop-left : goal.invariant-loop-left
-invariant-loop-left l = hop l.table l.n l.q ≡ hop l.table l.left l.at
+invariant-loop-left l = hop l.afters l.n l.q ≡ hop l.afters l.left l.at
 
 abbrev pub decreases-loop-left : goal.decreases-loop-left
 decreases-loop-left l = l.left

@@ -27,13 +27,13 @@ fill_equals-requires c =
     let f = c.loop-q.invariant.1 in
     record {
         build_ready = fill_builds h;
-        held_name = (record {
+        held_name = record {
         names = h.names;
         row = f.may_room.row _ (search rules);
         clear = rw (one_up c.loop-q.q (search rules)) f.may_clear;
         held = sym c.tag-kind.ensures ∙ c.if-kind-eq-TAG_PATTERN_HELD.true;
         low = search rules;
-      }, );
+      };
     }
 
 pub loop-q-preserved-then-kind-eq-TAG_PATTERN_HELD : goal.loop-q-preserved-then-kind-eq-TAG_PATTERN_HELD

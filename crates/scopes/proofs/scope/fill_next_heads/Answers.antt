@@ -9,6 +9,7 @@ use mathlib.Core.Logic.{⊎_elim}
 use mathlib.Core.Path.{◌≡◌, refl, sym, ◌∙◌, ap}
 use Rattle.scopes.proofs.Scoping.{Heads, heads_set, head_here, head_behind, head_end}
 use Rattle.scopes.proofs.scope.fill_next_heads.Goals as goal
+use Rattle.scopes.proofs.scope.fill_next_heads.Goals.{then-is_head, else-is_head}
 
 pub loop-r-init : goal.loop-r-init
 unfolding program columns
@@ -24,6 +25,7 @@ pub is_head-requires : goal.is_head-requires
 is_head-requires c = tt
 
 pub overflow_cast-table : goal.overflow_cast-table
+unfolding columns program
 overflow_cast-table c =
     let joined_here : let a = c.args in (c.if-is_head.head ≤ a.s.rows) × (c.if-is_head.head ≡ next_head (program a.ws.now a.s) (c.loop-r.r - 1)) = let l = c.loop-r in
     let t = c.tag.ensures in
@@ -31,9 +33,10 @@ overflow_cast-table c =
     let e = ap is_head_of (sym t) ∙ sym h in
     let more = c.loop-r-test.true in
     let below : l.r - 1 < c.args.s.rows = omega (arith, more, l.invariant.0) in
-    ⊎_elim
-    (λ w. (omega (arith, w.1, l.invariant.0), w.1 ∙ head_here _ (l.r - 1) below (e ∙ w.0.taken)))
-    (λ w. (omega (arith, w.1, l.invariant.2), head_behind _ l.r (l.r - 1) _ (omega (arith, more)) below (e ∙ w.0.left) (w.1 ∙ l.invariant.3))) c.if-is_head.branch in omega (arith, joined_here.0, c.requires.whole.rows)
+    elim c.if-is_head.branch [
+      then-is_head w ↦ (omega (arith, w.head-is, l.invariant.0), w.head-is ∙ head_here _ (l.r - 1) below (e ∙ w.if-is_head.true))
+    | else-is_head w ↦ (omega (arith, w.head-is, l.invariant.2), head_behind _ l.r (l.r - 1) _ (omega (arith, more)) below (e ∙ w.if-is_head.false) (w.head-is ∙ l.invariant.3))
+    ] in omega (arith, joined_here.0, c.requires.whole.rows)
 
 pub offset_bounds-table-r : goal.offset_bounds-table-r
 offset_bounds-table-r c = record { fits = omega (arith, c.loop-r.invariant.0, c.requires.whole.rows) }
@@ -53,9 +56,10 @@ loop-r-preserved c =
     let e = ap is_head_of (sym t) ∙ sym h in
     let more = c.loop-r-test.true in
     let below : l.r - 1 < c.args.s.rows = omega (arith, more, l.invariant.0) in
-    ⊎_elim
-    (λ w. (omega (arith, w.1, l.invariant.0), w.1 ∙ head_here _ (l.r - 1) below (e ∙ w.0.taken)))
-    (λ w. (omega (arith, w.1, l.invariant.2), head_behind _ l.r (l.r - 1) _ (omega (arith, more)) below (e ∙ w.0.left) (w.1 ∙ l.invariant.3))) c.if-is_head.branch in
+    elim c.if-is_head.branch [
+      then-is_head w ↦ (omega (arith, w.head-is, l.invariant.0), w.head-is ∙ head_here _ (l.r - 1) below (e ∙ w.if-is_head.true))
+    | else-is_head w ↦ (omega (arith, w.head-is, l.invariant.2), head_behind _ l.r (l.r - 1) _ (omega (arith, more)) below (e ∙ w.if-is_head.false) (w.head-is ∙ l.invariant.3))
+    ] in
     let l = c.loop-r in
     let j = joined_here in (
       omega (arith, l.invariant.0),

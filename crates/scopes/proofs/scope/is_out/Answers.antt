@@ -28,9 +28,10 @@ is_in_scope-requires c =
     let u = (ap uses (sym c.tag.ensures) ∙ (sym c.uses.ensures ∙ c.if-not-uses.false)) in
     let b = used_below (program a.ws.now a.s) a.r c.requires.laid.fitted.fits c.requires.binder_table.1 u in
     (u, c.entry-b.ensures ∙ c.requires.binder_table.0.binders _ (omega (arith, c.num.ensures))) in
-    let (c.requires.laid, (c.requires.binder_table)) = (c.requires.laid, (c.requires.binder_table)) in record { laid = c.requires.laid; r_lt_rows = (c.requires.binder_table.1, c.if-b-s.false, binder_binds _ _ _ found-here.1 c.if-b-s.false) }
+    record { laid = c.requires.laid; r_lt_rows = (c.requires.binder_table.1, c.if-b-s.false, binder_binds _ _ _ found-here.1 c.if-b-s.false) }
 
 pub returns : goal.returns
+unfolding columns program
 returns c =
     let found-here : let a = c.args in let p = program a.ws.now a.s in (uses (tag p a.r) ≡ true) × (c.entry-b.result ≡ binder p c.num.result) = let a = c.args in
     let u = (ap uses (sym c.tag.ensures) ∙ (sym c.uses.ensures ∙ c.if-not-uses.false)) in

@@ -1,3 +1,5 @@
+use mathlib.Core.Bool.{not}
+use mathlib.Core.Path.{ap}
 use native.Mathlib.Omega.{arith}
 use Rattle.lists.proofs.Facts.{states_rise}
 use Rattle.stated.proofs.Giving.{return_some, return_low, give_here, call_name, rest_here, heads_upto, gives_nothing, gives_none, gives_lack, gives_on, name_given}
@@ -26,7 +28,7 @@ includes-requires c = record {
     }
 
 pub returns-then-not-includes : goal.returns-then-not-includes
-returns-then-not-includes c = name_given _ _ _ _ _ _ c.num-given.ensures (gives_lack _ _ (states_rise c.requires.flow_ready.ready) _ _ _ _ _ _ c.state_return-call.ensures c.state_class-c.ensures c.heads_from-from.ensures c.heads_to-to.ensures _ _ c.if-from-to.false c.num-name.ensures c.includes.ensures c.if-not-includes.true)
+returns-then-not-includes c = name_given _ _ _ _ _ _ c.num-given.ensures (gives_lack _ _ (states_rise c.requires.flow_ready.ready) _ _ _ _ _ _ c.state_return-call.ensures c.state_class-c.ensures c.heads_from-from.ensures c.heads_to-to.ensures _ _ c.if-from-to.false c.num-name.ensures c.includes.ensures (ap not c.if-not-includes.true))
 
 pub overflow_add-next : goal.overflow_add-next
 overflow_add-next c = omega (arith, return_low c.requires.flow_ready.ready _ _ c.requires.i_lt_states.0 c.state_return-call.ensures c.if-call-s.false)
@@ -44,4 +46,4 @@ pub go_on-requires : goal.go_on-requires
 go_on-requires c = record { ready = c.requires.flow_ready.ready; to_le_states = heads_upto c.requires.flow_ready.ready _ _ _ c.heads_to-to.ensures }
 
 pub returns : goal.returns
-returns c = name_given _ _ _ _ _ _ c.num-given.ensures (gives_on _ _ (states_rise c.requires.flow_ready.ready) _ _ _ _ _ _ c.state_return-call.ensures c.state_class-c.ensures c.heads_from-from.ensures c.heads_to-to.ensures _ _ c.if-from-to.false c.num-name.ensures c.includes.ensures _ _ c.if-not-includes.false (rest_here c.requires.flow_ready.ready _ (return_some c.requires.flow_ready.ready _ _ c.requires.i_lt_states.0 c.state_return-call.ensures c.if-call-s.false) _ c.num.ensures).0 c.go_on.ensures)
+returns c = name_given _ _ _ _ _ _ c.num-given.ensures (gives_on _ _ (states_rise c.requires.flow_ready.ready) _ _ _ _ _ _ c.state_return-call.ensures c.state_class-c.ensures c.heads_from-from.ensures c.heads_to-to.ensures _ _ c.if-from-to.false c.num-name.ensures c.includes.ensures _ _ (ap not c.if-not-includes.false) (rest_here c.requires.flow_ready.ready _ (return_some c.requires.flow_ready.ready _ _ c.requires.i_lt_states.0 c.state_return-call.ensures c.if-call-s.false) _ c.num.ensures).0 c.go_on.ensures)

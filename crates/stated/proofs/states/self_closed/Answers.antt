@@ -1,3 +1,5 @@
+use mathlib.Core.Bool.{not}
+use mathlib.Core.Path.{ap}
 use borrow.Author.Rules.{rules}
 use native.Mathlib.Omega.{arith}
 use Rattle.model.specs.Words.{columns}
@@ -19,10 +21,10 @@ holds-requires c = record {
     }
 
 pub returns-then-not-holds : goal.returns-then-not-holds
-returns-then-not-holds c = self_lacks _ _ _ _ _ _ _ c.state_class-c.ensures c.num-name.ensures (held_class c.requires.layout_ready.ready c.requires.flow_sets.0 _ _ _ _ c.width.ensures (self_name c.requires.layout_ready.ready _ _ c.requires.flow_sets.1.1 c.num-name.ensures) (class_some c.requires.layout_ready.ready _ _ c.requires.flow_sets.1.0 c.state_class-c.ensures) c.holds.ensures) c.if-not-holds.true
+returns-then-not-holds c = self_lacks _ _ _ _ _ _ _ c.state_class-c.ensures c.num-name.ensures (held_class c.requires.layout_ready.ready c.requires.flow_sets.0 _ _ _ _ c.width.ensures (self_name c.requires.layout_ready.ready _ _ c.requires.flow_sets.1.1 c.num-name.ensures) (class_some c.requires.layout_ready.ready _ _ c.requires.flow_sets.1.0 c.state_class-c.ensures) c.holds.ensures) (ap not c.if-not-holds.true)
 
 pub rest_closed-requires : goal.rest_closed-requires
 rest_closed-requires c = record { layout_ready = c.requires.layout_ready; i_lt_states = (c.requires.flow_sets.1.0, (omega (arith, c.requires.flow_sets.1.1), omega (arith, c.requires.flow_sets.1.1))) }
 
 pub returns : goal.returns
-returns c = self_told _ _ _ _ _ _ _ c.state_class-c.ensures c.num-name.ensures (held_class c.requires.layout_ready.ready c.requires.flow_sets.0 _ _ _ _ c.width.ensures (self_name c.requires.layout_ready.ready _ _ c.requires.flow_sets.1.1 c.num-name.ensures) (class_some c.requires.layout_ready.ready _ _ c.requires.flow_sets.1.0 c.state_class-c.ensures) c.holds.ensures) _ c.if-not-holds.false c.rest_closed.ensures
+returns c = self_told _ _ _ _ _ _ _ c.state_class-c.ensures c.num-name.ensures (held_class c.requires.layout_ready.ready c.requires.flow_sets.0 _ _ _ _ c.width.ensures (self_name c.requires.layout_ready.ready _ _ c.requires.flow_sets.1.1 c.num-name.ensures) (class_some c.requires.layout_ready.ready _ _ c.requires.flow_sets.1.0 c.state_class-c.ensures) c.holds.ensures) _ (ap not c.if-not-holds.false) c.rest_closed.ensures
