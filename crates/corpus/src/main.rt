@@ -6,13 +6,12 @@
 mod cases;
 mod digest;
 
-ghost use Rattle.std.specs.Prelude.{◌+◌, ◌<◌, ◌≤◌, ◌≡◌, length};
-
-use std::io;
-use std::io::{Read, Write};
+ghost use Rattle.std.specs.Prelude.{◌≡◌, ◌+◌, ◌<◌, ◌≤◌, length};
 
 use cases::{blank_words, put_case};
 use input::read_full;
+use std::io;
+use std::io::{Read, Write};
 
 fn wide(byte: u8) -> usize
     ensures { result < 256 }
@@ -79,9 +78,10 @@ fn main(rt: HostRuntime) -> io::Result<()> {
     if got < 12 {
         return Ok(());
     }
-    let mut left = number_at(&head, 8);
-    while left > 0 && run_case(&mut reader, &mut out)? {
-        left -= 1;
+    for _ in 0..number_at(&head, 8) {
+        if !run_case(&mut reader, &mut out)? {
+            break;
+        }
     }
     Ok(())
 }

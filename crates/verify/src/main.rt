@@ -4,10 +4,9 @@
 
 mod tell;
 
+use input::read_full;
 use std::io;
 use std::io::Write;
-
-use input::read_full;
 use tell::{message_room, room, tell};
 
 // The longest message is read whole. What is longer is settled by its beginning: the sizes that the limits allow end

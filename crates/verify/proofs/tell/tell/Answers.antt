@@ -8,9 +8,9 @@ returns-then-number-ne0 c =
 
 pub put_system-requires : goal.put_system-requires
 put_system-requires c = record {
-        ws_in_bounds = system_room _ _ c.blank_words-lent.ensures _ c.verify.ensures.answer_after c.if-number-ne0.false _ c.verify.ensures.lent_after _ _ _ (c.put_line-at.ensures.out_after, c.put_line-at.ensures.value) c.requires;
-        ws_in_bounds_2 = system_inside _ _ c.blank_words-lent.ensures _ c.verify.ensures.answer_after c.if-number-ne0.false _ c.verify.ensures.lent_after;
-    }
+  ws_in_bounds = system_room _ _ c.blank_words-lent.ensures _ c.verify.ensures.answer_after c.if-number-ne0.false _ c.verify.ensures.lent_after _ _ _ (c.put_line-at.ensures.out_after, c.put_line-at.ensures.value) c.requires;
+  ws_in_bounds_2 = system_inside _ _ c.blank_words-lent.ensures _ c.verify.ensures.answer_after c.if-number-ne0.false _ c.verify.ensures.lent_after;
+}
 
 pub returns : goal.returns
 returns c =
