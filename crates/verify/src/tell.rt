@@ -49,7 +49,8 @@ pub fn tell(message: &[u8], out: &mut [u8]) -> usize
     let number = answer[0];
     let place = answer[1];
     let at = put_line(out, 0, number as u64, place as u64);
-    if number != 0 {
+    let is_refused = number != 0;
+    if is_refused {
         return at;
     }
     put_system(out, at, &lent)
