@@ -1,4 +1,3 @@
-use borrow.Author.Rules.{rules}
 use mathlib.Core.Path.{ap}
 use lib.Dec.{eqb}
 use Rattle.answers.specs.Safe.{is_safe_of}

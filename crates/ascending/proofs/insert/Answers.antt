@@ -1,7 +1,5 @@
 use native.Mathlib.Omega.{arith}
 use mathlib.Core.Path.{refl}
-use mathlib.Core.Logic.{⊎_elim}
-use borrow.Author.Rules.{rules}
 use Rattle.ascending.proofs.Numbers.{strictly, placed_there, placed_new}
 use Rattle.ascending.proofs.insert.Goals as goal
 use Rattle.ascending.proofs.insert.Goals.{then-at-n+else-codes-at, else-at-n}
@@ -20,6 +18,6 @@ bounds-codes-at-2 c = omega (arith, c.place-at.ensures.upto, c.requires.from_le_
 
 pub returns : goal.returns
 returns c = record {
-        added = placed_new c.requires.rising c.place-at.ensures (λ l. elim c.if-at-n.branch [ then-at-n+else-codes-at a ↦ strictly (c.place-at.ensures.more _ (omega arith) l) a.if-codes-at.false | else-at-n a ↦ absurd (omega arith) ]) c.shift.ensures c.requires.from_le_n.2;
-        upper_bound = omega arith;
-    }
+  added = placed_new c.requires.rising c.place-at.ensures (λ l. elim c.if-at-n.branch [ then-at-n+else-codes-at a ↦ strictly (c.place-at.ensures.more _ (omega arith) l) a.if-codes-at.false | else-at-n a ↦ absurd (omega arith) ]) c.shift.ensures c.requires.from_le_n.2;
+  upper_bound = omega arith;
+}

@@ -1,8 +1,5 @@
-use borrow.Author.Rules.{rules}
 use Prim.Native.Nat.{◌≤◌}
-use native.Mathlib.Omega.{arith}
 use Rattle.ascending.specs.Numbers.{Shifted}
-use Rattle.ascending.proofs.Numbers.{shifted_none, shifted_next, shifted_at}
 use Rattle.ascending.proofs.shift.Given as goal
 
 abbrev pub invariant-loop-k : goal.invariant-loop-k

@@ -1,15 +1,10 @@
 use Prim.Native.Nat.{◌+◌, ◌-◌, ◌≤◌}
-use mathlib.Core.Path.{◌≡◌, refl, ◌∙◌, ap}
-use native.Mathlib.Omega.{arith}
 use Rattle.model.specs.Words.{right}
 use Rattle.model.specs.Rows.{program, num}
 use Rattle.model.specs.Tables.{tables, each}
 use Rattle.branches.specs.Taken.{code_closed}
 use Rattle.asks.specs.Asks.{asks}
-use Rattle.asks.proofs.Rows.{row_below, read_name}
-use Rattle.asks.proofs.Ranges.{Worst, worst_begin, worst_next, worst_over, starts_range}
-use Rattle.asks.proofs.Asking.{code_small, name_range, asks_at}
-use borrow.Author.Rules.{rules}
+use Rattle.asks.proofs.Ranges.{Worst}
 use Rattle.asks.proofs.asked.Given as goal
 
 abbrev pub invariant-loop-j : goal.invariant-loop-j

@@ -14,9 +14,9 @@ send_asks-requires c = record { mail_ready = c.requires.mail_ready; r_value = sy
 
 pub spawn_asks-requires : goal.spawn_asks-requires
 spawn_asks-requires c = record {
-        flow_ready = mail_flow c.requires.mail_ready;
-        r_value = omega (arith, c.tag.ensures, c.in_default.in_default-own.rest.0.1, c.in_default.in_default-own.rest.1, c.requires.bound.0, c.requires.bound.1);
-    }
+  flow_ready = mail_flow c.requires.mail_ready;
+  r_value = omega (arith, c.tag.ensures, c.in_default.in_default-own.rest.0.1, c.in_default.in_default-own.rest.1, c.requires.bound.0, c.requires.bound.1);
+}
 
 pub returns-in-4 : goal.returns-in-4
 returns-in-4 c = asks_call _ _ _ _ _ _ c.tag.ensures c.in-4.is c.call_asks.ensures

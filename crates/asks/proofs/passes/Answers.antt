@@ -1,15 +1,7 @@
-use Prim.Native.Nat.{◌-◌, ◌<◌}
-use mathlib.Core.Path.{◌≡◌}
+use Prim.Native.Nat.{◌-◌}
 use native.Mathlib.Omega.{arith}
-use borrow.Author.Tests.{not-true, not-false}
-use Rattle.model.specs.Limits.{max_rows}
-use Rattle.model.specs.Index.{all}
-use Rattle.model.specs.Rows.{program}
-use Rattle.model.specs.Heads.{call_at, parameters}
-use Rattle.model.specs.Tables.{tables}
-use Rattle.model.specs.Closed.{passes}
 use Rattle.asks.proofs.Rows.{argument_below, parameter_below, count_below, row_below, function_below}
-use Rattle.asks.proofs.Asking.{passing, passes_begin, passes_next, passes_fails, passes_over}
+use Rattle.asks.proofs.Asking.{passes_begin, passes_next, passes_fails, passes_over}
 use borrow.Author.Rules.{rules}
 use Rattle.asks.proofs.passes.Goals as goal
 
@@ -42,9 +34,9 @@ num-parameter-requires c = c.requires.flow_ready.ready.whole
 
 pub includes-requires : goal.includes-requires
 includes-requires c = record {
-        flow_sets = c.requires.flow_ready.names;
-        a_lt_names = (argument_below c.requires.flow_ready.ready _ _ _ _ c.requires.r_value.0 c.num-n.ensures (search rules) c.num-argument.ensures, parameter_below c.requires.flow_ready.ready _ _ _ _ _ c.requires.r_value.1 c.num-n.ensures (search rules) c.num-parameter.ensures);
-    }
+  flow_sets = c.requires.flow_ready.names;
+  a_lt_names = (argument_below c.requires.flow_ready.ready _ _ _ _ c.requires.r_value.0 c.num-n.ensures (search rules) c.num-argument.ensures, parameter_below c.requires.flow_ready.ready _ _ _ _ _ c.requires.r_value.1 c.num-n.ensures (search rules) c.num-parameter.ensures);
+}
 
 pub returns-then-not-includes : goal.returns-then-not-includes
 returns-then-not-includes c = passes_fails _ _ _ _ _ _ _ _ _ c.num-n.ensures c.requires.r_value.1 (search rules) c.num-argument.ensures c.num-parameter.ensures c.includes.ensures c.loop-i.invariant.1 c.if-not-includes.true

@@ -1,16 +1,12 @@
 use Prim.Native.Nat.{◌-◌, ◌<◌}
 use mathlib.Core.Path.{◌≡◌}
-use native.Mathlib.Omega.{arith}
-use borrow.Author.Tests.{not-true, not-false}
 use Rattle.model.specs.Limits.{max_rows}
 use Rattle.model.specs.Index.{all}
 use Rattle.model.specs.Rows.{program}
 use Rattle.model.specs.Heads.{call_at, parameters}
 use Rattle.model.specs.Tables.{tables}
 use Rattle.model.specs.Closed.{passes}
-use Rattle.asks.proofs.Rows.{argument_below, parameter_below, count_below, row_below, function_below}
-use Rattle.asks.proofs.Asking.{passing, passes_begin, passes_next, passes_fails, passes_over}
-use borrow.Author.Rules.{rules}
+use Rattle.asks.proofs.Asking.{passing}
 use Rattle.asks.proofs.passes.Given as goal
 
 abbrev pub invariant-loop-i : goal.invariant-loop-i

@@ -1,7 +1,6 @@
 use mathlib.Core.Bool.{not}
 use mathlib.Core.Path.{ap}
-use borrow.Author.Rules.{rules}
-use mathlib.Core.Path.{refl, sym, ◌∙◌}
+use mathlib.Core.Path.{refl, sym}
 use mathlib.Core.Bool.{true, false}
 use native.Mathlib.Omega.{arith}
 use borrow.Author.Tests.{lt-ltb, le-ltb}
@@ -25,9 +24,9 @@ num-name-requires c = c.requires.flow_ready.ready.whole
 pub holds-requires : goal.holds-requires
 unfolding program columns
 holds-requires c = record {
-        v_bound = rw c.width-w.ensures (width_above _ _ (omega (arith, (row_below c.requires.flow_ready.ready c.args.r (omega (arith, c.requires.r_value))).0)));
-        row = rw c.width-w.ensures (c.requires.flow_ready.names.of_name _ (spawn_below c.requires.flow_ready.ready _ _ c.requires.r_value c.num-name.ensures)).row;
-    }
+  v_bound = rw c.width-w.ensures (width_above _ _ (omega (arith, (row_below c.requires.flow_ready.ready c.args.r (omega (arith, c.requires.r_value))).0)));
+  row = rw c.width-w.ensures (c.requires.flow_ready.names.of_name _ (spawn_below c.requires.flow_ready.ready _ _ c.requires.r_value c.num-name.ensures)).row;
+}
 
 pub returns-then-not-holds : goal.returns-then-not-holds
 returns-then-not-holds c = spawn_lacks _ _ _ _ _ c.takes.ensures (ap not c.if-not-takes.false) _ c.num-name.ensures _ (held _ _ c.requires.flow_ready.names _ _ _ _ c.width-w.ensures (spawn_below c.requires.flow_ready.ready _ _ c.requires.r_value c.num-name.ensures) (row_below c.requires.flow_ready.ready c.args.r (omega (arith, c.requires.r_value))).0 c.holds.ensures) (ap not c.if-not-holds.true)

@@ -1,8 +1,8 @@
-use Prim.Native.Nat.{◌≤◌, ◌-◌}
+use Prim.Native.Nat.{◌-◌}
 use native.Mathlib.Omega.{arith}
 use mathlib.Core.Path.{◌≡◌, refl}
 use borrow.Author.Rules.{rules}
-use Rattle.bads.proofs.BadRows.{first_bad, bad_from, begins, rows_held, turn_wrong, turn_next, ended_safe, ended_early}
+use Rattle.bads.proofs.BadRows.{begins, rows_held, turn_wrong, turn_next, ended_safe, ended_early}
 use Rattle.bads.proofs.bad_check.Goals as goal
 
 pub loop-r-init : goal.loop-r-init

@@ -1,8 +1,6 @@
 use Prim.Native.Nat.{◌≤◌, ◌-◌}
-use native.Mathlib.Omega.{arith}
-use mathlib.Core.Path.{◌≡◌, refl}
-use borrow.Author.Rules.{rules}
-use Rattle.bads.proofs.BadRows.{first_bad, bad_from, begins, rows_held, turn_wrong, turn_next, ended_safe, ended_early}
+use mathlib.Core.Path.{◌≡◌}
+use Rattle.bads.proofs.BadRows.{first_bad, bad_from}
 use Rattle.bads.proofs.bad_check.Given as goal
 
 abbrev pub invariant-loop-r : goal.invariant-loop-r

@@ -2,7 +2,6 @@ use mathlib.Core.Path.{sym, ◌∙◌}
 use Rattle.model.specs.Rows.{program}
 use Rattle.model.specs.Letters.{head_count}
 use Rattle.bads.proofs.Parts.{minimum_fits, minimum_zero, no_minimum, does_head_fit, head_high, no_head}
-use borrow.Author.Rules.{rules}
 use Rattle.bads.proofs.detail.Goals as goal
 
 pub returns-then-n-ge1 : goal.returns-then-n-ge1

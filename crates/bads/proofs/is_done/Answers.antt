@@ -1,7 +1,6 @@
 use mathlib.Core.Path.{ap}
 use Rattle.bads.specs.Stacks.{stack}
 use Rattle.bads.proofs.Parts.{done_bads, not_done}
-use borrow.Author.Rules.{rules}
 use Rattle.bads.proofs.is_done.Goals as goal
 
 pub returns-in-Bads : goal.returns-in-Bads

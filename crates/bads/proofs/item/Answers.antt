@@ -1,5 +1,4 @@
 use mathlib.Core.Path.{sym, ◌∙◌}
-use borrow.Author.Rules.{rules}
 use Rattle.bads.proofs.Parts.{item_class, item_no_class, no_item}
 use Rattle.bads.proofs.item.Goals as goal
 

@@ -1,7 +1,6 @@
 use mathlib.Core.Path.{◌∙◌}
 use Rattle.model.specs.Rows.{program, arity}
 use Rattle.bads.proofs.Parts.{arity_of, arity_none}
-use borrow.Author.Rules.{rules}
 use Rattle.bads.proofs.letter_arity.Goals as goal
 
 pub returns-then-k-s : goal.returns-then-k-s

@@ -1,5 +1,4 @@
 use Rattle.bads.proofs.Parts.{bads_over, bad_begins, behind_item, in_detail, heads_begin, no_heads, bad_ends, end_number, further_item}
-use borrow.Author.Rules.{rules}
 use Rattle.bads.proofs.read_row.Goals as goal
 
 pub returns-then-k-eq0 : goal.returns-then-k-eq0

@@ -2,7 +2,6 @@ use mathlib.Core.Path.{sym, ◌∙◌}
 use Rattle.model.specs.Rows.{program}
 use Rattle.model.specs.Letters.{head_count}
 use Rattle.bads.proofs.Parts.{subject_head, subject_no_head, subject_letter, subject_no_letter, no_subject}
-use borrow.Author.Rules.{rules}
 use Rattle.bads.proofs.subject.Goals as goal
 
 pub returns-then-is_head : goal.returns-then-is_head

@@ -1,6 +1,6 @@
-use Prim.Native.Nat.{◌-◌, ◌≤◌}
+use Prim.Native.Nat.{◌-◌}
 use mathlib.Core.Path.{◌≡◌}
-use Rattle.bads_rows.proofs.Walking.{BadsWalked, bads_start, bads_stand, bads_next, bads_inside, bads_row}
+use Rattle.bads_rows.proofs.Walking.{bads_start, bads_stand, bads_next, bads_inside, bads_row}
 use borrow.Author.Rules.{rules}
 use Rattle.bads_rows.proofs.bad_row.Goals as goal
 

@@ -1,8 +1,6 @@
 -- The loop's invariant: the first i bads end before row r.
 use Prim.Native.Nat.{◌-◌, ◌≤◌}
-use mathlib.Core.Path.{◌≡◌}
-use Rattle.bads_rows.proofs.Walking.{BadsWalked, bads_start, bads_stand, bads_next, bads_inside, bads_row}
-use borrow.Author.Rules.{rules}
+use Rattle.bads_rows.proofs.Walking.{BadsWalked}
 use Rattle.bads_rows.proofs.bad_row.Given as goal
 
 abbrev pub invariant-loop-i : goal.invariant-loop-i

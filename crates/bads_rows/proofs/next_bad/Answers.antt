@@ -1,11 +1,6 @@
-use Prim.Native.Nat.{ℕ, ◌+◌, ◌-◌, ◌≤◌}
+use Prim.Native.Nat.{◌-◌}
 use native.Mathlib.Omega.{arith}
-use mathlib.Core.Path.{◌≡◌, sym, ◌∙◌}
-use mathlib.Core.List.{[], ◌∷◌}
-use Rattle.model.specs.Reader.{past, read}
-use Rattle.model.specs.Rows.{program}
-use Rattle.model.specs.Bads.{further, bad_step, bad_rows}
-use Rattle.bads_rows.specs.Items.{bad_end}
+use mathlib.Core.Path.{sym, ◌∙◌}
 use Rattle.bads_rows.proofs.BadRows.{bad_first, bad_next, bad_last, bad_inside}
 use Rattle.bads_rows.proofs.Walking.{inside, stands_inside}
 use borrow.Author.Rules.{rules}

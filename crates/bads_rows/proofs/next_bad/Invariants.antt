@@ -1,15 +1,11 @@
 -- The loop's invariant: at row i stands another item, or the bad's last row.
 use Prim.Native.Nat.{ℕ, ◌+◌, ◌-◌, ◌≤◌}
-use native.Mathlib.Omega.{arith}
-use mathlib.Core.Path.{◌≡◌, sym, ◌∙◌}
+use mathlib.Core.Path.{◌≡◌}
 use mathlib.Core.List.{[], ◌∷◌}
 use Rattle.model.specs.Reader.{past, read}
 use Rattle.model.specs.Rows.{program}
 use Rattle.model.specs.Bads.{further, bad_step, bad_rows}
 use Rattle.bads_rows.specs.Items.{bad_end}
-use Rattle.bads_rows.proofs.BadRows.{bad_first, bad_next, bad_last, bad_inside}
-use Rattle.bads_rows.proofs.Walking.{inside, stands_inside}
-use borrow.Author.Rules.{rules}
 use Rattle.bads_rows.proofs.next_bad.Given as goal
 
 abbrev pub invariant-loop-s : goal.invariant-loop-s

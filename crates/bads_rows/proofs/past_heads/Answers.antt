@@ -1,7 +1,6 @@
 use Prim.Native.Nat.{◌-◌}
 use native.Mathlib.Omega.{arith}
-use mathlib.Core.Path.{◌≡◌, refl, sym, ◌∙◌}
-use Rattle.model.specs.Bads.{bad_rows, past_heads_of}
+use mathlib.Core.Path.{refl, sym, ◌∙◌}
 use Rattle.bads_rows.proofs.BadRows.{heads_over, heads_next, bad_inside}
 use Rattle.bads_rows.proofs.Walking.{inside}
 use borrow.Author.Rules.{rules}

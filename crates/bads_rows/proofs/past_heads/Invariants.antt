@@ -1,11 +1,7 @@
 -- The loop's invariant: the heads from row i on end where those from row r on do.
 use Prim.Native.Nat.{◌-◌}
-use native.Mathlib.Omega.{arith}
-use mathlib.Core.Path.{◌≡◌, refl, sym, ◌∙◌}
+use mathlib.Core.Path.{◌≡◌}
 use Rattle.model.specs.Bads.{bad_rows, past_heads_of}
-use Rattle.bads_rows.proofs.BadRows.{heads_over, heads_next, bad_inside}
-use Rattle.bads_rows.proofs.Walking.{inside}
-use borrow.Author.Rules.{rules}
 use Rattle.bads_rows.proofs.past_heads.Given as goal
 
 abbrev pub invariant-loop-s : goal.invariant-loop-s

@@ -1,9 +1,7 @@
-use Prim.Native.Nat.{◌-◌, ◌≤◌}
-use native.Mathlib.Omega.{arith}
+use Prim.Native.Nat.{◌-◌}
 use Rattle.model.specs.Words.{columns}
-use Rattle.model.specs.Rows.{program}
 use Rattle.model.specs.Tables.{tables, entries}
-use Rattle.branch_letters.proofs.Keeping.{Forgotten, forgotten_start, forgotten_next, forgotten_all}
+use Rattle.branch_letters.proofs.Keeping.{forgotten_start, forgotten_next, forgotten_all}
 use borrow.Author.Rules.{rules}
 use Rattle.branch_letters.proofs.forget_letters.Goals as goal
 

@@ -1,10 +1,7 @@
 use Prim.Native.Nat.{◌-◌, ◌≤◌}
-use native.Mathlib.Omega.{arith}
-use Rattle.model.specs.Words.{columns}
 use Rattle.model.specs.Rows.{program}
-use Rattle.model.specs.Tables.{tables, entries}
-use Rattle.branch_letters.proofs.Keeping.{Forgotten, forgotten_start, forgotten_next, forgotten_all}
-use borrow.Author.Rules.{rules}
+use Rattle.model.specs.Tables.{tables}
+use Rattle.branch_letters.proofs.Keeping.{Forgotten}
 use Rattle.branch_letters.proofs.forget_letters.Given as goal
 
 abbrev pub invariant-loop-x : goal.invariant-loop-x

@@ -1,4 +1,3 @@
-use native.Mathlib.Omega.{arith}
 use mathlib.Core.Path.{refl}
 use Rattle.model.proofs.Logic.{true_false}
 use Rattle.branch_letters.proofs.Keeping.{kept_for}
@@ -16,11 +15,11 @@ returns-then-state_class-c c = λ z. true_false z refl
 pub owner_at-at-requires : goal.owner_at-at-requires
 unfolding tables entries columns
 owner_at-at-requires c = record {
-        ready = c.requires.kept_tables.letter_tables.ready;
-        owners_room = record { room = c.requires.kept_tables.reads.room };
-        words_value = c.letter_width-words.ensures;
-        x_lt_states = search rules;
-    }
+  ready = c.requires.kept_tables.letter_tables.ready;
+  owners_room = record { room = c.requires.kept_tables.reads.room };
+  words_value = c.letter_width-words.ensures;
+  x_lt_states = search rules;
+}
 
 pub returns : goal.returns
 returns c = λ z. kept_for _ _ _ _ _ _ _ _ _ _ (search rules) c.state_class.ensures c.if-state_class-c.false c.owner_at-at.ensures.0 refl (search rules) z

@@ -1,5 +1,4 @@
 use native.Mathlib.Omega.{arith}
-use mathlib.Core.Path.{refl}
 use Rattle.model.specs.Words.{columns}
 use Rattle.model.specs.Tables.{tables, entries}
 use Rattle.branch_letters.proofs.Keeping.{read_number, read_row, kept_all}
@@ -17,9 +16,9 @@ overflow_mul-set c = record { fits = let z = (read_row _ _ _ c.requires.kept_tab
 pub put_words-requires : goal.put_words-requires
 unfolding tables entries columns
 put_words-requires c = record {
-        words_in_bounds = let z = c.requires.found.row.room in omega (arith, c.letter_width-words.ensures);
-        words_in_bounds_2 = let z = (read_row _ _ _ c.requires.kept_tables.reads _ _ _ c.requires.x_lt_states.0 c.letter_width-words.ensures (read_number _ _ _ _ c.read_set-set.ensures)).room in omega arith;
-    }
+  words_in_bounds = let z = c.requires.found.row.room in omega (arith, c.letter_width-words.ensures);
+  words_in_bounds_2 = let z = (read_row _ _ _ c.requires.kept_tables.reads _ _ _ c.requires.x_lt_states.0 c.letter_width-words.ensures (read_number _ _ _ _ c.read_set-set.ensures)).room in omega arith;
+}
 
 pub put_word-requires : goal.put_word-requires
 put_word-requires c = omega (arith, c.owner_at-at.ensures.1, c.put_words.ensures.long)

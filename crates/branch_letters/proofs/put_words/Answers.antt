@@ -1,7 +1,5 @@
-use Prim.Native.Nat.{◌+◌, ◌-◌, ◌≤◌}
+use Prim.Native.Nat.{◌-◌}
 use mathlib.Core.Path.{refl}
-use lib.ListN.{get_or}
-use Rattle.bits.specs.Bits.{Filled}
 use Rattle.bits.proofs.Rows.{filled_start, filled_next, filled_to}
 use borrow.Author.Rules.{rules}
 use Rattle.branch_letters.proofs.put_words.Goals as goal

@@ -1,9 +1,6 @@
-use Prim.Native.Nat.{◌+◌, ◌-◌, ◌≤◌}
-use mathlib.Core.Path.{refl}
+use Prim.Native.Nat.{◌-◌, ◌≤◌}
 use lib.ListN.{get_or}
 use Rattle.bits.specs.Bits.{Filled}
-use Rattle.bits.proofs.Rows.{filled_start, filled_next, filled_to}
-use borrow.Author.Rules.{rules}
 use Rattle.branch_letters.proofs.put_words.Given as goal
 
 abbrev pub invariant-loop-z : goal.invariant-loop-z

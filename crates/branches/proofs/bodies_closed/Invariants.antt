@@ -1,10 +1,6 @@
-use native.Mathlib.Omega.{arith}
-use mathlib.Core.Path.{refl, ◌∙◌, ap}
-use borrow.Author.Tests.{not-true, not-false}
 use Rattle.model.specs.Rows.{program}
 use Rattle.model.specs.Tables.{tables, state_at}
-use Rattle.branches.proofs.Walk.{Bodies, branch_at, bodies_over, bodies_fail, bodies_next, behind_told}
-use borrow.Author.Rules.{rules}
+use Rattle.branches.proofs.Walk.{Bodies}
 use Rattle.branches.proofs.bodies_closed.Given as goal
 
 abbrev pub invariant-loop-left : goal.invariant-loop-left

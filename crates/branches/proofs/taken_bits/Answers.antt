@@ -1,9 +1,7 @@
 use native.Mathlib.Omega.{arith}
-use mathlib.Core.Path.{refl, ◌∙◌}
-use Rattle.model.specs.Rows.{program}
-use Rattle.model.specs.Tables.{tables}
+use mathlib.Core.Path.{refl}
 use Rattle.matching.proofs.Arguments.{match_flow}
-use Rattle.branches.proofs.Walk.{Taking, branch_at, taking_begin, taking_over, taking_lacks, taking_next, weight_low, code_weight, behind_told}
+use Rattle.branches.proofs.Walk.{branch_at, taking_begin, taking_over, taking_lacks, taking_next, weight_low, code_weight, behind_told}
 use borrow.Author.Rules.{rules}
 use Rattle.branches.proofs.taken_bits.Goals as goal
 
@@ -12,9 +10,9 @@ loop-left-init c = taking_begin _ c.requires.branches_asked.run c.requires.branc
 
 pub values_code-code-requires : goal.values_code-code-requires
 values_code-code-requires c = record {
-        flow_ready = match_flow c.requires.cases;
-        pattern_asked = (record { row = c.requires.branches_asked.row; stands = record { depth = _; stands = (branch_at c.requires.cases.layout _ _ c.loop-left.invariant.run (search rules)).pattern } }, c.requires.cases.patterns.at _ (search rules) (branch_at c.requires.cases.layout _ _ c.loop-left.invariant.run (search rules)).row_low);
-    }
+  flow_ready = match_flow c.requires.cases;
+  pattern_asked = (record { row = c.requires.branches_asked.row; stands = record { depth = _; stands = (branch_at c.requires.cases.layout _ _ c.loop-left.invariant.run (search rules)).pattern } }, c.requires.cases.patterns.at _ (search rules) (branch_at c.requires.cases.layout _ _ c.loop-left.invariant.run (search rules)).row_low);
+}
 
 pub returns-then-code-ge2 : goal.returns-then-code-ge2
 returns-then-code-ge2 c = taking_lacks c.loop-left.invariant (branch_at c.requires.cases.layout _ _ c.loop-left.invariant.run (search rules)) (search rules) _ c.values_code-code.ensures (search rules)

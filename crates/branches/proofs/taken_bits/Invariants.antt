@@ -1,10 +1,6 @@
-use native.Mathlib.Omega.{arith}
-use mathlib.Core.Path.{refl, ◌∙◌}
 use Rattle.model.specs.Rows.{program}
 use Rattle.model.specs.Tables.{tables}
-use Rattle.matching.proofs.Arguments.{match_flow}
-use Rattle.branches.proofs.Walk.{Taking, branch_at, taking_begin, taking_over, taking_lacks, taking_next, weight_low, code_weight, behind_told}
-use borrow.Author.Rules.{rules}
+use Rattle.branches.proofs.Walk.{Taking}
 use Rattle.branches.proofs.taken_bits.Given as goal
 
 abbrev pub invariant-loop-left : goal.invariant-loop-left

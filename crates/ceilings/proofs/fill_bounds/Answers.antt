@@ -1,12 +1,11 @@
-use Prim.Native.Nat.{◌-◌, ◌≤◌, ◌<◌, zero-le}
+use Prim.Native.Nat.{◌-◌, ◌<◌, zero-le}
 use native.Mathlib.Nat.{le_refl}
 use native.Mathlib.Omega.{arith}
 use mathlib.Core.Path.{◌≡◌, refl, ◌∙◌}
 use lib.ListN.{length, length-set}
 use borrow.Author.Rules.{rules}
-use Rattle.ceilings_form.specs.Parts.{part_entries}
 use Rattle.ceilings_form.proofs.Ceilings.{part_size, stands, entry_inside}
-use Rattle.ceilings.proofs.Filling.{Filled, filled_start, filled_next, bounds_table, starts_table}
+use Rattle.ceilings.proofs.Filling.{filled_start, filled_next, bounds_table, starts_table}
 use Rattle.ceilings.proofs.fill_bounds.Goals as goal
 
 pub loop-k-init : goal.loop-k-init
@@ -30,8 +29,8 @@ fill_ceiling-e-requires c =
     let h = c.loop-k.invariant in
     let below = c.loop-k-test.true in
     record {
-        part_held = (c.requires.part_held.0, stands _ _ _ _ _ h.0.walked below);
-        ceiling_room = record { below = below; unfilled = h.0.blank _ (le_refl _) below; cells = omega (arith, h.2, c.requires.bounds_room.cells) };
+      part_held = (c.requires.part_held.0, stands _ _ _ _ _ h.0.walked below);
+      ceiling_room = record { below = below; unfilled = h.0.blank _ (le_refl _) below; cells = omega (arith, h.2, c.requires.bounds_room.cells) };
     }
 
 pub overflow_step-k : goal.overflow_step-k
@@ -43,8 +42,7 @@ loop-k-smaller c = omega (arith, c.loop-k-test.true)
 pub loop-k-preserved : goal.loop-k-preserved
 loop-k-preserved c =
     let h = c.loop-k in
-    let below = c.loop-k-test.true in
-    (
+    let below = c.loop-k-test.true in (
       rw c.fill_ceiling-e.ensures.value (filled_next _ _ _ _ _ _ _ _ below (omega (arith, below, h.invariant.3, c.requires.bounds_room.firsts)) h.invariant.0 c.fill_ceiling-e.ensures.ceiling_filled),
       omega (arith, below),
       c.fill_ceiling-e.auto.limits ∙ h.invariant.2,
@@ -57,6 +55,6 @@ returns c =
     let p = c.requires.bounds_room in
     let z : h.k ≡ c.args.count = omega (arith, c.loop-k-test.false, h.invariant.1) in
     record {
-        bounds_table = bounds_table _ _ _ _ _ _ _ z h.invariant.0 (omega (arith, h.invariant.2, p.cells));
-        starts_table = starts_table _ _ _ _ _ _ _ z h.invariant.0 (omega (arith, h.invariant.3, p.firsts));
+      bounds_table = bounds_table _ _ _ _ _ _ _ z h.invariant.0 (omega (arith, h.invariant.2, p.cells));
+      starts_table = starts_table _ _ _ _ _ _ _ z h.invariant.0 (omega (arith, h.invariant.3, p.firsts));
     }

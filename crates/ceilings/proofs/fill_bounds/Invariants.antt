@@ -1,13 +1,9 @@
 -- The loop's invariant: the ceilings before k are in the tables, and the parts of the others are blank.
-use Prim.Native.Nat.{◌-◌, ◌≤◌, ◌<◌, zero-le}
-use native.Mathlib.Nat.{le_refl}
-use native.Mathlib.Omega.{arith}
-use mathlib.Core.Path.{◌≡◌, refl, ◌∙◌}
-use lib.ListN.{length, length-set}
-use borrow.Author.Rules.{rules}
+use Prim.Native.Nat.{◌-◌, ◌≤◌}
+use mathlib.Core.Path.{◌≡◌}
+use lib.ListN.{length}
 use Rattle.ceilings_form.specs.Parts.{part_entries}
-use Rattle.ceilings_form.proofs.Ceilings.{part_size, stands, entry_inside}
-use Rattle.ceilings.proofs.Filling.{Filled, filled_start, filled_next, bounds_table, starts_table}
+use Rattle.ceilings.proofs.Filling.{Filled}
 use Rattle.ceilings.proofs.fill_bounds.Given as goal
 
 abbrev pub invariant-loop-k : goal.invariant-loop-k

@@ -3,10 +3,9 @@ use native.Mathlib.Omega.{arith}
 use mathlib.Core.Path.{sym, ◌∙◌}
 use borrow.Author.Rules.{rules}
 use Rattle.bits.specs.Bits.{Row}
-use Rattle.ceilings_form.specs.Parts.{part_entries}
 use Rattle.ceilings_form.proofs.Ceilings.{part_size}
 use Rattle.ceilings.proofs.Cells.{row_in}
-use Rattle.ceilings.proofs.Filling.{Filling, filling_start, filling_inside, filling_counter, filling_next, filling_end}
+use Rattle.ceilings.proofs.Filling.{filling_start, filling_inside, filling_counter, filling_next, filling_end}
 use Rattle.ceilings.proofs.fill_ceiling.Goals as goal
 
 -- an entry that does not close the ceiling has one of the counters, whose limits stand in the table

@@ -1,13 +1,7 @@
 -- The loop's invariant: the entries before i are filled in, those from i on are to come.
-use Prim.Native.Nat.{◌-◌, ◌<◌}
-use native.Mathlib.Omega.{arith}
-use mathlib.Core.Path.{sym, ◌∙◌}
-use borrow.Author.Rules.{rules}
-use Rattle.bits.specs.Bits.{Row}
+use Prim.Native.Nat.{◌-◌}
 use Rattle.ceilings_form.specs.Parts.{part_entries}
-use Rattle.ceilings_form.proofs.Ceilings.{part_size}
-use Rattle.ceilings.proofs.Cells.{row_in}
-use Rattle.ceilings.proofs.Filling.{Filling, filling_start, filling_inside, filling_counter, filling_next, filling_end}
+use Rattle.ceilings.proofs.Filling.{Filling}
 use Rattle.ceilings.proofs.fill_ceiling.Given as goal
 
 abbrev pub invariant-loop-part : goal.invariant-loop-part

@@ -1,4 +1,3 @@
-use borrow.Author.Rules.{rules}
 use Rattle.ceilings_form.proofs.Ceilings.{part_of, part_in}
 use Rattle.ceilings.proofs.Filling.{limits_table}
 use Rattle.ceilings.proofs.fill_limits.Goals as goal

@@ -1,4 +1,3 @@
-use borrow.Author.Tests.{not-false}
 use native.Mathlib.Omega.{arith}
 use mathlib.Core.Path.{sym, ◌∙◌}
 use Rattle.model.proofs.Logic.{true_false}
@@ -17,6 +16,6 @@ returns-then-takes_other c = record { candidates_2 = c.requires.candidates; rais
 
 pub returns : goal.returns
 returns c = record {
-        candidates_2 = added_is _ _ _ _ _ c.requires.step_apart _ _ _ _ (search rules) c.requires.beside.held_by.few c.if-y-step.false (sym c.takes_other.ensures ∙ c.if-takes_other.false) c.requires.y_value c.one_more_at.ensures c.and.ensures c.requires.candidates;
-        raised = raised_and _ _ _ _ _ _ _ _ _ c.one_more_at.ensures c.and.ensures;
-    }
+  candidates_2 = added_is _ _ _ _ _ c.requires.step_apart _ _ _ _ (search rules) c.requires.beside.held_by.few c.if-y-step.false (sym c.takes_other.ensures ∙ c.if-takes_other.false) c.requires.y_value c.one_more_at.ensures c.and.ensures c.requires.candidates;
+  raised = raised_and _ _ _ _ _ _ _ _ _ c.one_more_at.ensures c.and.ensures;
+}

@@ -1,7 +1,6 @@
 use native.Mathlib.Omega.{arith}
 use mathlib.Core.Path.{refl}
 use Rattle.ceilings_covers.proofs.Covering.{reading_is}
-use borrow.Author.Rules.{rules}
 use Rattle.ceilings_covers.proofs.by_taken.Goals as goal
 
 pub returns-then-step-ne1 : goal.returns-then-step-ne1

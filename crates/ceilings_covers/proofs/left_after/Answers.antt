@@ -3,7 +3,6 @@ use mathlib.Core.Path.{◌∙◌, ap, ap₂}
 use mathlib.Core.Bool.{not, ◌&&◌, ◌||◌}
 use Rattle.masks.specs.Masks.{has}
 use Rattle.ceilings_covers.proofs.Covering.{left_is}
-use borrow.Author.Rules.{rules}
 use Rattle.ceilings_covers.proofs.left_after.Goals as goal
 
 pub load-requires : goal.load-requires

@@ -1,7 +1,6 @@
 use native.Mathlib.Omega.{arith}
 use mathlib.Core.Logic.{inl, inr}
 use Rattle.ceilings_covers.proofs.Covering.{moved_none, moved_both}
-use borrow.Author.Rules.{rules}
 use Rattle.ceilings_covers.proofs.left_moved.Goals as goal
 
 pub returns-then-to-i : goal.returns-then-to-i

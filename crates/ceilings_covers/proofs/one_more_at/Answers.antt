@@ -2,7 +2,6 @@ use native.Mathlib.Omega.{arith}
 use mathlib.Core.Path.{sym, ◌∙◌}
 use Rattle.ceilings.proofs.Cells.{row_in}
 use Rattle.ceilings_covers.proofs.Covering.{more_none}
-use borrow.Author.Rules.{rules}
 use Rattle.ceilings_covers.proofs.one_more_at.Goals as goal
 
 pub limit-requires : goal.limit-requires

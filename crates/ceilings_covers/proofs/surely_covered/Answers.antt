@@ -1,5 +1,4 @@
 use Rattle.ceilings_covers.proofs.Covering.{surely_some, surely_none}
-use borrow.Author.Rules.{rules}
 use Rattle.ceilings_covers.proofs.surely_covered.Goals as goal
 
 pub returns-then-is_sure : goal.returns-then-is_sure

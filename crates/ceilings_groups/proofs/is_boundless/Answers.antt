@@ -1,7 +1,7 @@
-use Prim.Native.Nat.{◌-◌, ◌≤◌}
+use Prim.Native.Nat.{◌-◌}
 use native.Mathlib.Omega.{arith}
 use borrow.Author.Rules.{rules}
-use Rattle.ceilings_groups.proofs.Settling.{BoundlessUpto, boundless_start, boundless_next, boundless_some}
+use Rattle.ceilings_groups.proofs.Settling.{boundless_start, boundless_next, boundless_some}
 use Rattle.ceilings_groups.proofs.is_boundless.Goals as goal
 
 pub below-left-requires : goal.below-left-requires

@@ -1,8 +1,6 @@
 -- The loop's invariant: the mask has the ceilings that have no bound at the counters before x.
 use Prim.Native.Nat.{◌-◌, ◌≤◌}
-use native.Mathlib.Omega.{arith}
-use borrow.Author.Rules.{rules}
-use Rattle.ceilings_groups.proofs.Settling.{BoundlessUpto, boundless_start, boundless_next, boundless_some}
+use Rattle.ceilings_groups.proofs.Settling.{BoundlessUpto}
 use Rattle.ceilings_groups.proofs.is_boundless.Given as goal
 
 abbrev pub invariant-loop-x : goal.invariant-loop-x

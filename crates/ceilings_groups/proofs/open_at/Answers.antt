@@ -2,7 +2,6 @@ use native.Mathlib.Omega.{arith}
 use mathlib.Core.Path.{sym, ◌∙◌}
 use Rattle.model.specs.Limits.{omega_limit}
 use Rattle.ceilings_groups.proofs.Settling.{reached_allows}
-use borrow.Author.Rules.{rules}
 use Rattle.ceilings_groups.proofs.open_at.Goals as goal
 
 pub returns-then-n-y : goal.returns-then-n-y

@@ -1,8 +1,6 @@
 -- The loop's invariant: the rules before j are open to the ceilings of the mask.
 use Prim.Native.Nat.{◌-◌, ◌≤◌}
-use native.Mathlib.Omega.{arith}
-use borrow.Author.Rules.{rules}
-use Rattle.ceilings_groups.proofs.Settling.{OpenUpto, open_start, open_next, open_all}
+use Rattle.ceilings_groups.proofs.Settling.{OpenUpto}
 use Rattle.ceilings_groups.proofs.open_to_all.Given as goal
 
 abbrev pub invariant-loop-j : goal.invariant-loop-j

@@ -1,7 +1,5 @@
-use native.Mathlib.Omega.{arith}
 use Rattle.model.proofs.Logic.{true_false}
 use Rattle.ceilings_groups.proofs.Settling.{sets_put}
-use borrow.Author.Rules.{rules}
 use Rattle.ceilings_groups.proofs.put_group.Goals as goal
 
 pub returns-then-boundless : goal.returns-then-boundless

@@ -1,7 +1,7 @@
-use Prim.Native.Nat.{◌-◌, ◌≤◌}
+use Prim.Native.Nat.{◌-◌}
 use native.Mathlib.Omega.{arith}
 use borrow.Author.Rules.{rules}
-use Rattle.ceilings_groups.proofs.Settling.{OpenUpto, open_start, open_next, open_all}
+use Rattle.ceilings_groups.proofs.Settling.{open_start, open_next, open_all}
 use Rattle.ceilings_groups.proofs.sets_to_all.Goals as goal
 
 pub below-free-requires : goal.below-free-requires

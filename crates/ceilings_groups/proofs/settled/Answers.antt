@@ -4,7 +4,6 @@ use mathlib.Core.Bool.{not}
 use Rattle.masks.specs.Masks.{has}
 use Rattle.ceilings_groups.proofs.Leading.{any_same}
 use Rattle.ceilings_groups.proofs.Settling.{settled_bit}
-use borrow.Author.Rules.{rules}
 use Rattle.model.proofs.Logic.{not_not}
 use Rattle.ceilings_groups.proofs.settled.Goals as goal
 

@@ -1,21 +1,15 @@
 -- The loop's invariant: the sets of the states before i are in the table, their rules and rows are counted, and the rules
 -- are kept where all of them are.
-use borrow.Author.Rules.{rules}
 use Prim.Native.Nat.{◌-◌, ◌≤◌, ◌<◌}
-use native.Mathlib.Omega.{arith}
-use mathlib.Core.Path.{◌≡◌, refl, ◌∙◌, ap}
+use mathlib.Core.Path.{◌≡◌}
 use mathlib.Core.Bool.{true}
 use lib.ListN.{length}
-use Rattle.model.specs.Words.{columns}
 use Rattle.model.specs.Rows.{program}
-use Rattle.model.specs.Tables.{tables, entries}
-use Rattle.steps.specs.Steps.{effect_kind_of}
-use Rattle.system_totals.proofs.Lined.{Summed, summed_none, summed_more, summed_all}
-use Rattle.system_totals.proofs.Walk.{Walk, walk_begin, walk_next}
+use Rattle.model.specs.Tables.{tables}
+use Rattle.system_totals.proofs.Lined.{Summed}
+use Rattle.system_totals.proofs.Walk.{Walk}
 use Rattle.kept_rules.specs.Kept.{KeptRules}
-use Rattle.kept_rules.proofs.Keeping.{lent_rules, few_rules, spare_low, room_later, starts_low, kept_start, kept_next, kept_all}
 use Rattle.ceilings_groups.specs.Groups.{GroupsUpto}
-use Rattle.ceilings_leaks.proofs.Leaking.{groups_start, groups_next, groups_all}
 use Rattle.ceilings_leaks.proofs.fill_groups.Given as goal
 
 abbrev pub invariant-loop-i : goal.invariant-loop-i

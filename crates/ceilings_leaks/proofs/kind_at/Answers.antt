@@ -1,7 +1,6 @@
 use mathlib.Core.Path.{◌∙◌, ap}
 use Rattle.model.specs.Rows.{program, tag}
 use Rattle.steps.specs.Steps.{effect_kind_of}
-use borrow.Author.Rules.{rules}
 use Rattle.ceilings_leaks.proofs.kind_at.Goals as goal
 
 pub returns : goal.returns

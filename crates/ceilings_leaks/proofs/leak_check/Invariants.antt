@@ -1,32 +1,19 @@
 -- The loops' invariants. Ceilings: the first that leaks is the first from k on. States: ceiling k leaks exactly where a state from the entry e on leads
 -- out. Rules: the same by the rules of state i from j on, and the states behind it. Candidates: some ceiling covers exactly where a candidate from a on
 -- does. Named counters: those before b pass.
-use Rattle.ceilings_form.proofs.Reading.{begins_low}
 use Prim.Native.Nat.{ℕ, ◌+◌, ◌-◌, ◌≤◌, ◌<◌}
-use native.Mathlib.Omega.{arith}
-use mathlib.Core.Path.{◌≡◌, refl, sym, ◌∙◌}
+use mathlib.Core.Path.{◌≡◌}
 use mathlib.Core.Bool.{true, ◌||◌}
-use mathlib.Core.Logic.{⊎_elim}
 use lib.ListN.{length}
-use borrow.Author.Rules.{rules}
-use borrow.Author.Tests.{not-true, not-false}
-use Rattle.model.specs.Index.{any, first}
+use Rattle.model.specs.Index.{any}
 use Rattle.model.specs.Rows.{program}
 use Rattle.model.specs.Tables.{tables}
 use Rattle.model.specs.Ceilings.{ceiling_entries}
 use Rattle.kept_rules.specs.Kept.{KeptRules}
-use Rattle.state_rules.proofs.Letters.{set_room}
-use Rattle.ceilings_letters.proofs.Holding.{letters_ready}
 use Rattle.ceilings_leaks.specs.Leaks.{RulesSeen}
 use Rattle.ceilings_form.specs.Limits.{ceiling_end}
-use Rattle.ceilings_form.proofs.Ceilings.{entries_size}
-use Rattle.ceilings.proofs.Ahead.{ahead_inside}
-use Rattle.ceilings.proofs.Begun.{begun, room_all, row_at}
 use Rattle.ceilings_covers.specs.Covers.{named, passes}
-use Rattle.ceilings_covers.proofs.Covering.{candidate_covers, covers_not}
-use Rattle.ceilings_groups.proofs.Settling.{settles}
-use Rattle.system_totals.proofs.Walk.{room_kept}
-use Rattle.ceilings_leaks.proofs.Leaking.{low_sizes, above_at, leaks, by_state, by_step, step_at, Walk, LeftOf, walk_start, walk_end, walk_limit, walk_settled, rules_start, rules_turn, rules_leak, rules_done, unused, covered, led_out, left_start, left_low, left_surely, left_next, left_covers, left_none, ceiling_turn, states_few, step_shape, leak_safe, leak_refused_at, state_none, beside_at, named_next, first_low, whole_of}
+use Rattle.ceilings_leaks.proofs.Leaking.{leaks, by_state, by_step, step_at, Walk, LeftOf}
 use Rattle.ceilings_leaks.proofs.leak_check.Given as goal
 
 abbrev pub invariant-loop-b : goal.invariant-loop-b

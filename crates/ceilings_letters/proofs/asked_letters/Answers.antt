@@ -1,10 +1,7 @@
 use mathlib.Core.Bool.{not}
 use native.Mathlib.Omega.{arith}
-use mathlib.Core.Path.{◌≡◌, sym, ◌∙◌, ap}
-use borrow.Author.Tests.{not-false}
-use borrow.Author.Rules.{rules}
+use mathlib.Core.Path.{◌∙◌, ap}
 use Rattle.model.specs.Words.{columns}
-use Rattle.model.specs.Rows.{tag, is_head_of}
 use Rattle.model.specs.Tables.{tables, entries}
 use Rattle.model.specs.Counters.{counter_count}
 use Rattle.rules.proofs.States.{state_head}
@@ -34,11 +31,11 @@ left_moved-mask-requires c = record { beside = c.requires.under.beside; states_l
 
 pub open_letters-requires : goal.open_letters-requires
 open_letters-requires c = record {
-        letters_room = c.requires.letters_room;
-        one_more = more_tables _ _ _ _ _ _ _ c.requires.under.beside;
-        row = c.requires.under.row;
-        held_set = c.requires.under.holds c.if-not-wanted.false;
-    }
+  letters_room = c.requires.letters_room;
+  one_more = more_tables _ _ _ _ _ _ _ c.requires.under.beside;
+  row = c.requires.under.row;
+  held_set = c.requires.under.holds c.if-not-wanted.false;
+}
 
 pub returns : goal.returns
 returns c =

@@ -1,15 +1,13 @@
-use Prim.Native.Nat.{◌-◌, ◌≤◌}
+use Prim.Native.Nat.{◌-◌}
 use native.Mathlib.Omega.{arith}
-use mathlib.Core.Path.{◌≡◌, refl, sym, ◌∙◌, ap}
+use mathlib.Core.Path.{refl, sym, ◌∙◌, ap}
 use mathlib.Core.Bool.{not}
 use lib.Dec.{eqb}
-use lib.ListN.{length}
-use borrow.Author.Rules.{rules}
-use borrow.Author.Tests.{eq-eqb, ne_eqb, not-true}
+use borrow.Author.Tests.{eq-eqb, ne_eqb}
 use Rattle.model.proofs.Logic.{true_false}
 use Rattle.ceilings.specs.Table.{held}
 use Rattle.ceilings.proofs.Cells.{row_in}
-use Rattle.ceilings_letters.proofs.Holding.{HeldBelow, held_none, held_skip, held_put, held_all}
+use Rattle.ceilings_letters.proofs.Holding.{held_none, held_skip, held_put, held_all}
 use Rattle.ceilings_letters.proofs.held_letters.Goals as goal
 
 pub returns-then-not-asked : goal.returns-then-not-asked
@@ -35,9 +33,9 @@ overflow_sub-x c = c.loop-x.invariant.2
 
 pub put-requires : goal.put-requires
 put-requires c = record {
-        v_bound = omega (arith, c.loop-x-test.true, c.requires.bits, c.loop-x.invariant.2);
-        row = record { room = omega (arith, c.requires.row.room, c.loop-x.invariant.1, c.clear.ensures.long) };
-    }
+  v_bound = omega (arith, c.loop-x-test.true, c.requires.bits, c.loop-x.invariant.2);
+  row = record { room = omega (arith, c.requires.row.room, c.loop-x.invariant.1, c.clear.ensures.long) };
+}
 
 pub overflow_step-x-in-loop-x : goal.overflow_step-x-in-loop-x
 overflow_step-x-in-loop-x c = record { fits = omega (arith, c.loop-x-test.true, c.requires.few) }

@@ -1,6 +1,5 @@
 use native.Mathlib.Omega.{arith}
 use mathlib.Core.Path.{sym, ◌∙◌}
-use borrow.Author.Rules.{rules}
 use Rattle.ceilings_letters.proofs.one_more_by.Goals as goal
 
 pub overflow_mul-second : goal.overflow_mul-second

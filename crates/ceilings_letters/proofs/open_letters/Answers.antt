@@ -1,12 +1,9 @@
-use Prim.Native.Nat.{◌+◌, ◌-◌, ◌≤◌}
+use Prim.Native.Nat.{◌+◌, ◌-◌}
 use native.Mathlib.Omega.{arith}
-use mathlib.Core.Path.{◌≡◌, refl, sym, ◌∙◌, ap}
+use mathlib.Core.Path.{◌≡◌, refl, ◌∙◌, ap}
 use mathlib.Core.Bool.{not}
-use lib.ListN.{length}
-use borrow.Author.Tests.{not-true, not-false}
-use borrow.Author.Rules.{rules}
-use Rattle.ceilings_letters.specs.Letters.{is_held, more_in}
-use Rattle.ceilings_letters.proofs.Holding.{HeldBelow, held_none, held_skip, held_put, held_all}
+use Rattle.ceilings_letters.specs.Letters.{is_held_of, more_in}
+use Rattle.ceilings_letters.proofs.Holding.{held_none, held_skip, held_put, held_all}
 use Rattle.ceilings_letters.proofs.Sending.{more_there}
 use Rattle.ceilings_letters.proofs.open_letters.Goals as goal
 
@@ -29,9 +26,9 @@ one_more_by-raised-requires c =
     let a = c.args in
     let there : a.s.states + (c.loop-x.x - a.s.states) ≡ c.loop-x.x = omega (arith, c.loop-x.invariant.2) in
     record {
-        one_more = c.requires.one_more;
-        x_lt_n = (c.loop-x-test.true, c.requires.letters_room.few);
-        is_held_value = c.holds-is_held.ensures ∙ (c.requires.held_set _ (omega (arith, c.loop-x-test.true, there)) ∙ ap (is_held a.limits.now a.s.ceilings a.k) there);
+      one_more = c.requires.one_more;
+      x_lt_n = (c.loop-x-test.true, c.requires.letters_room.few);
+      is_held_value = c.holds-is_held.ensures ∙ (c.requires.held_set _ (omega (arith, c.loop-x-test.true, there)) ∙ ap (is_held_of a.limits.now a.s.ceilings a.k) there);
     }
 
 pub overflow_step-x : goal.overflow_step-x
@@ -47,9 +44,9 @@ loop-x-preserved-then-not-is_none c =
 
 pub put-requires : goal.put-requires
 put-requires c = record {
-        v_bound = omega (arith, c.loop-x-test.true, c.requires.letters_room.bits, c.loop-x.invariant.2);
-        row = record { room = omega (arith, c.requires.letters_room.row.room, c.loop-x.invariant.1, c.clear.ensures.long) };
-    }
+  v_bound = omega (arith, c.loop-x-test.true, c.requires.letters_room.bits, c.loop-x.invariant.2);
+  row = record { room = omega (arith, c.requires.letters_room.row.room, c.loop-x.invariant.1, c.clear.ensures.long) };
+}
 
 pub overflow_step-x-in-loop-x : goal.overflow_step-x-in-loop-x
 overflow_step-x-in-loop-x c = record { fits = omega (arith, c.loop-x-test.true, c.requires.letters_room.few) }

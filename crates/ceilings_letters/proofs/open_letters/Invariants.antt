@@ -1,13 +1,9 @@
-use Prim.Native.Nat.{◌+◌, ◌-◌, ◌≤◌}
-use native.Mathlib.Omega.{arith}
-use mathlib.Core.Path.{◌≡◌, refl, sym, ◌∙◌, ap}
+use Prim.Native.Nat.{◌-◌, ◌≤◌}
+use mathlib.Core.Path.{◌≡◌}
 use mathlib.Core.Bool.{not}
 use lib.ListN.{length}
-use borrow.Author.Tests.{not-true, not-false}
-use borrow.Author.Rules.{rules}
-use Rattle.ceilings_letters.specs.Letters.{is_held, more_in}
-use Rattle.ceilings_letters.proofs.Holding.{HeldBelow, held_none, held_skip, held_put, held_all}
-use Rattle.ceilings_letters.proofs.Sending.{more_there}
+use Rattle.ceilings_letters.specs.Letters.{more_in}
+use Rattle.ceilings_letters.proofs.Holding.{HeldBelow}
 use Rattle.ceilings_letters.proofs.open_letters.Given as goal
 
 abbrev pub invariant-loop-x : goal.invariant-loop-x

@@ -1,13 +1,9 @@
-use Prim.Native.Nat.{◌-◌, ◌*◌, ◌≤◌, ◌<◌}
+use Prim.Native.Nat.{◌-◌, ◌<◌}
 use native.Mathlib.Omega.{arith}
-use mathlib.Core.Path.{◌≡◌, refl, sym, ◌∙◌}
-use lib.ListN.{length}
-use borrow.Author.Rules.{rules}
-use Rattle.model.specs.Ceilings.{ceiling_entries}
-use Rattle.ceilings_form.specs.Limits.{ceiling_end}
+use mathlib.Core.Path.{refl, sym, ◌∙◌}
 use Rattle.ceilings_form.proofs.Ceilings.{entries_size}
 use Rattle.ceilings.proofs.Begun.{begun}
-use Rattle.ceilings_masks.proofs.Turning.{Turning, counted_start, turning_start, turning_inside, turning_counter, turning_end, turning_next}
+use Rattle.ceilings_masks.proofs.Turning.{counted_start, turning_start, turning_inside, turning_counter, turning_end, turning_next}
 use Rattle.ceilings_masks.proofs.compare.Goals as goal
 
 pub none-requires : goal.none-requires
@@ -27,8 +23,7 @@ below-requires-2 c = tt
 
 pub loop-s-init : goal.loop-s-init
 loop-s-init c =
-    let p = (c.requires.in_form, (c.requires.limits_table, (c.requires.holders, (c.requires.k_lt_ceilings, (c.requires.n_in_bounds))))) in
-    (turning_start _ _ _ _ _ _ _ _ _ _ (begun _ _ _ _ p.0 p.1.0 _ _ p.1.1.1.0.0 p.1.1.1.0.1) (counted_start _ _ _ _ c.none.ensures c.none-2.ensures c.none-3.ensures), refl)
+    (turning_start _ _ _ _ _ _ _ _ _ _ (begun _ _ _ _ c.requires.in_form c.requires.limits_table _ _ c.requires.k_lt_ceilings.0 c.requires.k_lt_ceilings.1) (counted_start _ _ _ _ c.none.ensures c.none-2.ensures c.none-3.ensures), refl)
 
 pub counter_at-x-requires : goal.counter_at-x-requires
 counter_at-x-requires c = c.requires.whole
@@ -38,7 +33,7 @@ shape_of-near-then-x-n c = c.loop-s.invariant.1
 
 pub returns-then-x-n : goal.returns-then-x-n
 returns-then-x-n c =
-    let p = (c.requires.holders, (c.requires.k_lt_ceilings, (c.requires.n_in_bounds))) in let z = turning_end _ _ _ _ _ _ _ _ _ _ c.loop-s.invariant.0 _ (sym c.counter_at-x.ensures ∙ c.if-x-n.true) p.1.0.0 p.0 (omega (arith, p.1.1, c.loop-s.invariant.1)) in record { beside = z.0; above = z.1 }
+    let z = turning_end _ _ _ _ _ _ _ _ _ _ c.loop-s.invariant.0 _ (sym c.counter_at-x.ensures ∙ c.if-x-n.true) c.requires.k_lt_ceilings.0 c.requires.holders (omega (arith, c.requires.n_in_bounds, c.loop-s.invariant.1)) in record { beside = z.0; above = z.1 }
 
 -- a counter that is not n is one of the n
 counter-low : (c : goal.After-put_counter-arg-1) → c.counter_at-x.result < c.args.n
@@ -46,7 +41,7 @@ counter-low c = omega (arith, turning_counter _ _ _ _ _ _ _ _ _ _ c.loop-s.invar
 
 pub put_counter-m-requires : goal.put_counter-m-requires
 put_counter-m-requires c =
-    let p = (c.requires.holders, (c.requires.k_lt_ceilings, (c.requires.n_in_bounds))) in record { holders = p.0; k_lt_ceilings = (p.1.0.0, counter-low c); n_in_bounds = omega (arith, p.1.1, c.loop-s.invariant.1) }
+    record { holders = c.requires.holders; k_lt_ceilings = (c.requires.k_lt_ceilings.0, counter-low c); n_in_bounds = omega (arith, c.requires.n_in_bounds, c.loop-s.invariant.1) }
 
 pub overflow_mul-second : goal.overflow_mul-second
 overflow_mul-second c =
@@ -59,8 +54,7 @@ overflow_add-second c =
 pub load-requires : goal.load-requires
 load-requires c =
     let counter-low-here : c.counter_at-x.result < c.args.n = omega (arith, turning_counter _ _ _ _ _ _ _ _ _ _ c.loop-s.invariant.0 (λ z. c.if-x-n.false (c.counter_at-x.ensures ∙ z)), c.counter_at-x.ensures) in
-    let p = (c.requires.in_form, (c.requires.limits_table, (c.requires.holders, (c.requires.k_lt_ceilings, (c.requires.n_in_bounds))))) in
-    record { room = omega (arith, counter-low-here, c.put_counter-m.ensures.two_put.long, c.loop-s.invariant.1, p.1.1.1.1) }
+    record { room = omega (arith, counter-low-here, c.put_counter-m.ensures.two_put.long, c.loop-s.invariant.1, c.requires.n_in_bounds) }
 
 pub over_more-over-requires : goal.over_more-over-requires
 over_more-over-requires c = tt

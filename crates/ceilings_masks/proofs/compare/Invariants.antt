@@ -1,14 +1,10 @@
 -- The loop's invariant: the counters of the entries before i are done.
-use Prim.Native.Nat.{◌-◌, ◌*◌, ◌≤◌, ◌<◌}
-use native.Mathlib.Omega.{arith}
-use mathlib.Core.Path.{◌≡◌, refl, sym, ◌∙◌}
+use Prim.Native.Nat.{◌-◌}
+use mathlib.Core.Path.{◌≡◌}
 use lib.ListN.{length}
-use borrow.Author.Rules.{rules}
 use Rattle.model.specs.Ceilings.{ceiling_entries}
 use Rattle.ceilings_form.specs.Limits.{ceiling_end}
-use Rattle.ceilings_form.proofs.Ceilings.{entries_size}
-use Rattle.ceilings.proofs.Begun.{begun}
-use Rattle.ceilings_masks.proofs.Turning.{Turning, counted_start, turning_start, turning_inside, turning_counter, turning_end, turning_next}
+use Rattle.ceilings_masks.proofs.Turning.{Turning}
 use Rattle.ceilings_masks.proofs.compare.Given as goal
 
 abbrev pub invariant-loop-s : goal.invariant-loop-s

@@ -1,10 +1,8 @@
-use Prim.Native.Nat.{◌-◌, ◌≤◌}
+use Prim.Native.Nat.{◌-◌}
 use native.Mathlib.Omega.{arith}
-use mathlib.Core.Path.{◌≡◌, refl, ◌∙◌}
-use lib.ListN.{length}
+use mathlib.Core.Path.{refl, ◌∙◌}
 use borrow.Author.Rules.{rules}
 use Rattle.ceilings.proofs.Cells.{row_in}
-use Rattle.ceilings_masks.specs.Compared.{Holders}
 use Rattle.ceilings_masks.proofs.Comparing.{holders_none, holders_next, holders_all}
 use Rattle.ceilings_masks.proofs.fill_holders.Goals as goal
 

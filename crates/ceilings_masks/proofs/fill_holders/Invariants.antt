@@ -1,12 +1,8 @@
 -- The loop's invariant: the sets of the counters before x are in the table.
 use Prim.Native.Nat.{◌-◌, ◌≤◌}
-use native.Mathlib.Omega.{arith}
-use mathlib.Core.Path.{◌≡◌, refl, ◌∙◌}
+use mathlib.Core.Path.{◌≡◌}
 use lib.ListN.{length}
-use borrow.Author.Rules.{rules}
-use Rattle.ceilings.proofs.Cells.{row_in}
 use Rattle.ceilings_masks.specs.Compared.{Holders}
-use Rattle.ceilings_masks.proofs.Comparing.{holders_none, holders_next, holders_all}
 use Rattle.ceilings_masks.proofs.fill_holders.Given as goal
 
 abbrev pub invariant-loop-x : goal.invariant-loop-x

@@ -1,5 +1,4 @@
 use Rattle.ceilings_masks.proofs.Comparing.{mask_of}
-use borrow.Author.Rules.{rules}
 use Rattle.ceilings_masks.proofs.limits_from.Goals as goal
 
 pub returns : goal.returns

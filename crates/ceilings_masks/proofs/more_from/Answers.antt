@@ -1,10 +1,7 @@
-use native.Mathlib.Omega.{arith}
-use mathlib.Core.Path.{◌≡◌, refl, sym, ◌∙◌}
-use mathlib.Core.Bool.{Bool, true, false, ◌&&◌}
+use mathlib.Core.Path.{sym}
 use borrow.Author.Tests.{lt-ltb, le-ltb}
 use Rattle.masks.specs.Masks.{has}
 use Rattle.ceilings_masks.specs.Compared.{MoreAt}
-use borrow.Author.Rules.{rules}
 use Rattle.model.proofs.Logic.{and_true}
 use Rattle.ceilings_masks.proofs.more_from.Goals as goal
 

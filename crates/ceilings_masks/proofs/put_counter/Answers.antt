@@ -29,8 +29,8 @@ pub returns : goal.returns
 returns c =
     let most = c.highest-most.ensures.value in
     record {
-        by_index = exceeds_as _ _ _ _ _ most _ _ _ c.below.ensures c.allowing-held.ensures c.without-2.ensures;
-        two_put = two_put _ _ _ _ _ _ _ _ c.store.ensures c.store-2.ensures
+      by_index = exceeds_as _ _ _ _ _ most _ _ _ c.below.ensures c.allowing-held.ensures c.without-2.ensures;
+      two_put = two_put _ _ _ _ _ _ _ _ c.store.ensures c.store-2.ensures
           (by_one_as _ _ _ _ _ most _ _ _ _ c.one_less.ensures c.allowing-fewer.ensures c.allowing-held.ensures c.without.ensures)
           (more_as c.args.limits.now _ _ _ _ most _ _ (c.raised.ensures.value ∙ ap raised c.as_limit.ensures) (λ i. omega (arith, c.type_inv.limits i)) c.allowing-next.ensures);
     }

@@ -1,5 +1,4 @@
 use Rattle.ceilings_masks.proofs.Comparing.{three_put}
-use borrow.Author.Rules.{rules}
 use Rattle.ceilings_masks.proofs.store_three.Goals as goal
 
 pub returns : goal.returns

@@ -1,11 +1,7 @@
 -- The loop's invariant: the first j bits say which ceilings reach the limit, and no other is set.
 use Prim.Native.Nat.{◌-◌, ◌+◌, ◌*◌, ◌≤◌}
-use native.Mathlib.Omega.{arith}
-use mathlib.Core.Path.{sym}
-use mathlib.Core.Logic.{⊎_elim}
-use borrow.Author.Rules.{rules}
 use Rattle.ceilings_masks.specs.Compared.{reaches}
-use Rattle.ceilings_masks.proofs.Comparing.{WordUpto, word_start, word_hit, word_miss, reaches_in, reaches_low, word_over}
+use Rattle.ceilings_masks.proofs.Comparing.{WordUpto}
 use Rattle.ceilings_masks.proofs.word_from.Given as goal
 
 abbrev pub invariant-loop-j : goal.invariant-loop-j

@@ -1,14 +1,11 @@
 -- The loop's invariant: the words before x are filled in, and the next one is at hand.
 use Prim.Native.Nat.{◌*◌, ◌-◌, ◌≤◌}
-use native.Mathlib.Omega.{arith}
-use mathlib.Core.Path.{◌≡◌, refl, ◌∙◌}
-use lib.ListN.{length, length-set}
+use mathlib.Core.Path.{◌≡◌}
+use lib.ListN.{length}
 use Rattle.model.specs.Ceilings.{highest}
 use Rattle.ceilings.specs.Table.{held}
-use Rattle.ceilings.proofs.Cells.{row_in}
-use Rattle.ceilings_met.proofs.Filled.{Filled, filled_none, filled_more}
-use Rattle.ceilings_met.proofs.Sums.{sum_before, sum_none, sum_more, all_filled}
-use borrow.Author.Rules.{rules}
+use Rattle.ceilings_met.proofs.Filled.{Filled}
+use Rattle.ceilings_met.proofs.Sums.{sum_before}
 use Rattle.ceilings_met.proofs.fill_sums.Given as goal
 
 abbrev pub invariant-loop-x : goal.invariant-loop-x

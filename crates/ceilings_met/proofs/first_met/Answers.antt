@@ -1,11 +1,10 @@
-use Prim.Native.Nat.{◌-◌, ◌≤◌}
+use Prim.Native.Nat.{◌-◌}
 use native.Mathlib.Omega.{arith}
-use mathlib.Core.Path.{◌≡◌, refl, sym, ◌∙◌}
-use Rattle.model.specs.Index.{first}
+use mathlib.Core.Path.{refl, sym, ◌∙◌}
 use Rattle.model.proofs.Index.{first_hit, first_miss, first_end}
 use Rattle.ceilings_met.specs.Met.{bad_met}
 use Rattle.ceilings_met.specs.Sums.{counts_of}
-use Rattle.bads_rows.proofs.Walking.{BadsWalked, bads_start, bads_stand, bads_next, bads_inside}
+use Rattle.bads_rows.proofs.Walking.{bads_start, bads_stand, bads_next, bads_inside}
 use Rattle.ceilings_met.proofs.Meeting.{bad_at}
 use borrow.Author.Rules.{rules}
 use Rattle.ceilings_met.proofs.first_met.Goals as goal

@@ -1,14 +1,10 @@
 -- The loop's invariant: the first bad met is the first of those from bad j on, which stand from row r.
 use Prim.Native.Nat.{◌-◌, ◌≤◌}
-use native.Mathlib.Omega.{arith}
-use mathlib.Core.Path.{◌≡◌, refl, sym, ◌∙◌}
+use mathlib.Core.Path.{◌≡◌}
 use Rattle.model.specs.Index.{first}
-use Rattle.model.proofs.Index.{first_hit, first_miss, first_end}
 use Rattle.ceilings_met.specs.Met.{bad_met}
 use Rattle.ceilings_met.specs.Sums.{counts_of}
-use Rattle.bads_rows.proofs.Walking.{BadsWalked, bads_start, bads_stand, bads_next, bads_inside}
-use Rattle.ceilings_met.proofs.Meeting.{bad_at}
-use borrow.Author.Rules.{rules}
+use Rattle.bads_rows.proofs.Walking.{BadsWalked}
 use Rattle.ceilings_met.proofs.first_met.Given as goal
 
 abbrev pub invariant-loop-j : goal.invariant-loop-j

@@ -1,12 +1,6 @@
-use Prim.Native.Nat.{◌+◌, ◌-◌, ◌≤◌}
+use Prim.Native.Nat.{◌-◌}
 use native.Mathlib.Omega.{arith}
-use mathlib.Core.Path.{◌≡◌, refl}
-use Rattle.model.specs.Bads.{bad_rows, met}
-use Rattle.model.specs.Rows.{program}
-use Rattle.model.specs.Tables.{tables}
-use Rattle.model.specs.Markings.{sum_in}
-use Rattle.bads_rows.specs.Items.{items_at}
-use Rattle.ceilings_met.specs.Sums.{counts_of}
+use mathlib.Core.Path.{refl}
 use Rattle.bads_rows.proofs.BadRows.{bad_inside}
 use Rattle.ceilings_met.proofs.Meeting.{meets_end, meets_not, meets_next}
 use borrow.Author.Rules.{rules}
@@ -20,9 +14,9 @@ returns-then-bad_tag-ne-TAG_CLASS c = let a = c.args in meets_end a.ws.now a.s _
 
 pub next_item-next-requires : goal.next_item-next-requires
 next_item-next-requires c = record {
-        whole = c.requires.summed.whole;
-        r_le_badrows = let h = bad_inside _ _ _ _ c.bad_tag.ensures (omega (arith, c.if-bad_tag-ne-TAG_CLASS.false)) in search rules;
-    }
+  whole = c.requires.summed.whole;
+  r_le_badrows = let h = bad_inside _ _ _ _ c.bad_tag.ensures (omega (arith, c.if-bad_tag-ne-TAG_CLASS.false)) in search rules;
+}
 
 pub item_count-requires : goal.item_count-requires
 item_count-requires c = record { summed = c.requires.summed; r_lt_badrows = bad_inside _ _ _ _ c.bad_tag.ensures (omega (arith, c.if-bad_tag-ne-TAG_CLASS.false)) }

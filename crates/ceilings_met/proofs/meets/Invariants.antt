@@ -1,16 +1,12 @@
 -- The loop's invariant: the bad is met exactly where its items from row i on are.
 use Prim.Native.Nat.{◌+◌, ◌-◌, ◌≤◌}
-use native.Mathlib.Omega.{arith}
-use mathlib.Core.Path.{◌≡◌, refl}
+use mathlib.Core.Path.{◌≡◌}
 use Rattle.model.specs.Bads.{bad_rows, met}
 use Rattle.model.specs.Rows.{program}
 use Rattle.model.specs.Tables.{tables}
 use Rattle.model.specs.Markings.{sum_in}
 use Rattle.bads_rows.specs.Items.{items_at}
 use Rattle.ceilings_met.specs.Sums.{counts_of}
-use Rattle.bads_rows.proofs.BadRows.{bad_inside}
-use Rattle.ceilings_met.proofs.Meeting.{meets_end, meets_not, meets_next}
-use borrow.Author.Rules.{rules}
 use Rattle.ceilings_met.proofs.meets.Given as goal
 
 abbrev pub invariant-loop-s : goal.invariant-loop-s

@@ -1,8 +1,7 @@
-use Prim.Native.Nat.{◌-◌, ◌≤◌}
+use Prim.Native.Nat.{◌-◌}
 use mathlib.Core.Path.{◌≡◌, refl}
-use lib.ListN.{length}
 use Rattle.model.specs.Message.{bads_offset}
-use Rattle.ceilings_met.proofs.Meeting.{allows, first_allowed, first_none, first_upto, limits_room, summed, allowed_next, met_safe, met_refused}
+use Rattle.ceilings_met.proofs.Meeting.{allows, first_none, first_upto, limits_room, summed, allowed_next, met_safe, met_refused}
 use borrow.Author.Rules.{rules}
 use Rattle.ceilings_met.proofs.met_check.Goals as goal
 
@@ -11,17 +10,17 @@ loop-k-init c = (first_none c.args.s.bads (allows c.args.ws.now c.args.s c.args.
 
 pub fill_sums-requires : goal.fill_sums-requires
 fill_sums-requires c = record {
-        k_lt_ceilings = (search rules, c.requires.ready.counters_low);
-        ceilings_in_bounds = limits_room c.args.ws.now c.args.s _ _ c.requires.ready.limits_table;
-        n_in_bounds = search rules;
-    }
+  k_lt_ceilings = (search rules, c.requires.ready.counters_low);
+  ceilings_in_bounds = limits_room c.args.ws.now c.args.s _ _ c.requires.ready.limits_table;
+  n_in_bounds = search rules;
+}
 
 pub first_met-least-requires : goal.first_met-least-requires
 first_met-least-requires c = record {
-        summed = summed c.args.ws.now c.args.s _ _ _ _ c.requires.ready _ (search rules) _ c.fill_sums.ensures (search rules);
-        bads_in_form = c.requires.bads_in_form;
-        upto_le_bads = search rules;
-    }
+  summed = summed c.args.ws.now c.args.s _ _ _ _ c.requires.ready _ (search rules) _ c.fill_sums.ensures (search rules);
+  bads_in_form = c.requires.bads_in_form;
+  upto_le_bads = search rules;
+}
 
 pub loop-k-preserved : goal.loop-k-preserved
 loop-k-preserved c = (allowed_next c.args.ws.now c.args.s _ _ _ _ c.requires.ready _ (search rules) _ c.fill_sums.ensures _ _ c.loop-k.invariant.0 c.first_met-least.ensures, first_upto _ _ _ _ c.first_met-least.ensures (search rules), search rules, search rules)

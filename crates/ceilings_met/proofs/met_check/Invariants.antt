@@ -1,10 +1,8 @@
 -- The loop's invariant: `least` is the first bad that one of the first k ceilings allows.
 use Prim.Native.Nat.{◌-◌, ◌≤◌}
-use mathlib.Core.Path.{◌≡◌, refl}
+use mathlib.Core.Path.{◌≡◌}
 use lib.ListN.{length}
-use Rattle.model.specs.Message.{bads_offset}
-use Rattle.ceilings_met.proofs.Meeting.{allows, first_allowed, first_none, first_upto, limits_room, summed, allowed_next, met_safe, met_refused}
-use borrow.Author.Rules.{rules}
+use Rattle.ceilings_met.proofs.Meeting.{first_allowed}
 use Rattle.ceilings_met.proofs.met_check.Given as goal
 
 abbrev pub invariant-loop-k : goal.invariant-loop-k

@@ -1,10 +1,9 @@
-use Prim.Native.Nat.{◌-◌, ◌≤◌}
-use mathlib.Core.Path.{◌≡◌, refl, ◌∙◌}
+use Prim.Native.Nat.{◌-◌}
+use mathlib.Core.Path.{refl, ◌∙◌}
 use borrow.Author.Rules.{rules}
-use Rattle.model.specs.Index.{any}
 use Rattle.model.proofs.Index.{any_end}
 use Rattle.ceilings_met.proofs.Meeting.{row_of}
-use Rattle.ceilings_met.proofs.Start.{covers_start, start_safe, start_refused, start_hit, start_miss}
+use Rattle.ceilings_met.proofs.Start.{start_safe, start_refused, start_hit, start_miss}
 use Rattle.ceilings_met.proofs.start_check.Goals as goal
 
 pub loop-k-init : goal.loop-k-init

@@ -1,11 +1,8 @@
 -- The loop's invariant: some ceiling covers the start exactly where one of those from k on does.
 use Prim.Native.Nat.{◌-◌, ◌≤◌}
-use mathlib.Core.Path.{◌≡◌, refl, ◌∙◌}
-use borrow.Author.Rules.{rules}
+use mathlib.Core.Path.{◌≡◌}
 use Rattle.model.specs.Index.{any}
-use Rattle.model.proofs.Index.{any_end}
-use Rattle.ceilings_met.proofs.Meeting.{row_of}
-use Rattle.ceilings_met.proofs.Start.{covers_start, start_safe, start_refused, start_hit, start_miss}
+use Rattle.ceilings_met.proofs.Start.{covers_start}
 use Rattle.ceilings_met.proofs.start_check.Given as goal
 
 abbrev pub invariant-loop-k : goal.invariant-loop-k

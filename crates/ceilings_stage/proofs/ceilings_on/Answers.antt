@@ -19,8 +19,8 @@ pub start_verdict-begins-requires : goal.start_verdict-begins-requires
 start_verdict-begins-requires c =
     let t = c.requires.joined_tables in
     record {
-        startable = record { ready = t.ready; ends = t.ends; closed = t.closed; counted = record { counters = c.requires.numbered.counted; few = omega (arith, c.requires.numbered.counted, t.few) } };
-        limits_table = c.fill_limits.ensures.limits_table;
+      startable = record { ready = t.ready; ends = t.ends; closed = t.closed; counted = record { counters = c.requires.numbered.counted; few = omega (arith, c.requires.numbered.counted, t.few) } };
+      limits_table = c.fill_limits.ensures.limits_table;
     }
 
 pub returns-then-not-is_safe : goal.returns-then-not-is_safe
@@ -35,9 +35,9 @@ pub met_verdict-met-requires : goal.met_verdict-met-requires
 met_verdict-met-requires c =
     let t = c.requires.joined_tables in
     record {
-        letters_filled = (record { ready = t.ready; class_letters = lent_letters _ _ _ _ _ _ t; letter_sets_of = t.letter_sets_of }, c.requires.numbered.bads);
-        counted = (record { counters = c.requires.numbered.counted; few = omega (arith, c.requires.numbered.counted, t.few) }, c.fill_limits.ensures.limits_table);
-        n_in_bounds = c.requires.bounds_room.1;
+      letters_filled = (record { ready = t.ready; class_letters = lent_letters _ _ _ _ _ _ t; letter_sets_of = t.letter_sets_of }, c.requires.numbered.bads);
+      counted = (record { counters = c.requires.numbered.counted; few = omega (arith, c.requires.numbered.counted, t.few) }, c.fill_limits.ensures.limits_table);
+      n_in_bounds = c.requires.bounds_room.1;
     }
 
 pub returns-then-not-is_safe-2 : goal.returns-then-not-is_safe-2
@@ -49,10 +49,10 @@ pub leaks_on-leaks-requires : goal.leaks_on-leaks-requires
 leaks_on-leaks-requires c =
     let n = c.requires.numbered in
     record {
-        joined_tables = c.requires.joined_tables;
-        limited = record { counted = n.counted; in_form = n.in_form; limits_table = c.fill_limits.ensures.limits_table; starts_table = c.fill_limits.ensures.starts_table };
-        mask_room = c.requires.mask_room;
-        rule_room = c.requires.rule_room;
+      joined_tables = c.requires.joined_tables;
+      limited = record { counted = n.counted; in_form = n.in_form; limits_table = c.fill_limits.ensures.limits_table; starts_table = c.fill_limits.ensures.starts_table };
+      mask_room = c.requires.mask_room;
+      rule_room = c.requires.rule_room;
     }
 
 pub shape_of-limits-then-not-is_safe-3 : goal.shape_of-limits-then-not-is_safe-3
@@ -71,10 +71,10 @@ returns-then-not-is_safe-3 c =
 
 pub space_verdict-requires : goal.space_verdict-requires
 space_verdict-requires c = record {
-        joined_tables = c.requires.joined_tables;
-        rule_room = room_kept _ _ _ _ _ _ c.requires.rule_room.0 c.leaks_on-leaks.auto.1.1.1.1.1.1.1.1.1.1.1.1.1.0 c.leaks_on-leaks.auto.1.1.1.1.1.1.1.1.1.1.1.1.1.1.0;
-        totalled = c.leaks_on-leaks.ensures.totalled;
-    }
+  joined_tables = c.requires.joined_tables;
+  rule_room = room_kept _ _ _ _ _ _ c.requires.rule_room.0 c.leaks_on-leaks.auto.1.1.1.1.1.1.1.1.1.1.1.1.1.0 c.leaks_on-leaks.auto.1.1.1.1.1.1.1.1.1.1.1.1.1.1.0;
+  totalled = c.leaks_on-leaks.ensures.totalled;
+}
 
 pub shape_of-limits : goal.shape_of-limits
 shape_of-limits c = c.fill_limits.auto.1.1.1.0
@@ -98,6 +98,6 @@ returns c =
     let met = passed _ _ _ (met_refuses _ _ _ _ _) c.met_verdict-met.ensures c.is_safe-2.ensures c.if-not-is_safe-2.false in
     let leak = passed _ _ _ (leak_refuses _ _ _ c.requires.numbered start met) c.leaks_on-leaks.ensures.verdict_value c.is_safe-3.ensures c.if-not-is_safe-3.false in
     record {
-        value = c.space_verdict.ensures.value ∙ sym (ap answer (goes_by _ _ _ (goes_by _ _ _ (goes_by _ _ _ refl start) met) leak));
-        lent_after = c.space_verdict.ensures.lent_after;
+      value = c.space_verdict.ensures.value ∙ sym (ap answer (goes_by _ _ _ (goes_by _ _ _ (goes_by _ _ _ refl start) met) leak));
+      lent_after = c.space_verdict.ensures.lent_after;
     }

@@ -7,6 +7,6 @@ use Rattle.checks_sized.proofs.middle_fitting.Goals as goal
 pub words_verdict-requires : goal.words_verdict-requires
 unfolding width
 words_verdict-requires c = record {
-        parts_whole = c.requires.parts_whole;
-        unfitted = record { empty = empty_sets _ _ _ c.words64_1285-fitting.ensures; room = sets_fit _ _ 256 (width 256) _ _ c.words64_1285-fitting.ensures c.requires.rows_bound.0 (width_most _ 256 c.requires.rows_bound.1) (omega arith) };
-    }
+  parts_whole = c.requires.parts_whole;
+  unfitted = record { empty = empty_sets _ _ _ c.words64_1285-fitting.ensures; room = sets_fit _ _ 256 (width 256) _ _ c.words64_1285-fitting.ensures c.requires.rows_bound.0 (width_most _ 256 c.requires.rows_bound.1) (omega arith) };
+}

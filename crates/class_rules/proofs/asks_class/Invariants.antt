@@ -1,12 +1,7 @@
-use Prim.Native.Nat.{◌+◌, ◌-◌, ◌≤◌}
-use native.Mathlib.Omega.{arith}
-use mathlib.Core.Path.{◌≡◌, refl, sym, ◌∙◌, ap}
-use mathlib.Core.Bool.{not, ◌||◌}
-use borrow.Author.Tests.{not-true, not-false}
-use borrow.Author.Rules.{rules}
+use Prim.Native.Nat.{◌-◌, ◌≤◌}
+use mathlib.Core.Path.{◌≡◌}
 use Rattle.bits.specs.Bits.{member}
 use Rattle.model.specs.Index.{any}
-use Rattle.model.proofs.Index.{any_end, any_hit, any_miss}
 use Rattle.class_rules.proofs.asks_class.Given as goal
 
 abbrev pub invariant-loop-y : goal.invariant-loop-y

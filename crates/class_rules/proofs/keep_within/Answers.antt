@@ -1,7 +1,5 @@
 use mathlib.Core.Bool.{not}
 use mathlib.Core.Path.{ap}
-use borrow.Author.Rules.{rules}
-use Rattle.bits.specs.Bits.{member}
 use Rattle.class_rules.proofs.Asking.{wide_kept, narrow_kept}
 use Rattle.class_rules.proofs.keep_within.Goals as goal
 

@@ -1,15 +1,12 @@
 use mathlib.Core.Bool.{not}
 use mathlib.Core.Path.{ap}
-use Prim.Native.Nat.{◌+◌, ◌-◌, ◌≤◌}
+use Prim.Native.Nat.{◌-◌}
 use native.Mathlib.Omega.{arith}
 use mathlib.Core.Path.{◌≡◌}
-use Rattle.model.specs.Index.{gather}
-use Rattle.model.specs.Rows.{Kind, send}
-use Rattle.rules.specs.Listed.{kind_effect}
-use Rattle.rules.specs.Added.{Added}
+use Rattle.model.specs.Rows.{send}
 use Rattle.rules.proofs.Adding.{added_none, added_same, added_kept, added_one}
 use Rattle.bits.specs.Bits.{member}
-use Rattle.class_rules.specs.Asked.{letter_turn, class_turn}
+use Rattle.class_rules.specs.Asked.{class_turn}
 use Rattle.class_rules.proofs.Asking.{letter_skipped, letter_kept, PutRoom, put_room}
 use borrow.Author.Rules.{rules}
 use Rattle.class_rules.proofs.letter_rules.Goals as goal
@@ -82,6 +79,6 @@ unfolding class_turn
 returns c =
     let e : c.loop-y.y ≡ c.word-to.result = omega (arith, c.loop-y.invariant.2, c.loop-y-test.false) in
     record {
-        added = λ k. added_same k _ _ _ _ _ _ _ _ (c.loop-y.invariant.0 k) (λ i. rw (e, c.word-from.ensures.0, c.word-to.ensures.0));
-        d_bound = omega (arith, c.loop-y.invariant.3, c.word-from.ensures.0, c.word-to.ensures.0);
+      added = λ k. added_same k _ _ _ _ _ _ _ _ (c.loop-y.invariant.0 k) (λ i. rw (e, c.word-from.ensures.0, c.word-to.ensures.0));
+      d_bound = omega (arith, c.loop-y.invariant.3, c.word-from.ensures.0, c.word-to.ensures.0);
     }

@@ -1,15 +1,10 @@
 use Prim.Native.Nat.{◌+◌, ◌-◌, ◌≤◌}
-use native.Mathlib.Omega.{arith}
-use mathlib.Core.Path.{◌≡◌}
 use Rattle.model.specs.Index.{gather}
-use Rattle.model.specs.Rows.{Kind, send}
+use Rattle.model.specs.Rows.{Kind}
 use Rattle.rules.specs.Listed.{kind_effect}
 use Rattle.rules.specs.Added.{Added}
-use Rattle.rules.proofs.Adding.{added_none, added_same, added_kept, added_one}
 use Rattle.bits.specs.Bits.{member}
-use Rattle.class_rules.specs.Asked.{letter_turn, class_turn}
-use Rattle.class_rules.proofs.Asking.{letter_skipped, letter_kept, PutRoom, put_room}
-use borrow.Author.Rules.{rules}
+use Rattle.class_rules.specs.Asked.{letter_turn}
 use Rattle.class_rules.proofs.letter_rules.Given as goal
 
 abbrev pub invariant-loop-y : goal.invariant-loop-y

@@ -3,9 +3,9 @@ use Rattle.closure.proofs.fill_tables.Goals as goal
 
 pub fill_patterns-requires : goal.fill_patterns-requires
 fill_patterns-requires c = record {
-        fill_ready = record { ready = c.requires.layout_ready.0.ready; layout = c.requires.layout_ready.0.layout; names = c.fill_flow.ensures; builds = c.fill_builds.ensures };
-        unfilled = c.requires.indexed.1.patterns;
-    }
+  fill_ready = record { ready = c.requires.layout_ready.0.ready; layout = c.requires.layout_ready.0.layout; names = c.fill_flow.ensures; builds = c.fill_builds.ensures };
+  unfilled = c.requires.indexed.1.patterns;
+}
 
 pub returns : goal.returns
 returns c =

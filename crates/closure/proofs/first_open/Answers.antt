@@ -19,9 +19,9 @@ settled_bits-bits-requires c = record { closure_ready = c.requires.closure_ready
 pub returns-then-bits-eq-LACKS : goal.returns-then-bits-eq-LACKS
 unfolding tables entries columns
 returns-then-bits-eq-LACKS c = record {
-        value = opens_here c.loop-i.invariant.0 (search rules) _ c.settled_bits-bits.ensures.stated c.if-bits-eq-LACKS.true;
-        told = c.loop-i.invariant.0.told;
-    }
+  value = opens_here c.loop-i.invariant.0 (search rules) _ c.settled_bits-bits.ensures.stated c.if-bits-eq-LACKS.true;
+  told = c.loop-i.invariant.0.told;
+}
 
 pub overflow_cast-branches : goal.overflow_cast-branches
 overflow_cast-branches c = omega (arith, c.settled_bits-bits.ensures.stated.most, c.if-bits-eq-LACKS.false)

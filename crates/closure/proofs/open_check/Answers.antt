@@ -15,14 +15,13 @@ returns-then-not-opening_closed c = record {
   begins = open_refuses _;
   fits = open_refuses _;
   bits = open_refuses _;
-
 }
 
 pub fill_tables-requires : goal.fill_tables-requires
 fill_tables-requires c = record {
-        layout_ready = (record { ready = c.requires.openable.ready; layout = c.requires.openable.layout }, c.requires.openable.names);
-        indexed = (c.requires.open_scratch.indexed, c.requires.open_scratch.cleared);
-    }
+  layout_ready = (record { ready = c.requires.openable.ready; layout = c.requires.openable.layout }, c.requires.openable.names);
+  indexed = (c.requires.open_scratch.indexed, c.requires.open_scratch.cleared);
+}
 
 pub first_open-i-requires : goal.first_open-i-requires
 first_open-i-requires c = record { closure_ready = c.fill_tables.ensures; states_in_bounds = (c.requires.openable.states, none-settled _ _ _ c.requires.open_scratch.unsettled) }
@@ -100,10 +99,10 @@ returns-then-i-s c =
 
 pub fill_fitting-requires : goal.fill_fitting-requires
 fill_fitting-requires c = record {
-        ready = c.requires.openable.ready;
-        room = same_room _ _ c.fill_tables.auto.1.1.1.1.1.1.1.1.0 c.requires.open_scratch.cleared.patterns.may_room;
-        unfitted = c.requires.openable.unfitted;
-    }
+  ready = c.requires.openable.ready;
+  room = same_room _ _ c.fill_tables.auto.1.1.1.1.1.1.1.1.0 c.requires.open_scratch.cleared.patterns.may_room;
+  unfitted = c.requires.openable.unfitted;
+}
 
 pub returns : goal.returns
 unfolding tables entries columns

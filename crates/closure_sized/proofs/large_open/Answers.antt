@@ -10,6 +10,6 @@ unfolding width
 open_check-requires c =
     let p = c.requires in
     record {
-        openable = p;
-        open_scratch = lends _ max_rows max_names _ _ _ _ _ _ _ _ _ _ _ p.ready.limits p.ready.limits.rows.1 p.ready.limits.names.1 c.name_sets-flow.ensures c.name_sets-mail.ensures c.words16_66-firsts.ensures c.row_words16-nexts.ensures c.row_sets-may.ensures c.row_sets-held.ensures c.row_words32-codes.ensures (omega arith) (omega arith) (omega arith) (omega arith);
+      openable = p;
+      open_scratch = lends _ max_rows max_names _ _ _ _ _ _ _ _ _ _ _ p.ready.limits p.ready.limits.rows.1 p.ready.limits.names.1 c.name_sets-flow.ensures c.name_sets-mail.ensures c.words16_66-firsts.ensures c.row_words16-nexts.ensures c.row_sets-may.ensures c.row_sets-held.ensures c.row_words32-codes.ensures (omega arith) (omega arith) (omega arith) (omega arith);
     }

@@ -1,4 +1,4 @@
-use mathlib.Core.Path.{◌≡◌, refl, ◌∙◌}
+use mathlib.Core.Path.{refl}
 use native.Mathlib.Omega.{arith}
 use Rattle.codes.proofs.Kept.{codes_inside, code_known, codes_more}
 use borrow.Author.Rules.{rules}
@@ -27,6 +27,6 @@ bounds-codes-r-2 c = codes_inside _ _ _ _ _ c.requires.codes.0 c.requires.codes.
 
 pub returns : goal.returns
 returns c = record {
-        settled = c.settle-k.ensures;
-        codes_2 = codes_more _ c.requires.codes.0 _ _ _ refl (codes_inside _ _ _ _ _ c.requires.codes.0 c.requires.codes.1) c.settle-k.ensures;
-    }
+  settled = c.settle-k.ensures;
+  codes_2 = codes_more _ c.requires.codes.0 _ _ _ refl (codes_inside _ _ _ _ _ c.requires.codes.0 c.requires.codes.1) c.settle-k.ensures;
+}

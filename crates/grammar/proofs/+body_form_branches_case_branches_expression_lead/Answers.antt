@@ -1,10 +1,10 @@
 use borrow.Author.Rules.{rules}
-use Prim.Native.Nat.{ℕ, ◌+◌, ◌*◌, ◌-◌, ◌≤◌, ◌<◌}
+use Prim.Native.Nat.{ℕ, ◌+◌, ◌-◌, ◌<◌}
 use native.Mathlib.Omega.{arith}
 use mathlib.Core.Path.{◌≡◌, refl, sym, ◌∙◌, ap}
 use mathlib.Core.List.{[], ◌∷◌, ◌++◌}
 use borrow.Author.Tests.{lt-ltb, le-ltb}
-use Rattle.model.specs.Rows.{program, tag, kind, pattern, header, expression, branches, lead, body_form_of, branch_items, made}
+use Rattle.model.specs.Rows.{program, tag, kind, pattern, header, expression, branches, lead, branch_items}
 use Rattle.model.specs.Limits.{max_depth}
 use Rattle.program.specs.Rows.{from, listed, listed_item, counted_items}
 use Rattle.program.proofs.Items.{give_says, bound_says, case_says, lead_of, lead_none, receive_says, no_head_says, branches_25, branches_other}

@@ -9,8 +9,8 @@ pub globals-requires : goal.globals-requires
 globals-requires c =
     let a = c.args in
     record {
-        whole = search rules;
-        r_le_rows = (past_upto _ _ (replicate a.s.constructors constructor) _ 0 _ (search rules) c.constructors.ensures c.in-Past.is).1;
+      whole = search rules;
+      r_le_rows = (past_upto _ _ (replicate a.s.constructors constructor) _ 0 _ (search rules) c.constructors.ensures c.in-Past.is).1;
     }
 
 pub returns-in-Past : goal.returns-in-Past

@@ -1,9 +1,7 @@
-use Prim.Native.Nat.{◌+◌, ◌≤◌, ◌<◌}
+use Prim.Native.Nat.{◌+◌, ◌<◌}
 use native.Mathlib.Omega.{arith}
 use mathlib.Core.Path.{◌≡◌, refl, ◌∙◌}
 use mathlib.Core.List.{[], ◌∷◌}
-use lib.ListN.{replicate}
-use borrow.Author.Tests.{not-true, not-false}
 use Rattle.model.specs.Rows.{program, global, body_form_of}
 use Rattle.program.specs.Rows.{from}
 use Rattle.program.proofs.Items.{global_says}

@@ -1,14 +1,8 @@
-use Prim.Native.Nat.{◌+◌, ◌≤◌, ◌<◌}
-use native.Mathlib.Omega.{arith}
-use mathlib.Core.Path.{◌≡◌, refl, ◌∙◌}
-use mathlib.Core.List.{[], ◌∷◌}
+use Prim.Native.Nat.{◌≤◌}
+use mathlib.Core.Path.{◌≡◌}
 use lib.ListN.{replicate}
-use borrow.Author.Tests.{not-true, not-false}
-use Rattle.model.specs.Rows.{program, global, body_form_of}
+use Rattle.model.specs.Rows.{program, global}
 use Rattle.program.specs.Rows.{from}
-use Rattle.program.proofs.Items.{global_says}
-use Rattle.program.proofs.Reading.{past_answer, wrong_answer, came_past, came_wrong, replicate_past, replicate_wrong, replicate_none, go, stop, past_upto}
-use borrow.Author.Rules.{rules}
 use Rattle.grammar.proofs.globals.Given as goal
 
 abbrev pub invariant-loop-left : goal.invariant-loop-left

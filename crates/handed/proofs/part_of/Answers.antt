@@ -1,9 +1,7 @@
 use native.Mathlib.Omega.{arith}
 use mathlib.Core.Path.{ap, ◌∙◌}
 use Rattle.model.specs.Message.{bads_offset}
-use borrow.Author.Tests.{not-true, not-false}
 use Rattle.handed.proofs.Part.{empty_part, program_part_of, cut_length}
-use borrow.Author.Rules.{rules}
 use Rattle.handed.proofs.part_of.Goals as goal
 
 pub returns-then-not-is_safe : goal.returns-then-not-is_safe

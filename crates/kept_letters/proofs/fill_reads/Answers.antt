@@ -1,11 +1,6 @@
-use Prim.Native.Nat.{◌-◌, ◌≤◌}
+use Prim.Native.Nat.{◌-◌}
 use native.Mathlib.Omega.{arith}
-use mathlib.Core.Path.{◌≡◌, refl, sym, ◌∙◌}
-use lib.ListN.{length}
-use Rattle.model.specs.Rows.{program}
-use Rattle.model.specs.Tables.{tables}
-use Rattle.system_letters.specs.Letters.{LetterSets}
-use Rattle.rules.specs.Derived.{Reads}
+use mathlib.Core.Path.{sym, ◌∙◌}
 use Rattle.branch_letters.proofs.Keeping.{read_tables}
 use borrow.Author.Rules.{rules}
 use Rattle.kept_letters.proofs.fill_reads.Goals as goal
@@ -27,9 +22,9 @@ loop-i-preserved-then-tag-ne-TAG_RECEIVE c = (c.loop-i.invariant.0, c.loop-i.inv
 
 pub keep_receive-requires : goal.keep_receive-requires
 keep_receive-requires c = record {
-        read_tables = read_tables c.requires.pattern_tables c.loop-i.invariant.0 c.loop-i.invariant.1;
-        i_lt_states = (search rules, sym c.tag.ensures ∙ c.if-tag-ne-TAG_RECEIVE.false);
-    }
+  read_tables = read_tables c.requires.pattern_tables c.loop-i.invariant.0 c.loop-i.invariant.1;
+  i_lt_states = (search rules, sym c.tag.ensures ∙ c.if-tag-ne-TAG_RECEIVE.false);
+}
 
 pub overflow_step-i-in-loop-i : goal.overflow_step-i-in-loop-i
 overflow_step-i-in-loop-i c = record { fits = omega (arith, c.requires.pattern_tables.match_tables.ready.limits.states) }

@@ -1,13 +1,10 @@
 use Prim.Native.Nat.{◌-◌, ◌≤◌}
-use native.Mathlib.Omega.{arith}
-use mathlib.Core.Path.{◌≡◌, refl, sym, ◌∙◌}
+use mathlib.Core.Path.{◌≡◌}
 use lib.ListN.{length}
 use Rattle.model.specs.Rows.{program}
 use Rattle.model.specs.Tables.{tables}
 use Rattle.system_letters.specs.Letters.{LetterSets}
 use Rattle.rules.specs.Derived.{Reads}
-use Rattle.branch_letters.proofs.Keeping.{read_tables}
-use borrow.Author.Rules.{rules}
 use Rattle.kept_letters.proofs.fill_reads.Given as goal
 
 abbrev pub invariant-loop-i : goal.invariant-loop-i

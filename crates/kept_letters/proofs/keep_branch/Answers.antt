@@ -18,22 +18,22 @@ returns-then-state_class-c c = record { letter_sets = c.requires.read_tables.pat
 
 pub branch_letters-requires : goal.branch_letters-requires
 branch_letters-requires c = record {
-        read_tables = c.requires.read_tables;
-        read_room = record {
+  read_tables = c.requires.read_tables;
+  read_room = record {
     class = c.requires.c_le_rows.0;
     pattern = c.requires.c_le_rows.1;
     part_row = set_room c.requires.read_tables.pattern_tables.letter_tables.ready _ c.requires.read_tables.pattern_tables.letter_tables.few (search rules);
     found_row = set_room c.requires.read_tables.pattern_tables.letter_tables.ready _ c.requires.read_tables.pattern_tables.letter_tables.few (search rules);
   };
-    }
+}
 
 pub keep_letters-requires : goal.keep_letters-requires
 unfolding program columns
 keep_letters-requires c = record {
-        kept_tables = kept_tables c.requires.read_tables;
-        x_lt_states = (search rules, sym c.state_class.ensures ∙ c.if-state_class-c.false, pattern_within c.requires.c_le_rows.1);
-        found = c.branch_letters.ensures;
-    }
+  kept_tables = kept_tables c.requires.read_tables;
+  x_lt_states = (search rules, sym c.state_class.ensures ∙ c.if-state_class-c.false, pattern_within c.requires.c_le_rows.1);
+  found = c.branch_letters.ensures;
+}
 
 pub returns : goal.returns
 returns c = record { letter_sets = c.keep_letters.ensures.letter_sets; reads = c.keep_letters.ensures.reads }

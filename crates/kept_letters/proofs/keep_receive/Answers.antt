@@ -1,14 +1,10 @@
-use Prim.Native.Nat.{◌+◌, ◌-◌, ◌≤◌}
+use Prim.Native.Nat.{◌-◌}
 use native.Mathlib.Omega.{arith}
-use mathlib.Core.Path.{◌≡◌, refl, sym, ◌∙◌}
-use lib.ListN.{length}
+use mathlib.Core.Path.{refl, sym, ◌∙◌}
 use Rattle.model.specs.Words.{columns}
 use Rattle.model.specs.Rows.{program}
-use Rattle.model.specs.Tables.{tables}
-use Rattle.system_letters.specs.Letters.{LetterSets}
-use Rattle.rules.specs.Derived.{Reads}
 use Rattle.plain_rules.proofs.Heads.{tag_head, here_low}
-use Rattle.plain_rules.proofs.Branches.{BranchAt, branch_begin, branch_here, branch_next, one_run}
+use Rattle.plain_rules.proofs.Branches.{branch_begin, branch_here, branch_next, one_run}
 use Rattle.state_rules.proofs.Branches.{branch_pattern, receive_count, receive_rows, receive_class}
 use Rattle.branch_letters.proofs.Keeping.{read_tables}
 use borrow.Author.Rules.{rules}
@@ -41,9 +37,9 @@ state_index-x-requires c = c.requires.read_tables.pattern_tables.match_tables.re
 
 pub keep_branch-requires : goal.keep_branch-requires
 keep_branch-requires c = record {
-        read_tables = read_tables c.requires.read_tables.pattern_tables c.loop-b.invariant.2 c.loop-b.invariant.3;
-        c_le_rows = (receive_class c.requires.read_tables.pattern_tables.match_tables.ready c.args.i _ c.requires.i_lt_states.0 c.state_class-c.ensures, branch_pattern c.requires.read_tables.pattern_tables.match_tables.ready _ _ _ _ c.loop-b.invariant.0 (search rules));
-    }
+  read_tables = read_tables c.requires.read_tables.pattern_tables c.loop-b.invariant.2 c.loop-b.invariant.3;
+  c_le_rows = (receive_class c.requires.read_tables.pattern_tables.match_tables.ready c.args.i _ c.requires.i_lt_states.0 c.state_class-c.ensures, branch_pattern c.requires.read_tables.pattern_tables.match_tables.ready _ _ _ _ c.loop-b.invariant.0 (search rules));
+}
 
 pub overflow_step-b : goal.overflow_step-b
 overflow_step-b c = record { fits = omega (arith, receive_count c.requires.read_tables.pattern_tables.match_tables.ready c.args.r c.requires.i_lt_states.1, c.num-m.ensures) }

@@ -1,8 +1,7 @@
 use borrow.Author.Tests.{not-false}
-use mathlib.Core.Path.{refl, sym}
+use mathlib.Core.Path.{refl}
 use native.Mathlib.Omega.{arith}
 use Rattle.model.proofs.Logic.{true_false}
-use borrow.Author.Rules.{rules}
 use Rattle.kept_rules.proofs.keep.Goals as goal
 
 pub returns-then-not-k : goal.returns-then-not-k
@@ -18,7 +17,7 @@ pub offset_bounds-first_at-next : goal.offset_bounds-first_at-next
 offset_bounds-first_at-next c = record { fits = omega (arith, c.requires.i_bound.0) }
 
 pub bounds-first_at-next : goal.bounds-first_at-next
-bounds-first_at-next c = c.requires.i_in_bounds c.if-not-k.false
+bounds-first_at-next c = c.requires.i_in_bounds (not-false _ c.if-not-k.false)
 
 pub returns : goal.returns
-returns c = record { used_le_spare_2 = omega (arith, c.if-end-spare.false); all_value = λ h. (c.if-not-k.false, refl, refl) }
+returns c = record { used_le_spare_2 = omega (arith, c.if-end-spare.false); all_value = λ h. (not-false _ c.if-not-k.false, refl, refl) }

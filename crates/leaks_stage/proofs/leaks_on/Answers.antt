@@ -13,9 +13,9 @@ fill_holders-requires c =
     let l = c.requires.limited in
     let m = c.requires.mask_room in
     record {
-        ceilings_le_max_ceilings = (c.requires.joined_tables.ready.limits.ceilings, omega (arith, l.counted, c.requires.joined_tables.few));
-        ceilings_in_bounds = l.limits_table.room;
-        n_in_bounds = m.held;
+      ceilings_le_max_ceilings = (c.requires.joined_tables.ready.limits.ceilings, omega (arith, l.counted, c.requires.joined_tables.few));
+      ceilings_in_bounds = l.limits_table.room;
+      n_in_bounds = m.held;
     }
 
 pub slice_bounds-letter_at-count : goal.slice_bounds-letter_at-count
@@ -23,19 +23,19 @@ slice_bounds-letter_at-count c = omega (arith, long _ _ _ _ _ _ c.requires.joine
 
 pub spare_words-spare-requires : goal.spare_words-spare-requires
 spare_words-spare-requires c = record {
-        ready = c.requires.joined_tables.ready;
-        class_letters = lent_letters _ _ _ _ _ _ c.requires.joined_tables;
-        rules_fit = rules_fit _ _ _ _ _ (search rules) c.requires.rule_room.0;
-    }
+  ready = c.requires.joined_tables.ready;
+  class_letters = lent_letters _ _ _ _ _ _ c.requires.joined_tables;
+  rules_fit = rules_fit _ _ _ _ _ (search rules) c.requires.rule_room.0;
+}
 
 pub fill_groups-gathered-requires : goal.fill_groups-gathered-requires
 fill_groups-gathered-requires c =
     let l = c.requires.limited in
     record {
-        joined_tables = c.requires.joined_tables;
-        ceilings_ready = with_holders _ _ _ _ _ _ l c.fill_holders.ensures;
-        room_from = (spare_room _ _ _ _ _ _ (search rules) c.requires.rule_room.0 c.spare_words-spare.ensures, c.requires.rule_room.1);
-        states_in_bounds = omega (arith, c.requires.mask_room.states, states_few _ _ _ l.counted);
+      joined_tables = c.requires.joined_tables;
+      ceilings_ready = with_holders _ _ _ _ _ _ l c.fill_holders.ensures;
+      room_from = (spare_room _ _ _ _ _ _ (search rules) c.requires.rule_room.0 c.spare_words-spare.ensures, c.requires.rule_room.1);
+      states_in_bounds = omega (arith, c.requires.mask_room.states, states_few _ _ _ l.counted);
     }
 
 pub leak_check-verdict-requires : goal.leak_check-verdict-requires
@@ -43,12 +43,12 @@ leak_check-verdict-requires c =
     let l = c.requires.limited in
     let m = c.requires.mask_room in
     record {
-        joined_tables = c.requires.joined_tables;
-        ceilings_ready = with_holders _ _ _ _ _ _ l c.fill_holders.ensures;
-        groups_upto = c.fill_groups-gathered.ensures.groups_upto;
-        kept_rules = c.fill_groups-gathered.ensures.kept_rules;
-        states_in_bounds = omega (arith, m.states, states_few _ _ _ l.counted);
-        rooms = record { rules = room_kept _ _ _ _ _ _ c.requires.rule_room.0 c.fill_groups-gathered.auto.1.1.1.1.1.1.1.1.1.1.1.1.0 c.fill_groups-gathered.auto.1.1.1.1.1.1.1.1.1.1.1.1.1.0; near_room = m.beside };
+      joined_tables = c.requires.joined_tables;
+      ceilings_ready = with_holders _ _ _ _ _ _ l c.fill_holders.ensures;
+      groups_upto = c.fill_groups-gathered.ensures.groups_upto;
+      kept_rules = c.fill_groups-gathered.ensures.kept_rules;
+      states_in_bounds = omega (arith, m.states, states_few _ _ _ l.counted);
+      rooms = record { rules = room_kept _ _ _ _ _ _ c.requires.rule_room.0 c.fill_groups-gathered.auto.1.1.1.1.1.1.1.1.1.1.1.1.0 c.fill_groups-gathered.auto.1.1.1.1.1.1.1.1.1.1.1.1.1.0; near_room = m.beside };
     }
 
 pub shape_of-holders : goal.shape_of-holders

@@ -1,14 +1,10 @@
-use borrow.Author.Rules.{rules}
-use Prim.Native.Nat.{◌-◌, ◌≤◌}
+use Prim.Native.Nat.{◌-◌}
 use native.Mathlib.Omega.{arith}
 use mathlib.Core.Path.{◌≡◌}
 use Rattle.model.specs.Words.{right}
-use Rattle.model.specs.Rows.{program}
 use Rattle.model.specs.Tables.{tables}
 use Rattle.lists.proofs.Facts.{mail_usable}
 use Rattle.lists.proofs.Told.{mail_told}
-use Rattle.ascending.specs.Numbers.{Added}
-use Rattle.letter_codes.specs.Codes.{AllowedIn}
 use Rattle.ascending.proofs.Numbers.{added_room}
 use Rattle.letter_codes.proofs.Entries.{mail_value_low, entries_none, entries_next, entries_all}
 use Rattle.letter_codes.proofs.add_entries.Goals as goal
@@ -23,8 +19,8 @@ pub add_value-m-requires : goal.add_value-m-requires
 add_value-m-requires c =
     let told-here : c.right-v.result ≡ right (tables c.args.ws.now c.args.s).mail c.loop-j.j = mail_told _ _ _ _ _ c.right-v.ensures c.mail-list.ensures in
     record {
-        heads_known = c.requires.heads_known;
-        v_bound = (mail_value_low c.requires.heads_known.ready _ _ (omega (arith, c.requires.entries_room.upto)) told-here, added_room c.requires.entries_room.room c.loop-j.invariant.0);
+      heads_known = c.requires.heads_known;
+      v_bound = (mail_value_low c.requires.heads_known.ready _ _ (omega (arith, c.requires.entries_room.upto)) told-here, added_room c.requires.entries_room.room c.loop-j.invariant.0);
     }
 
 pub loop-j-preserved : goal.loop-j-preserved

@@ -1,16 +1,8 @@
-use borrow.Author.Rules.{rules}
 use Prim.Native.Nat.{◌-◌, ◌≤◌}
-use native.Mathlib.Omega.{arith}
-use mathlib.Core.Path.{◌≡◌}
-use Rattle.model.specs.Words.{right}
 use Rattle.model.specs.Rows.{program}
 use Rattle.model.specs.Tables.{tables}
-use Rattle.lists.proofs.Facts.{mail_usable}
-use Rattle.lists.proofs.Told.{mail_told}
 use Rattle.ascending.specs.Numbers.{Added}
 use Rattle.letter_codes.specs.Codes.{AllowedIn}
-use Rattle.ascending.proofs.Numbers.{added_room}
-use Rattle.letter_codes.proofs.Entries.{mail_value_low, entries_none, entries_next, entries_all}
 use Rattle.letter_codes.proofs.add_entries.Given as goal
 
 abbrev pub invariant-loop-j : goal.invariant-loop-j

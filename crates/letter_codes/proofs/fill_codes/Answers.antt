@@ -1,13 +1,11 @@
-use borrow.Author.Rules.{rules}
-use Prim.Native.Nat.{◌+◌, ◌-◌, ◌≤◌}
+use Prim.Native.Nat.{◌+◌, ◌-◌}
 use native.Mathlib.Omega.{arith}
 use mathlib.Core.Path.{◌≡◌, refl, ◌∙◌}
-use lib.ListN.{length, length-set}
-use Rattle.model.specs.Rows.{program}
+use lib.ListN.{length-set}
 use Rattle.model.specs.Tables.{tables}
 use Rattle.lists.specs.Lists.{range_from}
 use Rattle.lists.proofs.Facts.{mail_usable}
-use Rattle.letter_codes.proofs.Filling.{Filled, filled_none, filled_room, filled_next, filled_count, filled_starts, filled_codes}
+use Rattle.letter_codes.proofs.Filling.{filled_none, filled_room, filled_next, filled_count, filled_starts, filled_codes}
 use Rattle.letter_codes.proofs.Filling.{end_told, entry_next, mail_ascends, class_entries, first_entry, entries_few}
 use Rattle.letter_codes.proofs.fill_codes.Goals as goal
 
@@ -22,17 +20,17 @@ bounds-letter_at-c c = omega (arith, c.loop-c.invariant.3, c.requires.codes_room
 
 pub start_from-to-requires : goal.start_from-to-requires
 start_from-to-requires c = record {
-        held = (mail_usable c.requires.heads_known.ready _ c.mail-list.ensures).0;
-        not_behind = record { ascending = mail_ascends c.requires.heads_known.ready _ c.mail-list.ensures; upto = entry_next c.requires.heads_known.ready _ _ _ c.mail-list.ensures c.loop-c.invariant.1 };
-    }
+  held = (mail_usable c.requires.heads_known.ready _ c.mail-list.ensures).0;
+  not_behind = record { ascending = mail_ascends c.requires.heads_known.ready _ c.mail-list.ensures; upto = entry_next c.requires.heads_known.ready _ _ _ c.mail-list.ensures c.loop-c.invariant.1 };
+}
 
 pub add_entries-n-requires : goal.add_entries-n-requires
 add_entries-n-requires c =
     let ends_here : c.start_from-to.result ≡ range_from (tables c.args.ws.now c.args.s).mail (c.loop-c.c + 1) = end_told c.requires.heads_known.ready _ _ _ c.mail-list.ensures c.start_from-to.ensures in
     let (order, upto) = class_entries c.requires.heads_known.ready _ _ _ c.loop-c.invariant.1 ends_here in
     record {
-        heads_known = c.requires.heads_known;
-        entries_room = record { order = order; upto = upto; room = filled_room c.loop-c.invariant.0 c.requires.codes_room.few (omega (arith, c.loop-c.invariant.4, c.requires.codes_room.numbers)) };
+      heads_known = c.requires.heads_known;
+      entries_room = record { order = order; upto = upto; room = filled_room c.loop-c.invariant.0 c.requires.codes_room.few (omega (arith, c.loop-c.invariant.4, c.requires.codes_room.numbers)) };
     }
 
 pub loop-c-preserved : goal.loop-c-preserved
@@ -57,7 +55,7 @@ returns c =
     let filled = c.loop-c.invariant.0 in
     let all : c.loop-c.c ≡ c.args.s.rows + 1 = omega (arith, c.loop-c.invariant.2, c.loop-c-test.false) in
     record {
-        value = filled_count c.requires.heads_known.ready filled all;
-        class_letters = filled_starts c.requires.heads_known.ready filled all (omega (arith, c.loop-c.invariant.3, c.requires.codes_room.starts));
-        coded = filled_codes c.requires.heads_known.ready filled all (omega (arith, c.loop-c.invariant.4, c.requires.codes_room.numbers));
+      value = filled_count c.requires.heads_known.ready filled all;
+      class_letters = filled_starts c.requires.heads_known.ready filled all (omega (arith, c.loop-c.invariant.3, c.requires.codes_room.starts));
+      coded = filled_codes c.requires.heads_known.ready filled all (omega (arith, c.loop-c.invariant.4, c.requires.codes_room.numbers));
     }

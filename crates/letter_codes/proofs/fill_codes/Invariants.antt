@@ -1,14 +1,10 @@
-use borrow.Author.Rules.{rules}
 use Prim.Native.Nat.{◌+◌, ◌-◌, ◌≤◌}
-use native.Mathlib.Omega.{arith}
-use mathlib.Core.Path.{◌≡◌, refl, ◌∙◌}
-use lib.ListN.{length, length-set}
+use mathlib.Core.Path.{◌≡◌}
+use lib.ListN.{length}
 use Rattle.model.specs.Rows.{program}
 use Rattle.model.specs.Tables.{tables}
 use Rattle.lists.specs.Lists.{range_from}
-use Rattle.lists.proofs.Facts.{mail_usable}
-use Rattle.letter_codes.proofs.Filling.{Filled, filled_none, filled_room, filled_next, filled_count, filled_starts, filled_codes}
-use Rattle.letter_codes.proofs.Filling.{end_told, entry_next, mail_ascends, class_entries, first_entry, entries_few}
+use Rattle.letter_codes.proofs.Filling.{Filled}
 use Rattle.letter_codes.proofs.fill_codes.Given as goal
 
 abbrev pub invariant-loop-c : goal.invariant-loop-c

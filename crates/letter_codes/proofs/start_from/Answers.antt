@@ -1,7 +1,6 @@
-use Prim.Native.Nat.{◌-◌, ◌≤◌}
-use borrow.Author.Rules.{rules}
+use Prim.Native.Nat.{◌-◌}
 use Rattle.model.specs.Words.{columns}
-use Rattle.lists.specs.Lists.{listed, range_from}
+use Rattle.lists.specs.Lists.{listed}
 use Rattle.letter_codes.proofs.Starts.{start_later, start_here, start_end}
 use Rattle.letter_codes.proofs.start_from.Goals as goal
 

@@ -1,8 +1,5 @@
 use Prim.Native.Nat.{◌-◌, ◌≤◌}
-use borrow.Author.Rules.{rules}
-use Rattle.model.specs.Words.{columns}
 use Rattle.lists.specs.Lists.{listed, range_from}
-use Rattle.letter_codes.proofs.Starts.{start_later, start_here, start_end}
 use Rattle.letter_codes.proofs.start_from.Given as goal
 
 abbrev pub invariant-loop-e : goal.invariant-loop-e

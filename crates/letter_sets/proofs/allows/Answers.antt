@@ -1,10 +1,9 @@
 use mathlib.Core.Bool.{not}
 use mathlib.Core.Path.{ap}
-use Prim.Native.Nat.{◌-◌, ◌≤◌, ◌<◌}
+use Prim.Native.Nat.{◌-◌, ◌<◌}
 use native.Mathlib.Omega.{arith}
 use borrow.Author.Rules.{rules}
-use Rattle.model.specs.Rows.{program}
-use Rattle.letter_sets.proofs.Told.{Left, allows_unlike, allows_start, allows_miss, allows_next, allows_end, argument_low, head_room}
+use Rattle.letter_sets.proofs.Told.{allows_unlike, allows_start, allows_miss, allows_next, allows_end, argument_low, head_room}
 use Rattle.letter_sets.proofs.allows.Goals as goal
 
 pub returns-then-digit-head : goal.returns-then-digit-head

@@ -1,8 +1,6 @@
-use Prim.Native.Nat.{◌-◌, ◌≤◌, ◌<◌}
-use native.Mathlib.Omega.{arith}
-use borrow.Author.Rules.{rules}
+use Prim.Native.Nat.{◌-◌, ◌≤◌}
 use Rattle.model.specs.Rows.{program}
-use Rattle.letter_sets.proofs.Told.{Left, allows_unlike, allows_start, allows_miss, allows_next, allows_end, argument_low, head_room}
+use Rattle.letter_sets.proofs.Told.{Left}
 use Rattle.letter_sets.proofs.allows.Given as goal
 
 abbrev pub invariant-loop-i : goal.invariant-loop-i

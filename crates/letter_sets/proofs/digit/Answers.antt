@@ -1,4 +1,3 @@
-use borrow.Author.Rules.{rules}
 use Rattle.letter_sets.proofs.Digits.{digit_told}
 use Rattle.letter_sets.proofs.digit.Goals as goal
 

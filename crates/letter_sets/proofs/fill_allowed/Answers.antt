@@ -1,10 +1,6 @@
-use Prim.Native.Nat.{◌-◌, ◌≤◌}
+use Prim.Native.Nat.{◌-◌}
 use borrow.Author.Rules.{rules}
-use Rattle.model.specs.Rows.{program}
-use Rattle.model.specs.Tables.{tables}
-use Rattle.system_letters.specs.Letters.{letter_width_of}
-use Rattle.letter_sets.specs.Sets.{in_allowed}
-use Rattle.letter_sets.proofs.Putting.{PutUpto, upto_start, upto_next}
+use Rattle.letter_sets.proofs.Putting.{upto_start, upto_next}
 use Rattle.letter_sets.proofs.Filling.{room_still, allowed_filled}
 use Rattle.letter_sets.proofs.fill_allowed.Goals as goal
 
@@ -13,9 +9,9 @@ loop-j-init c = (upto_start _ _ _ _, search rules)
 
 pub put_allowed-requires : goal.put_allowed-requires
 put_allowed-requires c = record {
-        letters_known = c.requires.letters_known;
-        j_lt_mails = (search rules, room_still c.requires.letters_known.heads.ready _ _ _ _ c.loop-j.invariant.0 c.requires.letter_room);
-    }
+  letters_known = c.requires.letters_known;
+  j_lt_mails = (search rules, room_still c.requires.letters_known.heads.ready _ _ _ _ c.loop-j.invariant.0 c.requires.letter_room);
+}
 
 pub loop-j-preserved : goal.loop-j-preserved
 loop-j-preserved c = (upto_next _ _ _ c.loop-j.j _ _ _ (search rules) c.loop-j.invariant.0 c.put_allowed.ensures, search rules)

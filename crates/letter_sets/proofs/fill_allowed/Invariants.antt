@@ -1,11 +1,9 @@
 use Prim.Native.Nat.{◌-◌, ◌≤◌}
-use borrow.Author.Rules.{rules}
 use Rattle.model.specs.Rows.{program}
 use Rattle.model.specs.Tables.{tables}
 use Rattle.system_letters.specs.Letters.{letter_width_of}
 use Rattle.letter_sets.specs.Sets.{in_allowed}
-use Rattle.letter_sets.proofs.Putting.{PutUpto, upto_start, upto_next}
-use Rattle.letter_sets.proofs.Filling.{room_still, allowed_filled}
+use Rattle.letter_sets.proofs.Putting.{PutUpto}
 use Rattle.letter_sets.proofs.fill_allowed.Given as goal
 
 abbrev pub invariant-loop-j : goal.invariant-loop-j

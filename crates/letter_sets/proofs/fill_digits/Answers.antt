@@ -1,9 +1,9 @@
-use Prim.Native.Nat.{◌-◌, ◌≤◌}
+use Prim.Native.Nat.{◌-◌}
 use native.Mathlib.Omega.{arith}
 use mathlib.Core.Path.{refl}
 use borrow.Author.Rules.{rules}
-use Rattle.letter_sets.proofs.Putting.{PutUpto, upto_start}
-use Rattle.letter_sets.proofs.Filling.{digit_puts, digit_rows, digits_turn, digits_filled}
+use Rattle.letter_sets.proofs.Putting.{upto_start}
+use Rattle.letter_sets.proofs.Filling.{digit_rows, digits_turn, digits_filled}
 use Rattle.letter_sets.proofs.fill_digits.Goals as goal
 
 pub letter_count-n-requires : goal.letter_count-n-requires

@@ -1,9 +1,6 @@
 use Prim.Native.Nat.{◌-◌, ◌≤◌}
-use native.Mathlib.Omega.{arith}
-use mathlib.Core.Path.{refl}
-use borrow.Author.Rules.{rules}
-use Rattle.letter_sets.proofs.Putting.{PutUpto, upto_start}
-use Rattle.letter_sets.proofs.Filling.{digit_puts, digit_rows, digits_turn, digits_filled}
+use Rattle.letter_sets.proofs.Putting.{PutUpto}
+use Rattle.letter_sets.proofs.Filling.{digit_puts}
 use Rattle.letter_sets.proofs.fill_digits.Given as goal
 
 abbrev pub invariant-loop-y : goal.invariant-loop-y

@@ -1,4 +1,3 @@
-use borrow.Author.Rules.{rules}
 use Rattle.letter_sets.proofs.Filling.{room_still}
 use Rattle.letter_sets.proofs.Filled.{letters_filled}
 use Rattle.letter_sets.proofs.fill_letters.Goals as goal
@@ -7,8 +6,8 @@ pub fill_digits-requires : goal.fill_digits-requires
 fill_digits-requires c =
     let k = c.requires.letters_known in
     record {
-        letters_listed = record { ready = k.heads.ready; class_letters = k.class_letters; coded = k.coded };
-        letter_room = c.requires.letters_empty.room;
+      letters_listed = record { ready = k.heads.ready; class_letters = k.class_letters; coded = k.coded };
+      letter_room = c.requires.letters_empty.room;
     }
 
 pub fill_allowed-requires : goal.fill_allowed-requires

@@ -1,16 +1,13 @@
 use Prim.Native.Nat.{◌+◌, ◌-◌, ◌≤◌, ◌<◌}
 use native.Mathlib.Omega.{arith}
 use mathlib.Core.Path.{◌≡◌, refl}
-use mathlib.Core.Logic.{⊎_elim}
 use borrow.Author.Rules.{rules}
 use lib.ListN.{length}
 use Rattle.model.specs.Words.{left}
-use Rattle.model.specs.Rows.{program}
 use Rattle.model.specs.Tables.{tables}
 use Rattle.lists.proofs.Facts.{mail_usable}
 use Rattle.letter_codes.proofs.Entries.{mail_value_low}
-use Rattle.letter_sets.specs.Sets.{is_allowed}
-use Rattle.letter_sets.proofs.Putting.{PutUpto, upto_start}
+use Rattle.letter_sets.proofs.Putting.{upto_start}
 use Rattle.letter_sets.proofs.Filling.{mail_class, class_inside, ClassRange, class_words, allowed_row, allowed_put, allowed_left, allowed_over}
 use Rattle.letter_sets.proofs.put_allowed.Goals as goal
 use Rattle.letter_sets.proofs.put_allowed.Goals.{then-allows, else-allows}
@@ -71,8 +68,8 @@ loop-y-preserved c =
     let h = c.requires.letters_known.heads.ready in
     let i = c.loop-y.invariant in (
       elim c.if-allows.branch [
-        then-allows z ↦ rw z.letters-is (allowed_put h _ _ _ _ _ _ _ _ _ _ _ _ _ i.0 i.1 c.mail_value-v.ensures refl refl c.allows.ensures z.if-allows.true z.put.ensures)
-      | else-allows z ↦ rw z.letters-is (allowed_left h _ _ _ _ _ _ _ _ _ _ _ i.0 i.1 c.mail_value-v.ensures refl c.allows.ensures z.if-allows.false)
+        | then-allows z ↦ rw z.letters-is (allowed_put h _ _ _ _ _ _ _ _ _ _ _ _ _ i.0 i.1 c.mail_value-v.ensures refl refl c.allows.ensures z.if-allows.true z.put.ensures)
+        | else-allows z ↦ rw z.letters-is (allowed_left h _ _ _ _ _ _ _ _ _ _ _ i.0 i.1 c.mail_value-v.ensures refl c.allows.ensures z.if-allows.false)
       ],
       search rules,
       search rules,

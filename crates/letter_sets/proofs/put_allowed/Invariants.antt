@@ -1,17 +1,8 @@
-use Prim.Native.Nat.{◌+◌, ◌-◌, ◌≤◌, ◌<◌}
-use native.Mathlib.Omega.{arith}
-use mathlib.Core.Path.{◌≡◌, refl}
-use mathlib.Core.Logic.{⊎_elim}
-use borrow.Author.Rules.{rules}
-use lib.ListN.{length}
-use Rattle.model.specs.Words.{left}
+use Prim.Native.Nat.{◌-◌, ◌≤◌}
 use Rattle.model.specs.Rows.{program}
 use Rattle.model.specs.Tables.{tables}
-use Rattle.lists.proofs.Facts.{mail_usable}
-use Rattle.letter_codes.proofs.Entries.{mail_value_low}
 use Rattle.letter_sets.specs.Sets.{is_allowed}
-use Rattle.letter_sets.proofs.Putting.{PutUpto, upto_start}
-use Rattle.letter_sets.proofs.Filling.{mail_class, class_inside, ClassRange, class_words, allowed_row, allowed_put, allowed_left, allowed_over}
+use Rattle.letter_sets.proofs.Putting.{PutUpto}
 use Rattle.letter_sets.proofs.put_allowed.Given as goal
 
 abbrev pub invariant-loop-y : goal.invariant-loop-y

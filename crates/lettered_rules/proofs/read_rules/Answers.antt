@@ -7,9 +7,9 @@ use Rattle.lettered_rules.proofs.read_rules.Goals as goal
 
 pub branch_letters-requires : goal.branch_letters-requires
 branch_letters-requires c = record {
-        read_tables = c.requires.read_tables;
-        read_room = record { class = c.requires.class_room.value; pattern = c.requires.pattern; part_row = c.requires.class_room.part_row; found_row = c.requires.class_room.found_row };
-    }
+  read_tables = c.requires.read_tables;
+  read_room = record { class = c.requires.class_room.value; pattern = c.requires.pattern; part_row = c.requires.class_room.part_row; found_row = c.requires.class_room.found_row };
+}
 
 pub class_rules-requires : goal.class_rules-requires
 class_rules-requires c =
@@ -17,6 +17,6 @@ class_rules-requires c =
 
 pub returns : goal.returns
 returns c = record {
-        by_index = λ f o. added_same receive _ _ _ _ _ _ _ _ (c.class_rules.ensures.added receive) (read_asked _ _ c.requires.read_tables.pattern_tables.letter_tables _ c.letter_width-words.ensures _ _ _ f o _ _ c.requires.class_room.value _ c.branch_letters.ensures);
-        c_bound = c.class_rules.ensures.d_bound;
-    }
+  by_index = λ f o. added_same receive _ _ _ _ _ _ _ _ (c.class_rules.ensures.added receive) (read_asked _ _ c.requires.read_tables.pattern_tables.letter_tables _ c.letter_width-words.ensures _ _ _ f o _ _ c.requires.class_room.value _ c.branch_letters.ensures);
+  c_bound = c.class_rules.ensures.d_bound;
+}

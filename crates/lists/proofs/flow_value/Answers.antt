@@ -1,4 +1,3 @@
-use borrow.Author.Rules.{rules}
 use Rattle.lists.proofs.Facts.{flow_usable}
 use Rattle.lists.proofs.Told.{flow_told}
 use Rattle.lists.proofs.flow_value.Goals as goal

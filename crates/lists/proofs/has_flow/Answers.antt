@@ -1,4 +1,3 @@
-use borrow.Author.Rules.{rules}
 use Rattle.lists.proofs.Facts.{flow_usable, flow_found}
 use Rattle.lists.proofs.has_flow.Goals as goal
 

@@ -1,4 +1,3 @@
-use borrow.Author.Rules.{rules}
 use Rattle.lists.specs.Lists.{head_from}
 use Rattle.lists.proofs.Facts.{states_usable}
 use Rattle.lists.proofs.Told.{states_placed}

@@ -1,4 +1,3 @@
-use borrow.Author.Rules.{rules}
 use Rattle.lists.proofs.Rising.{first_unlike, second_unlike, third_like}
 use Rattle.lists.proofs.is_entry.Goals as goal
 

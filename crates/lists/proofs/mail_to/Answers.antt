@@ -1,4 +1,3 @@
-use borrow.Author.Rules.{rules}
 use Rattle.lists.specs.Lists.{range_to}
 use Rattle.lists.proofs.Facts.{mail_usable}
 use Rattle.lists.proofs.Told.{mail_placed}

@@ -1,12 +1,8 @@
 use Prim.Native.Nat.{◌-◌}
-use mathlib.Core.Path.{sym, ◌∙◌}
 use mathlib.Core.List.{[], ◌∷◌}
-use borrow.Author.Rules.{rules}
-use Rattle.model.specs.Words.{columns}
 use Rattle.lists.specs.Lists.{listed, thirds, key_at}
 use Rattle.model.specs.Keys.{below}
-use Rattle.lists.proofs.Halving.{Between, between_all, between_up, between_down}
-use Rattle.lists.proofs.Rising.{under_before, between_place}
+use Rattle.lists.proofs.Halving.{Between}
 use Rattle.lists.proofs.place.Given as goal
 
 abbrev pub invariant-loop-low : goal.invariant-loop-low

@@ -1,6 +1,5 @@
 use Rattle.model.specs.Words.{right, columns}
 use Rattle.lists.specs.Lists.{listed}
-use borrow.Author.Rules.{rules}
 use Rattle.lists.proofs.right.Goals as goal
 
 pub returns : goal.returns

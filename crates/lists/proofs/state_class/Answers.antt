@@ -1,4 +1,3 @@
-use borrow.Author.Rules.{rules}
 use Rattle.lists.proofs.Facts.{states_usable}
 use Rattle.lists.proofs.Told.{class_told}
 use Rattle.lists.proofs.state_class.Goals as goal

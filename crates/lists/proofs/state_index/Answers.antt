@@ -1,4 +1,3 @@
-use borrow.Author.Rules.{rules}
 use Rattle.lists.proofs.Facts.{states_usable, state_found}
 use Rattle.lists.proofs.state_index.Goals as goal
 

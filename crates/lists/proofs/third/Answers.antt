@@ -1,5 +1,4 @@
 use Rattle.lists.proofs.Facts.{no_thirds, some_thirds}
-use borrow.Author.Rules.{rules}
 use Rattle.lists.proofs.third.Goals as goal
 
 pub returns-then-l-eq0 : goal.returns-then-l-eq0

@@ -1,4 +1,3 @@
-use borrow.Author.Rules.{rules}
 use Rattle.lists.proofs.Rising.{first_told, second_told, third_told}
 use Rattle.lists.proofs.under.Goals as goal
 

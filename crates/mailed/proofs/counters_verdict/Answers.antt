@@ -1,4 +1,3 @@
-use borrow.Author.Rules.{rules}
 use Rattle.mailed.proofs.Mailing.{counters_told, mailed_told}
 use Rattle.mailed.proofs.counters_verdict.Goals as goal
 

@@ -1,8 +1,7 @@
 use Prim.Native.Nat.{◌-◌}
 use native.Mathlib.Omega.{arith}
-use mathlib.Core.Logic.{inl, inr, ⊎_elim}
-use borrow.Author.Rules.{rules}
-use Rattle.mailed.proofs.Mailing.{Looked, looked_none, looked_on, looked_all}
+use mathlib.Core.Logic.{inl, inr}
+use Rattle.mailed.proofs.Mailing.{looked_none, looked_on, looked_all}
 use Rattle.mailed.proofs.first_mailed.Goals as goal
 use Rattle.mailed.proofs.first_mailed.Goals.{then-mails_function, else-mails_function}
 

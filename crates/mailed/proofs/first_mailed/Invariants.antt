@@ -1,8 +1,5 @@
 use Prim.Native.Nat.{◌-◌}
-use native.Mathlib.Omega.{arith}
-use mathlib.Core.Logic.{inl, inr, ⊎_elim}
-use borrow.Author.Rules.{rules}
-use Rattle.mailed.proofs.Mailing.{Looked, looked_none, looked_on, looked_all}
+use Rattle.mailed.proofs.Mailing.{Looked}
 use Rattle.mailed.proofs.first_mailed.Given as goal
 
 abbrev pub invariant-loop-i : goal.invariant-loop-i

@@ -1,6 +1,4 @@
 use native.Mathlib.Omega.{arith}
-use mathlib.Core.Path.{ap}
-use borrow.Author.Rules.{rules}
 use Rattle.mailed.proofs.Mailing.{mail_room, mailed_refused, mailed_passed}
 use Rattle.mailed.proofs.mailed_check.Goals as goal
 

@@ -1,5 +1,4 @@
 use Rattle.masks.proofs.Masks.{below_is}
-use borrow.Author.Rules.{rules}
 use Rattle.masks.proofs.below.Goals as goal
 
 pub returns : goal.returns

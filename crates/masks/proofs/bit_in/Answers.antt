@@ -1,6 +1,5 @@
 use mathlib.Core.Path.{sym}
 use Rattle.masks.proofs.Masks.{bit_in_hit, bit_in_miss}
-use borrow.Author.Rules.{rules}
 use Rattle.masks.proofs.bit_in.Goals as goal
 
 pub returns-then-k-i : goal.returns-then-k-i

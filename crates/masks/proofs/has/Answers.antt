@@ -1,5 +1,4 @@
 use Rattle.masks.proofs.Masks.{has_read}
-use borrow.Author.Rules.{rules}
 use Rattle.masks.proofs.has.Goals as goal
 
 pub returns : goal.returns

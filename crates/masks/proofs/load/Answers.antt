@@ -1,5 +1,4 @@
 use Rattle.masks.proofs.Masks.{loaded}
-use borrow.Author.Rules.{rules}
 use Rattle.masks.proofs.load.Goals as goal
 
 pub returns : goal.returns

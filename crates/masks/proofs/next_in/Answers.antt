@@ -1,8 +1,6 @@
-use Prim.Native.Nat.{◌-◌, ◌≤◌}
+use Prim.Native.Nat.{◌-◌}
 use mathlib.Core.Path.{◌≡◌, refl, sym, ◌∙◌}
-use Rattle.model.specs.Index.{first}
 use Rattle.model.proofs.Index.{first_end}
-use Rattle.masks.specs.Masks.{has}
 use Rattle.masks.proofs.Masks.{next_hit, next_miss}
 use borrow.Author.Rules.{rules}
 use Rattle.masks.proofs.next_in.Goals as goal

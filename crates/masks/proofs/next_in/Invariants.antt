@@ -1,11 +1,8 @@
 -- The loop's invariant: the first from k on is the first from i on.
 use Prim.Native.Nat.{◌-◌, ◌≤◌}
-use mathlib.Core.Path.{◌≡◌, refl, sym, ◌∙◌}
+use mathlib.Core.Path.{◌≡◌}
 use Rattle.model.specs.Index.{first}
-use Rattle.model.proofs.Index.{first_end}
 use Rattle.masks.specs.Masks.{has}
-use Rattle.masks.proofs.Masks.{next_hit, next_miss}
-use borrow.Author.Rules.{rules}
 use Rattle.masks.proofs.next_in.Given as goal
 
 abbrev pub invariant-loop-i : goal.invariant-loop-i

@@ -1,5 +1,4 @@
 use Rattle.masks.proofs.Masks.{has_alone}
-use borrow.Author.Rules.{rules}
 use Rattle.masks.proofs.only.Goals as goal
 
 pub returns : goal.returns

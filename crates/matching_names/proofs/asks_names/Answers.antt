@@ -1,4 +1,3 @@
-use borrow.Author.Rules.{rules}
 use Rattle.matching_names.proofs.Naming.{asks_made, asks_held, asks_none}
 use Rattle.matching_names.proofs.asks_names.Goals as goal
 

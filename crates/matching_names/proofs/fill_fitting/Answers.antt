@@ -1,12 +1,8 @@
-use Prim.Native.Nat.{◌-◌, ◌≤◌}
-use mathlib.Core.Path.{◌≡◌, refl, ◌∙◌}
-use lib.ListN.{length}
+use Prim.Native.Nat.{◌-◌}
+use mathlib.Core.Path.{refl, ◌∙◌}
 use borrow.Author.Rules.{rules}
-use borrow.Author.Tests.{not-true}
 use Rattle.model.specs.Rows.{program}
-use Rattle.model.specs.Tables.{tables}
 use Rattle.values.proofs.Gathered.{room_row}
-use Rattle.matching_names.specs.Names.{FittingBefore}
 use Rattle.matching_names.proofs.Naming.{fitting_none, fitting_skip, fitting_next, fitting_upto}
 use Rattle.matching_names.proofs.fill_fitting.Goals as goal
 
@@ -19,9 +15,9 @@ loop-q-preserved-then-not-asks_names c = (fitting_skip c.loop-q.invariant.0 c.as
 
 pub fill_names-requires : goal.fill_names-requires
 fill_names-requires c = record {
-        ready = c.requires.ready;
-        row = (room_row _ _ _ _ _ _ refl c.requires.room refl (search rules), room_row _ _ _ _ _ _ refl c.requires.unfitted.room c.loop-q.invariant.1 (search rules));
-    }
+  ready = c.requires.ready;
+  row = (room_row _ _ _ _ _ _ refl c.requires.room refl (search rules), room_row _ _ _ _ _ _ refl c.requires.unfitted.room c.loop-q.invariant.1 (search rules));
+}
 
 pub loop-q-preserved : goal.loop-q-preserved
 unfolding program

@@ -1,13 +1,9 @@
 use Prim.Native.Nat.{◌-◌, ◌≤◌}
-use mathlib.Core.Path.{◌≡◌, refl, ◌∙◌}
+use mathlib.Core.Path.{◌≡◌}
 use lib.ListN.{length}
-use borrow.Author.Rules.{rules}
-use borrow.Author.Tests.{not-true}
 use Rattle.model.specs.Rows.{program}
 use Rattle.model.specs.Tables.{tables}
-use Rattle.values.proofs.Gathered.{room_row}
 use Rattle.matching_names.specs.Names.{FittingBefore}
-use Rattle.matching_names.proofs.Naming.{fitting_none, fitting_skip, fitting_next, fitting_upto}
 use Rattle.matching_names.proofs.fill_fitting.Given as goal
 
 abbrev pub invariant-loop-q : goal.invariant-loop-q

@@ -1,16 +1,11 @@
-use Prim.Native.Nat.{◌-◌, ◌≤◌}
+use Prim.Native.Nat.{◌-◌}
 use native.Mathlib.Omega.{arith}
-use mathlib.Core.Path.{◌≡◌, refl, ◌∙◌}
+use mathlib.Core.Path.{refl}
 use borrow.Author.Rules.{rules}
-use borrow.Author.Tests.{not-true, not-false}
-use Rattle.model.specs.Rows.{program}
-use Rattle.lists.specs.Lists.{listed}
 use Rattle.lists.proofs.Facts.{flow_usable}
 use Rattle.values.proofs.Gathered.{flow_entry, width_above}
-use Rattle.matching_sets.specs.Sets.{Joined}
-use Rattle.matching_names.specs.Names.{does_value_fit}
 use Rattle.matching_sets.proofs.Joining.{row_kept}
-use Rattle.matching_names.proofs.Naming.{names_before, names_begin, names_skip, names_next, names_done}
+use Rattle.matching_names.proofs.Naming.{names_begin, names_skip, names_next, names_done}
 use Rattle.matching_names.proofs.fill_names.Goals as goal
 
 pub loop-i-init : goal.loop-i-init
@@ -21,9 +16,9 @@ right-v-requires c = (flow_usable c.requires.ready _ c.flow-l.ensures).0
 
 pub value_fits-requires : goal.value_fits-requires
 value_fits-requires c = record {
-        ready = c.requires.ready;
-        w_value = (c.width-w.ensures, (flow_entry c.requires.ready _ _ _ _ _ c.flow-l.ensures c.width-w.ensures (search rules) refl c.right-v.ensures).0, row_kept c.width-w.ensures c.requires.row.0 refl);
-    }
+  ready = c.requires.ready;
+  w_value = (c.width-w.ensures, (flow_entry c.requires.ready _ _ _ _ _ c.flow-l.ensures c.width-w.ensures (search rules) refl c.right-v.ensures).0, row_kept c.width-w.ensures c.requires.row.0 refl);
+}
 
 pub loop-i-preserved-then-not-value_fits : goal.loop-i-preserved-then-not-value_fits
 loop-i-preserved-then-not-value_fits c = (names_skip _ _ _ _ _ _ _ c.loop-i.invariant.0 c.right-v.ensures c.value_fits.ensures c.if-not-value_fits.true, search rules)
@@ -35,8 +30,8 @@ pub put-requires : goal.put-requires
 put-requires c =
     let (a, n) = flow_entry c.requires.ready _ _ _ _ _ c.flow-l.ensures c.width-w.ensures (search rules) c.left-n.ensures c.right-v.ensures in
     record {
-        v_bound = rw c.name_width-words.ensures (width_above _ _ (omega arith));
-        row = row_kept c.name_width-words.ensures c.requires.row.1 c.loop-i.invariant.0.long;
+      v_bound = rw c.name_width-words.ensures (width_above _ _ (omega arith));
+      row = row_kept c.name_width-words.ensures c.requires.row.1 c.loop-i.invariant.0.long;
     }
 
 pub loop-i-preserved : goal.loop-i-preserved

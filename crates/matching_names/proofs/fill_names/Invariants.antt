@@ -1,16 +1,9 @@
 use Prim.Native.Nat.{◌-◌, ◌≤◌}
-use native.Mathlib.Omega.{arith}
-use mathlib.Core.Path.{◌≡◌, refl, ◌∙◌}
-use borrow.Author.Rules.{rules}
-use borrow.Author.Tests.{not-true, not-false}
 use Rattle.model.specs.Rows.{program}
 use Rattle.lists.specs.Lists.{listed}
-use Rattle.lists.proofs.Facts.{flow_usable}
-use Rattle.values.proofs.Gathered.{flow_entry, width_above}
 use Rattle.matching_sets.specs.Sets.{Joined}
 use Rattle.matching_names.specs.Names.{does_value_fit}
-use Rattle.matching_sets.proofs.Joining.{row_kept}
-use Rattle.matching_names.proofs.Naming.{names_before, names_begin, names_skip, names_next, names_done}
+use Rattle.matching_names.proofs.Naming.{names_before}
 use Rattle.matching_names.proofs.fill_names.Given as goal
 
 abbrev pub invariant-loop-i : goal.invariant-loop-i

@@ -1,5 +1,4 @@
 -- The two tests are the two of `goes_on`; the second is made where the first passes.
-use mathlib.Core.Path.{sym}
 use borrow.Author.Rules.{rules}
 use borrow.Author.Tests.{eq-eqb, ne_eqb}
 use Rattle.model.specs.Message.{ceilings_offset, weights_offset, goes_on}

@@ -1,7 +1,6 @@
 -- Each return is one law of a part, at the tests that led there.
 use native.Mathlib.Omega.{arith}
 use mathlib.Core.Path.{sym, ap}
-use borrow.Author.Rules.{rules}
 use Rattle.model.specs.Words.{words}
 use Rattle.message.specs.Parts.{checked}
 use Rattle.words.proofs.Words.{words_length}

@@ -1,6 +1,5 @@
 -- Each return is the first check that refused, behind those that passed; the last ones by the bytes that are left.
 use native.Mathlib.Omega.{arith}
-use borrow.Author.Rules.{rules}
 use Rattle.message.proofs.Checks.{end_small, tests-of-parts}
 use Rattle.message.proofs.parts_of.Goals as goal
 

@@ -1,6 +1,5 @@
 -- The part is `part` at its place, with its sizes.
 use mathlib.Core.Path.{refl, sym}
-use borrow.Author.Rules.{rules}
 use Rattle.model.specs.Limits.{present}
 use Rattle.model.specs.Message.{program_part_of}
 use Rattle.model.specs.Message.{program_sizes}

@@ -1,7 +1,6 @@
 -- Where the message goes on, the part is `part` at its place, with its sizes.
-use mathlib.Core.Path.{refl, sym, ap, ◌∙◌}
+use mathlib.Core.Path.{refl, sym, ◌∙◌}
 use borrow.Author.Rules.{rules}
-use borrow.Author.Tests.{not-true, not-false}
 use Rattle.model.specs.Message.{ceilings_offset, weights_offset, weights_sizes}
 use Rattle.message.proofs.Checks.{no_weights, with_weights}
 use Rattle.message.proofs.weights_part.Goals as goal

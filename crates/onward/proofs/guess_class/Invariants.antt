@@ -1,7 +1,5 @@
 use Prim.Native.Nat.{◌-◌}
-use borrow.Author.Rules.{rules}
 use Rattle.onward.specs.Guesses.{Guessed}
-use Rattle.onward.proofs.Guesses.{guessed_none, guessed_then}
 use Rattle.onward.proofs.guess_class.Given as goal
 
 abbrev pub invariant-loop-j : goal.invariant-loop-j

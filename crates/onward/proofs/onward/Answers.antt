@@ -1,5 +1,4 @@
 use mathlib.Core.Path.{◌∙◌}
-use borrow.Author.Rules.{rules}
 use Rattle.model.specs.Tables.{state_at}
 use Rattle.onward.proofs.onward.Goals as goal
 

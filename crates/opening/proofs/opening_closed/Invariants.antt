@@ -1,7 +1,5 @@
 use Prim.Native.Nat.{◌-◌}
-use borrow.Author.Tests.{not-true, not-false}
-use Rattle.opening.proofs.Openings.{OpeningsFrom, openings_begin, openings_next, openings_fail, openings_over}
-use borrow.Author.Rules.{rules}
+use Rattle.opening.proofs.Openings.{OpeningsFrom}
 use Rattle.opening.proofs.opening_closed.Given as goal
 
 abbrev pub invariant-loop-r : goal.invariant-loop-r

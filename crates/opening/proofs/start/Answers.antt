@@ -1,6 +1,4 @@
-use native.Mathlib.Omega.{arith}
-use Rattle.model.specs.Rows.{program}
-use Rattle.opening.proofs.Openings.{GlobalsLeft, globals_begin, globals_next, globals_over, global_here, global_inside}
+use Rattle.opening.proofs.Openings.{globals_begin, globals_next, globals_over, global_here, global_inside}
 use borrow.Author.Rules.{rules}
 use Rattle.opening.proofs.start.Goals as goal
 

@@ -1,7 +1,5 @@
-use native.Mathlib.Omega.{arith}
 use Rattle.model.specs.Rows.{program}
-use Rattle.opening.proofs.Openings.{GlobalsLeft, globals_begin, globals_next, globals_over, global_here, global_inside}
-use borrow.Author.Rules.{rules}
+use Rattle.opening.proofs.Openings.{GlobalsLeft}
 use Rattle.opening.proofs.start.Given as goal
 
 abbrev pub invariant-loop-left : goal.invariant-loop-left

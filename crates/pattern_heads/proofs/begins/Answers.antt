@@ -1,11 +1,5 @@
-use native.Mathlib.Omega.{arith}
 use mathlib.Core.Path.{sym, ◌∙◌}
-use mathlib.Core.Logic.{inr}
-use Rattle.model.specs.Limits.{max_depth}
-use Rattle.model.specs.Rows.{program}
-use Rattle.matching.proofs.Subpatterns.{pattern_name}
 use Rattle.pattern_heads.proofs.Fitting.{begins_made, begins_held, begins_any, name_low}
-use borrow.Author.Rules.{rules}
 use Rattle.pattern_heads.proofs.begins.Goals as goal
 
 pub returns-then-kind-eq-TAG_PATTERN_CONSTRUCTOR : goal.returns-then-kind-eq-TAG_PATTERN_CONSTRUCTOR

@@ -1,8 +1,4 @@
-use native.Mathlib.Omega.{arith}
-use Rattle.bits.specs.Bits.{Row}
-use Rattle.model.specs.Rows.{program}
 use Rattle.pattern_heads.proofs.Fitting.{equals_class, equals_none, equals_built, head_small, heads_row}
-use borrow.Author.Rules.{rules}
 use Rattle.pattern_heads.proofs.equals_some.Goals as goal
 
 pub returns-then-is_class : goal.returns-then-is_class

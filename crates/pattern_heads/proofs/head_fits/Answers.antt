@@ -1,7 +1,6 @@
 use native.Mathlib.Omega.{arith}
 use mathlib.Core.Path.{sym, ◌∙◌}
 use Rattle.pattern_heads.proofs.Fitting.{asked_held, fitting_room, fits_made, fits_bare, fits_other, fits_held, fits_function, fits_class, held_low, head_room}
-use borrow.Author.Rules.{rules}
 use Rattle.pattern_heads.proofs.head_fits.Goals as goal
 
 pub num-k-requires : goal.num-k-requires

@@ -1,7 +1,4 @@
-use native.Mathlib.Omega.{arith}
-use mathlib.Core.Path.{sym, ◌∙◌}
 use Rattle.pattern_heads.proofs.Fitting.{same_built, same_other}
-use borrow.Author.Rules.{rules}
 use Rattle.pattern_heads.proofs.same_constructor.Goals as goal
 
 pub returns-then-tag-eq-TAG_BUILD : goal.returns-then-tag-eq-TAG_BUILD

@@ -1,7 +1,6 @@
 use Prim.Native.Nat.{◌+◌, ◌*◌, ◌≤◌, ◌<◌}
 use native.Mathlib.Omega.{arith}
 use Rattle.pattern_letters.proofs.Lessening.{set_small}
-use borrow.Author.Rules.{rules}
 use Rattle.pattern_letters.proofs.argument_set.Goals as goal
 
 small : {k i h : _} → k ≤ 64 → i < 8 → h < k + 2 → (i + 1) * (k + 2) + h < 4096

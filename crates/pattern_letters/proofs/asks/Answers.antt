@@ -1,5 +1,4 @@
 use Rattle.pattern_letters.proofs.Arguments.{asks_made, asks_held}
-use borrow.Author.Rules.{rules}
 use Rattle.pattern_letters.proofs.asks.Goals as goal
 
 pub returns-then-kind-eq-TAG_PATTERN_CONSTRUCTOR : goal.returns-then-kind-eq-TAG_PATTERN_CONSTRUCTOR

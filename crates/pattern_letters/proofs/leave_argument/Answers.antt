@@ -1,11 +1,6 @@
-use Prim.Native.Nat.{◌+◌, ◌-◌, ◌≤◌}
+use Prim.Native.Nat.{◌-◌}
 use native.Mathlib.Omega.{arith}
-use mathlib.Core.Path.{◌≡◌}
-use borrow.Author.Tests.{not-true, not-false}
-use Rattle.model.specs.Rows.{program}
-use Rattle.model.specs.Tables.{tables}
 use Rattle.system_letters.proofs.Tables.{head_low}
-use Rattle.pattern_letters.specs.Picked.{leaves_below, Left}
 use Rattle.pattern_letters.proofs.Arguments.{asked, unasked, next_there, fitting_left, next_lost}
 use Rattle.pattern_heads.proofs.Fitting.{head_room}
 use Rattle.sent_letters.proofs.Found.{wide_row}
@@ -28,9 +23,9 @@ loop-s-init c = (search rules, search rules, heads_first _ _ _ _ _ _ _ c.require
 
 pub next_of_two-h-requires : goal.next_of_two-h-requires
 next_of_two-h-requires c = record {
-        row = (head_room c.requires.leaving_tables.match_tables _ 0 c.requires.i_lt_max_arity.1 (omega arith)).1;
-        from_le_end = (c.loop-s.invariant.1, omega (arith, c.loop-s.invariant.0, c.requires.leaving_tables.match_tables.ready.limits.constructors));
-    }
+  row = (head_room c.requires.leaving_tables.match_tables _ 0 c.requires.i_lt_max_arity.1 (omega arith)).1;
+  from_le_end = (c.loop-s.invariant.1, omega (arith, c.loop-s.invariant.0, c.requires.leaving_tables.match_tables.ready.limits.constructors));
+}
 
 pub shape_of-part-then-h-end : goal.shape_of-part-then-h-end
 shape_of-part-then-h-end c = c.loop-s.invariant.2.long
@@ -40,12 +35,12 @@ returns-then-h-end c = heads_over _ _ _ _ _ (head_low c.requires.leaving_tables.
 
 pub head_fits-requires : goal.head_fits-requires
 head_fits-requires c = record {
-        cases = c.requires.leaving_tables.match_tables;
-        pattern = c.requires.pattern.0;
-        fact = asked _ _ _ c.asks.ensures c.if-not-asks.false;
-        n_lt_names = (c.requires.i_lt_max_arity.1, (omega (arith, c.loop-s.invariant.0, c.if-h-end.false)));
-        h_value = next_there c.requires.leaving_tables.match_tables _ 0 _ c.requires.i_lt_max_arity.1 (omega (arith, c.loop-s.invariant.0, c.if-h-end.false)) _ _ c.loop-s.invariant.1 c.next_of_two-h.ensures (omega (arith, c.if-h-end.false));
-    }
+  cases = c.requires.leaving_tables.match_tables;
+  pattern = c.requires.pattern.0;
+  fact = asked _ _ _ c.asks.ensures c.if-not-asks.false;
+  n_lt_names = (c.requires.i_lt_max_arity.1, (omega (arith, c.loop-s.invariant.0, c.if-h-end.false)));
+  h_value = next_there c.requires.leaving_tables.match_tables _ 0 _ c.requires.i_lt_max_arity.1 (omega (arith, c.loop-s.invariant.0, c.if-h-end.false)) _ _ c.loop-s.invariant.1 c.next_of_two-h.ensures (omega (arith, c.if-h-end.false));
+}
 
 pub loop-s-smaller-then-head_fits : goal.loop-s-smaller-then-head_fits
 loop-s-smaller-then-head_fits c = omega (arith, c.if-h-end.false, next_above _ _ _ _ c.loop-s.invariant.1 c.next_of_two-h.ensures)
@@ -55,9 +50,9 @@ loop-s-preserved-then-head_fits c = (c.loop-s.invariant.0, omega (arith, c.if-h-
 
 pub argument_set-set-requires : goal.argument_set-set-requires
 argument_set-set-requires c = record {
-        within_limits = c.requires.leaving_tables.match_tables.ready.limits;
-        i_lt_max_arity = (c.requires.i_lt_max_arity.0, (omega (arith, c.loop-s.invariant.0, c.if-h-end.false)));
-    }
+  within_limits = c.requires.leaving_tables.match_tables.ready.limits;
+  i_lt_max_arity = (c.requires.i_lt_max_arity.0, (omega (arith, c.loop-s.invariant.0, c.if-h-end.false)));
+}
 
 pub take_from-requires : goal.take_from-requires
 take_from-requires c = (wide_row _ _ _ c.requires.leaving_tables.wide c.loop-s.invariant.2.row, digit_room _ _ _ _ c.requires.leaving_tables.letter_sets_of _ _ _ c.requires.leaving_tables.wide (digit_number _ _ _ _ _ c.argument_set-set.ensures) c.requires.i_lt_max_arity.0 (head_below _ _ _ (omega (arith, c.loop-s.invariant.0, c.if-h-end.false))))

@@ -1,11 +1,6 @@
-use Prim.Native.Nat.{◌-◌, ◌≤◌}
+use Prim.Native.Nat.{◌-◌}
 use native.Mathlib.Omega.{arith}
-use mathlib.Core.Path.{◌≡◌, sym, ◌∙◌}
-use Rattle.model.specs.Limits.{max_depth}
-use Rattle.model.specs.Rows.{program}
-use Rattle.model.specs.Closed.{subpattern}
-use Rattle.model.specs.Tables.{tables}
-use Rattle.pattern_letters.specs.Picked.{leaves_first, Left}
+use mathlib.Core.Path.{sym, ◌∙◌}
 use Rattle.pattern_letters.proofs.Arguments.{row_small, first_row, argument_at, argument_name, arity_short, value_low}
 use Rattle.sent_letters.proofs.Found.{wide_row}
 use Rattle.pattern_letters.proofs.Lessening.{left_first, left_next, left_over, left_whole}
@@ -43,9 +38,9 @@ pub leave_argument-requires : goal.leave_argument-requires
 leave_argument-requires c =
     let a = (argument_at c.requires.leaving_tables.match_tables.ready c.requires.ends _ c.requires.pattern.0 c.requires.pattern.1 (sym c.tag.ensures ∙ c.if-tag-ne-TAG_PATTERN_CONSTRUCTOR.false) c.num-made.ensures c.num-arity.ensures (search rules) c.loop-i.invariant.1) in
     record {
-        leaving_tables = c.requires.leaving_tables;
-        i_lt_max_arity = (a.short, (argument_name c.requires.leaving_tables.match_tables.ready c.requires.ends _ c.requires.pattern.0 c.requires.pattern.1 (sym c.tag.ensures ∙ c.if-tag-ne-TAG_PATTERN_CONSTRUCTOR.false) c.num-made.ensures c.num-arity.ensures (search rules) c.loop-i.invariant.1 _ _ (search rules) c.num-name.ensures).1);
-        pattern = (a.stands, wide_row _ _ _ c.requires.leaving_tables.wide c.loop-i.invariant.2.row);
+      leaving_tables = c.requires.leaving_tables;
+      i_lt_max_arity = (a.short, (argument_name c.requires.leaving_tables.match_tables.ready c.requires.ends _ c.requires.pattern.0 c.requires.pattern.1 (sym c.tag.ensures ∙ c.if-tag-ne-TAG_PATTERN_CONSTRUCTOR.false) c.num-made.ensures c.num-arity.ensures (search rules) c.loop-i.invariant.1 _ _ (search rules) c.num-name.ensures).1);
+      pattern = (a.stands, wide_row _ _ _ c.requires.leaving_tables.wide c.loop-i.invariant.2.row);
     }
 
 pub word-sub-requires : goal.word-sub-requires

@@ -1,15 +1,10 @@
 use Prim.Native.Nat.{◌-◌, ◌≤◌}
-use native.Mathlib.Omega.{arith}
-use mathlib.Core.Path.{◌≡◌, sym, ◌∙◌}
+use mathlib.Core.Path.{◌≡◌}
 use Rattle.model.specs.Limits.{max_depth}
 use Rattle.model.specs.Rows.{program}
 use Rattle.model.specs.Closed.{subpattern}
 use Rattle.model.specs.Tables.{tables}
 use Rattle.pattern_letters.specs.Picked.{leaves_first, Left}
-use Rattle.pattern_letters.proofs.Arguments.{row_small, first_row, argument_at, argument_name, arity_short, value_low}
-use Rattle.sent_letters.proofs.Found.{wide_row}
-use Rattle.pattern_letters.proofs.Lessening.{left_first, left_next, left_over, left_whole}
-use borrow.Author.Rules.{rules}
 use Rattle.pattern_letters.proofs.leave_letters.Given as goal
 
 abbrev pub invariant-loop-i : goal.invariant-loop-i

@@ -1,17 +1,11 @@
 use mathlib.Core.Bool.{not}
 use mathlib.Core.Path.{ap}
-use Prim.Native.Nat.{◌-◌, ◌≤◌}
+use Prim.Native.Nat.{◌-◌}
 use native.Mathlib.Omega.{arith}
-use mathlib.Core.Path.{◌≡◌, refl, sym, ◌∙◌}
-use lib.ListN.{length}
-use borrow.Author.Tests.{not-false}
-use Rattle.model.specs.Index.{gather}
-use Rattle.model.specs.Words.{right, columns}
-use Rattle.model.specs.Rows.{program}
+use mathlib.Core.Path.{refl, sym, ◌∙◌}
+use Rattle.model.specs.Words.{columns}
 use Rattle.model.specs.Tables.{tables, entries}
-use Rattle.model.specs.Rules.{letters_read}
 use Rattle.lists.proofs.Facts.{mail_rises}
-use Rattle.system_letters.specs.Letters.{Found}
 use Rattle.system_letters.proofs.Tables.{head_low}
 use Rattle.rules.proofs.Entries.{mail_order, mail_low, mail_class}
 use Rattle.sent_letters.proofs.Found.{row_kept, wide_row, found_start, found_end, entry_room, entry_number}
@@ -39,11 +33,11 @@ mail_value-v-requires c = c.requires.pattern_tables.match_tables.ready
 
 pub begins-requires : goal.begins-requires
 begins-requires c = record {
-        ready = c.requires.pattern_tables.match_tables.ready;
-        name_heads = c.requires.pattern_tables.match_tables.name_heads;
-        pattern = c.requires.read_room.pattern;
-        v_le_rows = mail_low c.requires.pattern_tables.match_tables.ready _ _ _ c.mail_from-from.ensures c.mail_to-to.ensures _ _ (search rules) c.mail_value-v.ensures;
-    }
+  ready = c.requires.pattern_tables.match_tables.ready;
+  name_heads = c.requires.pattern_tables.match_tables.name_heads;
+  pattern = c.requires.read_room.pattern;
+  v_le_rows = mail_low c.requires.pattern_tables.match_tables.ready _ _ _ c.mail_from-from.ensures c.mail_to-to.ensures _ _ (search rules) c.mail_value-v.ensures;
+}
 
 pub overflow_step-j : goal.overflow_step-j
 overflow_step-j c = omega (arith, (mail_order c.requires.pattern_tables.match_tables.ready _ _ _ c.mail_from-from.ensures c.mail_to-to.ensures).1, c.requires.pattern_tables.match_tables.ready.limits.mails)
@@ -53,9 +47,9 @@ loop-j-preserved-then-not-begins c = (search rules, search rules, c.loop-j.invar
 
 pub entry_set-allowed-requires : goal.entry_set-allowed-requires
 entry_set-allowed-requires c = record {
-        within_limits = c.requires.pattern_tables.match_tables.ready.limits;
-        j_lt_mails = (omega (arith, (mail_order c.requires.pattern_tables.match_tables.ready _ _ _ c.mail_from-from.ensures c.mail_to-to.ensures).1));
-    }
+  within_limits = c.requires.pattern_tables.match_tables.ready.limits;
+  j_lt_mails = (omega (arith, (mail_order c.requires.pattern_tables.match_tables.ready _ _ _ c.mail_from-from.ensures c.mail_to-to.ensures).1));
+}
 
 pub meets-requires : goal.meets-requires
 unfolding tables entries columns
@@ -74,10 +68,10 @@ copy_into-requires c = (wide_row _ _ _ c.letter_width-words.ensures (row_kept _ 
 
 pub leave_letters-requires : goal.leave_letters-requires
 leave_letters-requires c = record {
-        leaving_tables = record { match_tables = c.requires.pattern_tables.match_tables; letter_sets_of = c.requires.pattern_tables.letter_tables.letter_sets_of; wide = c.letter_width-words.ensures };
-        ends = c.requires.pattern_tables.ends;
-        pattern = (c.requires.read_room.pattern, sym c.begins.ensures ∙ c.if-not-begins.false, wide_row _ _ _ c.letter_width-words.ensures (row_kept _ _ _ _ c.requires.read_room.part_row (c.copy_into.ensures.long ∙ c.loop-j.invariant.3)));
-    }
+  leaving_tables = record { match_tables = c.requires.pattern_tables.match_tables; letter_sets_of = c.requires.pattern_tables.letter_tables.letter_sets_of; wide = c.letter_width-words.ensures };
+  ends = c.requires.pattern_tables.ends;
+  pattern = (c.requires.read_room.pattern, sym c.begins.ensures ∙ c.if-not-begins.false, wide_row _ _ _ c.letter_width-words.ensures (row_kept _ _ _ _ c.requires.read_room.part_row (c.copy_into.ensures.long ∙ c.loop-j.invariant.3)));
+}
 
 pub join_into-requires : goal.join_into-requires
 join_into-requires c = (wide_row _ _ _ c.letter_width-words.ensures c.loop-j.invariant.4.row, wide_row _ _ _ c.letter_width-words.ensures c.leave_letters.ensures.row)

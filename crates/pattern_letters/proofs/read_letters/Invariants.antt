@@ -1,20 +1,12 @@
 use Prim.Native.Nat.{◌-◌, ◌≤◌}
-use native.Mathlib.Omega.{arith}
-use mathlib.Core.Path.{◌≡◌, refl, sym, ◌∙◌}
+use mathlib.Core.Path.{◌≡◌}
 use lib.ListN.{length}
-use borrow.Author.Tests.{not-false}
 use Rattle.model.specs.Index.{gather}
-use Rattle.model.specs.Words.{right, columns}
+use Rattle.model.specs.Words.{right}
 use Rattle.model.specs.Rows.{program}
-use Rattle.model.specs.Tables.{tables, entries}
+use Rattle.model.specs.Tables.{tables}
 use Rattle.model.specs.Rules.{letters_read}
-use Rattle.lists.proofs.Facts.{mail_rises}
 use Rattle.system_letters.specs.Letters.{Found}
-use Rattle.system_letters.proofs.Tables.{head_low}
-use Rattle.rules.proofs.Entries.{mail_order, mail_low, mail_class}
-use Rattle.sent_letters.proofs.Found.{row_kept, wide_row, found_start, found_end, entry_room, entry_number}
-use Rattle.pattern_letters.proofs.Lessening.{found_passed, found_hollow, found_read}
-use borrow.Author.Rules.{rules}
 use Rattle.pattern_letters.proofs.read_letters.Given as goal
 
 abbrev pub invariant-loop-j : goal.invariant-loop-j

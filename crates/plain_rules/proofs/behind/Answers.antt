@@ -1,5 +1,4 @@
 use mathlib.Core.Path.{◌∙◌, ap}
-use borrow.Author.Rules.{rules}
 use Rattle.model.specs.Tables.{tables, onward, state_at, state_index_of}
 use Rattle.plain_rules.proofs.behind.Goals as goal
 

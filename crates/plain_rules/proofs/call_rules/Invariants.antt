@@ -1,19 +1,10 @@
-use Prim.Native.Nat.{◌+◌, ◌-◌, ◌≤◌, ◌<◌}
-use native.Mathlib.Omega.{arith}
-use mathlib.Core.Path.{◌≡◌, refl, sym, ◌∙◌}
+use Prim.Native.Nat.{◌+◌, ◌-◌, ◌≤◌}
 use mathlib.Core.List.{[]}
-use borrow.Author.Rules.{rules}
 use Rattle.model.specs.Index.{gather}
 use Rattle.model.specs.Rows.{program, call}
 use Rattle.model.specs.Tables.{tables, state_at}
-use Rattle.lists.specs.Lists.{range_from, range_to}
-use Rattle.rules.specs.Listed.{kind_effect}
 use Rattle.rules.specs.Added.{Added}
-use borrow.Author.Tests.{not-false}
-use Rattle.rules.proofs.Adding.{added_none, added_same, added_kept, added_quiet}
 use Rattle.plain_rules.specs.Heads.{call_turn}
-use Rattle.rules.proofs.Entries.{name_starts, flow_order}
-use Rattle.plain_rules.proofs.Heads.{tag_head, here_low, value_from, takes_function, call_gathered, call_low, call_kept, call_skipped}
 use Rattle.plain_rules.proofs.call_rules.Given as goal
 
 abbrev pub invariant-loop-j : goal.invariant-loop-j

@@ -1,16 +1,12 @@
-use Prim.Native.Nat.{◌+◌, ◌-◌, ◌≤◌, ◌<◌}
+use Prim.Native.Nat.{◌-◌, ◌<◌}
 use native.Mathlib.Omega.{arith}
 use mathlib.Core.Path.{◌≡◌, refl}
 use mathlib.Core.List.{[]}
 use borrow.Author.Rules.{rules}
-use Rattle.model.specs.Index.{gather}
-use Rattle.model.specs.Rows.{program, give}
-use Rattle.model.specs.Tables.{tables}
+use Rattle.model.specs.Rows.{give}
 use Rattle.rules.specs.Listed.{kind_effect}
-use Rattle.rules.specs.Added.{Added}
 use Rattle.rules.proofs.States.{return_call}
 use Rattle.rules.proofs.Adding.{added_none, added_nothing, added_same, added_quiet}
-use Rattle.plain_rules.specs.Heads.{give_turn}
 use Rattle.plain_rules.proofs.Heads.{tag_head, here_low, give_nothing, give_range, give_gathered, give_kept}
 use Rattle.plain_rules.proofs.give_rules.Goals as goal
 
@@ -23,16 +19,16 @@ returns-then-b-s c = added_same give _ [] 0 _ [] 0 _ _ (added_nothing give _ [] 
 
 pub heads_to-to-requires : goal.heads_to-to-requires
 heads_to-to-requires c = record {
-        ready = c.requires.ready;
-        r_bound = omega (arith, here_low c.requires.ready c.state_return-b.result (tag_head _ 4 (return_call c.requires.ready c.args.i _ c.requires.i_lt_states c.state_return-b.ensures c.if-b-s.false) (omega arith) (omega arith)), c.requires.ready.limits.rows);
-    }
+  ready = c.requires.ready;
+  r_bound = omega (arith, here_low c.requires.ready c.state_return-b.result (tag_head _ 4 (return_call c.requires.ready c.args.i _ c.requires.i_lt_states c.state_return-b.ensures c.if-b-s.false) (omega arith) (omega arith)), c.requires.ready.limits.rows);
+}
 
 pub rest-e-requires : goal.rest-e-requires
 rest-e-requires c = record {
-        ready = c.requires.ready;
-        ends = c.requires.ends;
-        r_value = tag_head _ 4 (return_call c.requires.ready c.args.i _ c.requires.i_lt_states c.state_return-b.ensures c.if-b-s.false) (omega arith) (omega arith);
-    }
+  ready = c.requires.ready;
+  ends = c.requires.ends;
+  r_value = tag_head _ 4 (return_call c.requires.ready c.args.i _ c.requires.i_lt_states c.state_return-b.ensures c.if-b-s.false) (omega arith) (omega arith);
+}
 
 pub loop-j-init : goal.loop-j-init
 loop-j-init c = (added_none give _ [] 0 _ _ (omega arith), omega arith, (give_range c.requires.ready c.args.i _ _ c.requires.i_value c.state_return-b.ensures c.state_class-c.ensures _ _ c.heads_from-from.ensures c.heads_to-to.ensures).0, omega arith)

@@ -1,17 +1,10 @@
-use Prim.Native.Nat.{◌+◌, ◌-◌, ◌≤◌, ◌<◌}
-use native.Mathlib.Omega.{arith}
-use mathlib.Core.Path.{◌≡◌, refl}
+use Prim.Native.Nat.{◌+◌, ◌-◌, ◌≤◌}
 use mathlib.Core.List.{[]}
-use borrow.Author.Rules.{rules}
 use Rattle.model.specs.Index.{gather}
 use Rattle.model.specs.Rows.{program, give}
 use Rattle.model.specs.Tables.{tables}
-use Rattle.rules.specs.Listed.{kind_effect}
 use Rattle.rules.specs.Added.{Added}
-use Rattle.rules.proofs.States.{return_call}
-use Rattle.rules.proofs.Adding.{added_none, added_nothing, added_same, added_quiet}
 use Rattle.plain_rules.specs.Heads.{give_turn}
-use Rattle.plain_rules.proofs.Heads.{tag_head, here_low, give_nothing, give_range, give_gathered, give_kept}
 use Rattle.plain_rules.proofs.give_rules.Given as goal
 
 abbrev pub invariant-loop-j : goal.invariant-loop-j

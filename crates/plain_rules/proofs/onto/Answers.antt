@@ -1,5 +1,4 @@
 use native.Mathlib.Omega.{arith}
-use borrow.Author.Rules.{rules}
 use Rattle.rules.proofs.States.{index_small}
 use Rattle.plain_rules.proofs.onto.Goals as goal
 

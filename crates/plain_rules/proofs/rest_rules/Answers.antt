@@ -1,6 +1,5 @@
 use mathlib.Core.Path.{refl}
 use mathlib.Core.List.{[]}
-use borrow.Author.Rules.{rules}
 use Rattle.model.specs.Rows.{self}
 use Rattle.rules.specs.Listed.{kind_effect}
 use Rattle.rules.proofs.Adding.{added_alone}

@@ -1,5 +1,4 @@
 use native.Mathlib.Omega.{arith}
-use borrow.Author.Rules.{rules}
 use Rattle.positions.proofs.Placed.{function_low, body_told}
 use Rattle.positions.proofs.body.Goals as goal
 

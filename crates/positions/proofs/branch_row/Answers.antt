@@ -1,10 +1,8 @@
-use Prim.Native.Nat.{◌+◌, ◌<◌}
+use Prim.Native.Nat.{◌<◌}
 use native.Mathlib.Omega.{arith}
-use mathlib.Core.Path.{◌≡◌, refl, ◌∙◌}
+use mathlib.Core.Path.{refl, ◌∙◌}
 use lib.ListN.{length}
 use borrow.Author.Rules.{rules}
-use Rattle.model.specs.Rows.{program}
-use Rattle.positions.specs.Positions.{branch_row, Run}
 use Rattle.positions.proofs.Standing.{run_prefix, run_pass, row_end}
 use Rattle.positions.proofs.branch_row.Goals as goal
 

@@ -1,11 +1,7 @@
-use Prim.Native.Nat.{◌+◌, ◌<◌}
-use native.Mathlib.Omega.{arith}
-use mathlib.Core.Path.{◌≡◌, refl, ◌∙◌}
-use lib.ListN.{length}
-use borrow.Author.Rules.{rules}
+use Prim.Native.Nat.{◌+◌}
+use mathlib.Core.Path.{◌≡◌}
 use Rattle.model.specs.Rows.{program}
 use Rattle.positions.specs.Positions.{branch_row, Run}
-use Rattle.positions.proofs.Standing.{run_prefix, run_pass, row_end}
 use Rattle.positions.proofs.branch_row.Given as goal
 
 abbrev pub invariant-loop-left : goal.invariant-loop-left

@@ -1,5 +1,3 @@
-use native.Mathlib.Omega.{arith}
-use borrow.Author.Rules.{rules}
 use Rattle.lists.proofs.Facts.{fitted}
 use Rattle.positions.proofs.Placed.{head_inside}
 use Rattle.positions.proofs.rest.Goals as goal

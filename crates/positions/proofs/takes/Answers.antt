@@ -1,5 +1,4 @@
 use native.Mathlib.Omega.{arith}
-use borrow.Author.Rules.{rules}
 use Rattle.positions.proofs.Placed.{takes_yes, takes_no, function_row}
 use Rattle.positions.proofs.takes.Goals as goal
 

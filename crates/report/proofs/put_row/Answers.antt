@@ -1,4 +1,3 @@
-use borrow.Author.Rules.{rules}
 use Rattle.report.proofs.Rows.{row_put}
 use Rattle.report.proofs.put_row.Goals as goal
 

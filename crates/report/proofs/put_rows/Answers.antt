@@ -1,9 +1,6 @@
-use Prim.Native.Nat.{◌-◌, ◌≤◌}
-use mathlib.Core.Path.{◌≡◌, ◌∙◌}
-use lib.ListN.{length}
+use Prim.Native.Nat.{◌-◌}
 use borrow.Author.Rules.{rules}
-use Rattle.report.specs.System.{rows_text}
-use Rattle.report.proofs.Rows.{Put, rows_none, rows_more, rows_all, rows_most}
+use Rattle.report.proofs.Rows.{rows_none, rows_more, rows_all, rows_most}
 use Rattle.report.proofs.put_rows.Goals as goal
 
 pub loop-r-init : goal.loop-r-init

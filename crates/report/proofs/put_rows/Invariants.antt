@@ -1,9 +1,8 @@
 use Prim.Native.Nat.{◌-◌, ◌≤◌}
-use mathlib.Core.Path.{◌≡◌, ◌∙◌}
+use mathlib.Core.Path.{◌≡◌}
 use lib.ListN.{length}
-use borrow.Author.Rules.{rules}
 use Rattle.report.specs.System.{rows_text}
-use Rattle.report.proofs.Rows.{Put, rows_none, rows_more, rows_all, rows_most}
+use Rattle.report.proofs.Rows.{Put}
 use Rattle.report.proofs.put_rows.Given as goal
 
 abbrev pub invariant-loop-r : goal.invariant-loop-r

@@ -1,4 +1,3 @@
-use borrow.Author.Rules.{rules}
 use Rattle.report.proofs.Rows.{pair_words}
 use Rattle.report.proofs.put_two.Goals as goal
 

@@ -1,8 +1,6 @@
-use Prim.Native.Nat.{◌-◌, ◌≤◌}
+use Prim.Native.Nat.{◌-◌}
 use mathlib.Core.Path.{refl}
-use lib.ListN.{get_or}
 use borrow.Author.Rules.{rules}
-use Rattle.bits.specs.Bits.{Filled}
 use Rattle.bits.proofs.Rows.{filled_start, filled_next, filled_to}
 use Rattle.rule_tables.proofs.copy_words.Goals as goal
 

@@ -1,4 +1,3 @@
-use borrow.Author.Rules.{rules}
 use Rattle.rule_tables.proofs.Joining.{joined}
 use Rattle.rule_tables.proofs.join_tables.Goals as goal
 

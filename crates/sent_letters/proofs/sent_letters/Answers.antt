@@ -1,15 +1,11 @@
-use Prim.Native.Nat.{◌-◌, ◌≤◌}
+use Prim.Native.Nat.{◌-◌}
 use native.Mathlib.Omega.{arith}
-use mathlib.Core.Path.{◌≡◌, refl, sym, ◌∙◌, ap}
-use lib.ListN.{length}
-use Rattle.model.specs.Index.{gather}
-use Rattle.model.specs.Words.{right, columns}
-use Rattle.model.specs.Rows.{program}
+use mathlib.Core.Path.{refl, sym, ◌∙◌, ap}
+use Rattle.model.specs.Words.{columns}
 use Rattle.model.specs.Tables.{tables, entries}
 use Rattle.model.specs.Counters.{letters_allowed}
 use Rattle.lists.proofs.Facts.{mail_usable, flow_rises}
 use Rattle.lists.proofs.Told.{mail_placed}
-use Rattle.system_letters.specs.Letters.{Found}
 use Rattle.rules.proofs.Entries.{name_starts, flow_order, mailed_at}
 use Rattle.sent_letters.proofs.Found.{found_start, found_sent, found_end, entry_room, entry_number, wide_row}
 use borrow.Author.Rules.{rules}
@@ -36,9 +32,9 @@ place-j-requires c =
 
 pub entry_set-set-requires : goal.entry_set-set-requires
 entry_set-set-requires c = record {
-        within_limits = c.requires.sent_tables.letter_tables.ready.limits;
-        j_lt_mails = (mailed_at c.requires.sent_tables.letter_tables.ready _ _ _ _ _ _ _ c.requires.sent_to.mailed (name_starts c.requires.sent_tables.letter_tables.ready _ _ _ _ c.requires.sent_tables.flow_starts c.requires.sent_to.name c.word-from.ensures.0 c.word-to.ensures.0).0 (name_starts c.requires.sent_tables.letter_tables.ready _ _ _ _ c.requires.sent_tables.flow_starts c.requires.sent_to.name c.word-from.ensures.0 c.word-to.ensures.0).1 (omega (arith, c.loop-i.invariant.0)) (omega (arith, c.loop-i.invariant.0, c.loop-i-test.true)) c.flow_value-v.ensures (mail_placed _ _ _ _ _ c.place-j.ensures c.mail.ensures)).0;
-    }
+  within_limits = c.requires.sent_tables.letter_tables.ready.limits;
+  j_lt_mails = (mailed_at c.requires.sent_tables.letter_tables.ready _ _ _ _ _ _ _ c.requires.sent_to.mailed (name_starts c.requires.sent_tables.letter_tables.ready _ _ _ _ c.requires.sent_tables.flow_starts c.requires.sent_to.name c.word-from.ensures.0 c.word-to.ensures.0).0 (name_starts c.requires.sent_tables.letter_tables.ready _ _ _ _ c.requires.sent_tables.flow_starts c.requires.sent_to.name c.word-from.ensures.0 c.word-to.ensures.0).1 (omega (arith, c.loop-i.invariant.0)) (omega (arith, c.loop-i.invariant.0, c.loop-i-test.true)) c.flow_value-v.ensures (mail_placed _ _ _ _ _ c.place-j.ensures c.mail.ensures)).0;
+}
 
 pub join_into-requires : goal.join_into-requires
 unfolding tables entries columns

@@ -1,8 +1,7 @@
 use Rattle.bits.proofs.Bits.{bit_zero}
 use Rattle.bits.proofs.Rows.{filled_start, filled_next, filled_over}
-use Prim.Native.Nat.{◌-◌, ◌≤◌}
+use Prim.Native.Nat.{◌-◌}
 use mathlib.Core.Path.{refl}
-use Rattle.bits.specs.Bits.{Filled}
 use borrow.Author.Rules.{rules}
 use Rattle.sets.proofs.clear.Goals as goal
 

@@ -1,12 +1,8 @@
 use Rattle.bits.proofs.Common.{shared_turn, shared_held_turn, code_0, code_1, code_2}
-use Prim.Native.Nat.{◌+◌, ◌-◌, ◌*◌, ◌≤◌, zero-le}
+use Prim.Native.Nat.{◌+◌, ◌-◌, ◌*◌, zero-le}
 use native.Mathlib.Omega.{arith}
-use mathlib.Core.Path.{◌≡◌, refl}
-use mathlib.Core.Bool.{not}
-use lib.Dec.{eqb}
-use Rattle.model.specs.Index.{any}
+use mathlib.Core.Path.{refl}
 use Rattle.model.proofs.Index.{any_end}
-use Rattle.bits.specs.Bits.{shared, shared_held}
 use borrow.Author.Rules.{rules}
 use Rattle.sets.proofs.common.Goals as goal
 

@@ -1,6 +1,5 @@
 use Rattle.bits.proofs.Bits.{bit_ones}
 use Rattle.bits.proofs.Rows.{renewed_as, renew_copied}
-use borrow.Author.Rules.{rules}
 use Rattle.sets.proofs.copy_into.Goals as goal
 
 pub returns : goal.returns

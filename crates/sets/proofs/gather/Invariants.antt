@@ -1,14 +1,9 @@
-use Rattle.bits.proofs.Rows.{flipped_turn}
-use Rattle.bits.proofs.Words.{any_over}
-use Prim.Native.Nat.{◌+◌, ◌-◌, ◌*◌, ◌≤◌}
-use mathlib.Core.Path.{◌≡◌, sym}
+use Prim.Native.Nat.{◌-◌, ◌*◌, ◌≤◌}
+use mathlib.Core.Path.{◌≡◌}
 use mathlib.Core.Bool.{not}
 use lib.Dec.{eqb}
 use Rattle.model.specs.Index.{any}
 use Rattle.bits.specs.Bits.{flipped}
-use native.Mathlib.Omega.{arith}
-use Rattle.model.proofs.Index.{any_end}
-use borrow.Author.Rules.{rules}
 use Rattle.sets.proofs.gather.Given as goal
 
 abbrev pub invariant-loop-z : goal.invariant-loop-z

@@ -1,6 +1,5 @@
 use Rattle.bits.proofs.Bits.{bit_read}
 use Rattle.bits.specs.Bits.{member}
-use borrow.Author.Rules.{rules}
 use Rattle.sets.proofs.holds.Goals as goal
 
 pub returns : goal.returns

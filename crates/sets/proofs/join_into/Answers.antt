@@ -1,7 +1,6 @@
 use mathlib.Core.Bool.{◌||◌}
 use Rattle.bits.proofs.Bits.{bit_ones, bit_zero}
 use Rattle.bits.proofs.Rows.{renewed_as, renew_joined}
-use borrow.Author.Rules.{rules}
 use Rattle.sets.proofs.join_into.Goals as goal
 
 pub returns : goal.returns

@@ -1,5 +1,4 @@
 use Rattle.bits.proofs.Rows.{flipped_none, any_as}
-use borrow.Author.Rules.{rules}
 use Rattle.sets.proofs.meets.Goals as goal
 
 pub returns : goal.returns

@@ -1,7 +1,5 @@
-use Rattle.bits.proofs.Rows.{filled_start, filled_over, renewed_next, renewed_set}
 use Prim.Native.Nat.{◌-◌, ◌≤◌}
 use Rattle.bits.specs.Bits.{Filled, renewed}
-use borrow.Author.Rules.{rules}
 use Rattle.sets.proofs.renew.Given as goal
 
 abbrev pub invariant-loop-z : goal.invariant-loop-z

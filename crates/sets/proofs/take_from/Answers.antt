@@ -1,7 +1,6 @@
 use mathlib.Core.Bool.{not, ◌&&◌}
 use Rattle.bits.proofs.Bits.{bit_zero}
 use Rattle.bits.proofs.Rows.{renewed_as, renew_lessened}
-use borrow.Author.Rules.{rules}
 use Rattle.sets.proofs.take_from.Goals as goal
 
 pub returns : goal.returns

@@ -1,5 +1,4 @@
 use Rattle.bits.proofs.Rows.{flipped_all, all_as}
-use borrow.Author.Rules.{rules}
 use Rattle.sets.proofs.within.Goals as goal
 
 pub returns : goal.returns

@@ -28,8 +28,8 @@ taken_bits-requires c =
     let h = c.requires in
     let (run, few) = case_here h.ready _ (sym c.tag.ensures ∙ c.in-8.is) _ c.num-count.ensures in
     record {
-        cases = closure_match h;
-        branches_asked = record { row = (h.names.of_name _ (case_name h.ready _ (sym c.tag.ensures ∙ c.in-8.is) _ c.num-name.ensures)).row; run = run; few = few };
+      cases = closure_match h;
+      branches_asked = record { row = (h.names.of_name _ (case_name h.ready _ (sym c.tag.ensures ∙ c.in-8.is) _ c.num-name.ensures)).row; run = run; few = few };
     }
 
 pub named_code-requires : goal.named_code-requires

@@ -1,6 +1,5 @@
 -- Each return is one test that failed, or the number of those behind.
 use native.Mathlib.Omega.{arith}
-use borrow.Author.Rules.{rules}
 use Rattle.sizes.proofs.Limits.{outside_below, outside_above, outside_behind}
 use Rattle.sizes.proofs.outside.Goals as goal
 

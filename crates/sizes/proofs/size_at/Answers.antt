@@ -12,6 +12,6 @@ returns-else-i-bytes c =
     let a = c.args in
     let l = words_length a.bytes.now in
     record {
-        value = sym (get_or-eq_default (words a.bytes.now) 0 {n = a.i} (omega arith));
-        upper_bound = search rules;
+      value = sym (get_or-eq_default (words a.bytes.now) 0 {n = a.i} (omega arith));
+      upper_bound = search rules;
     }

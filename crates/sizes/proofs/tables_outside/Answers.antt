@@ -1,6 +1,5 @@
 use mathlib.Core.List.{[]}
 use Rattle.sizes.proofs.Limits.{outside_none}
-use borrow.Author.Rules.{rules}
 use Rattle.sizes.proofs.tables_outside.Goals as goal
 
 pub returns : goal.returns

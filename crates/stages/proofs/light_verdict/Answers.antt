@@ -12,8 +12,8 @@ fill_items-requires c =
     let rows = c.requires.startable.ready.limits.badrows.1 in
     let n = c.requires.startable.counted in
     record {
-        letters_filled = c.requires.letters_filled.0;
-        items_room = record { few = omega (arith, n.counters, n.few); from_room = omega (arith, rows, c.words16_258-froms.ensures.room); to_room = omega (arith, rows, c.words16_258-tos.ensures.room) };
+      letters_filled = c.requires.letters_filled.0;
+      items_room = record { few = omega (arith, n.counters, n.few); from_room = omega (arith, rows, c.words16_258-froms.ensures.room); to_room = omega (arith, rows, c.words16_258-tos.ensures.room) };
     }
 
 pub light_check-requires : goal.light_check-requires
@@ -21,7 +21,7 @@ light_check-requires c =
     let x = c.start_counter-counter.ensures in
     let low = start_counted _ _ _ c.requires.startable.closed in
     record {
-        weighing = record {
+      weighing = record {
         whole = ceilings_of_ready _ _ c.requires.startable.ready;
         counters = c.requires.startable.counted.counters;
         counters_low = c.requires.startable.counted.few;
@@ -30,6 +30,6 @@ light_check-requires c =
         start = x;
         start_low = omega (arith, x, low, c.requires.startable.counted.counters);
       };
-        bads_in_form = c.requires.letters_filled.1;
-        n_in_bounds = c.requires.weights_table.1;
+      bads_in_form = c.requires.letters_filled.1;
+      n_in_bounds = c.requires.weights_table.1;
     }

@@ -12,9 +12,9 @@ start_check-requires c =
     let x = c.start_counter-counter.ensures in
     let low = start_counted _ _ _ c.requires.startable.closed in
     record {
-        whole = ceilings_of_ready _ _ c.requires.startable.ready;
-        n_le_max_counters = c.requires.startable.counted.few;
-        limits_table = c.requires.limits_table;
-        x0_value = x;
-        x0_lt_n = omega (arith, x, low, c.requires.startable.counted.counters);
+      whole = ceilings_of_ready _ _ c.requires.startable.ready;
+      n_le_max_counters = c.requires.startable.counted.few;
+      limits_table = c.requires.limits_table;
+      x0_value = x;
+      x0_lt_n = omega (arith, x, low, c.requires.startable.counted.counters);
     }

@@ -1,23 +1,15 @@
-use Prim.Native.Nat.{ℕ, ◌+◌, ◌*◌, ◌-◌, ◌≤◌, ◌<◌}
-use native.Mathlib.Omega.{arith}
-use mathlib.Core.Path.{◌≡◌, refl, sym, ◌∙◌, ap}
+use Prim.Native.Nat.{ℕ, ◌+◌, ◌*◌, ◌-◌, ◌≤◌}
+use mathlib.Core.Path.{◌≡◌}
 use mathlib.Core.Bool.{Bool}
 use lib.ListN.{length}
 use Rattle.model.specs.Index.{gather}
-use Rattle.model.specs.Limits.{max_branches}
-use Rattle.model.specs.Words.{columns}
 use Rattle.model.specs.Rows.{program, receive}
-use Rattle.model.specs.Tables.{tables, entries, state_at}
+use Rattle.model.specs.Tables.{tables, state_at}
 use Rattle.model.specs.Counters.{letter_count_of}
 use Rattle.rules.specs.Added.{Added}
 use Rattle.rules.specs.Within.{only_passing, AskedLetters}
-use Rattle.rules.proofs.Adding.{added_none, added_same, added_kept, added_more}
-use Rattle.rules.proofs.Within.{only_gather, skipped_rules}
-use Rattle.plain_rules.proofs.Heads.{tag_head, here_low}
-use Rattle.plain_rules.proofs.Branches.{BranchAt, branch_begin, branch_here, branch_next, one_run}
+use Rattle.plain_rules.proofs.Branches.{BranchAt}
 use Rattle.state_rules.specs.Heads.{receive_turn}
-use Rattle.state_rules.proofs.Branches.{branch_pattern, receive_count, receive_rows, receive_gathered, receive_same, receive_skipped, receive_room, receive_most, most_kept, receive_class}
-use borrow.Author.Rules.{rules}
 use Rattle.state_rules.proofs.receive_rules.Given as goal
 
 abbrev pub invariant-loop-b : goal.invariant-loop-b

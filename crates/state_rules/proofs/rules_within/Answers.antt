@@ -1,5 +1,4 @@
 use mathlib.Core.Path.{sym, ◌∙◌, ap}
-use borrow.Author.Rules.{rules}
 use Rattle.model.specs.Rows.{tag, kind, send, receive}
 use Rattle.state_rules.proofs.Rooms.{send_tables, receive_tables}
 use Rattle.state_rules.proofs.Within.{plain_within, lettered_within}
@@ -13,23 +12,23 @@ tag-requires c = c.requires.rule_tables.ready.whole
 
 pub send_rules-requires : goal.send_rules-requires
 send_rules-requires c = record {
-        send_tables = send_tables c.requires.rule_tables;
-        lettered_state = record {
+  send_tables = send_tables c.requires.rule_tables;
+  lettered_state = record {
     state = record { low = c.requires.i_lt_states; row = c.state_location-row.ensures; head = sym c.tag.ensures ∙ c.in-5.is };
     within_row = c.requires.row;
     room = c.requires.rule_room;
   };
-    }
+}
 
 pub receive_rules-requires : goal.receive_rules-requires
 receive_rules-requires c = record {
-        receive_tables = receive_tables c.requires.rule_tables;
-        lettered_state = record {
+  receive_tables = receive_tables c.requires.rule_tables;
+  lettered_state = record {
     state = record { low = c.requires.i_lt_states; row = c.state_location-row.ensures; head = sym c.tag.ensures ∙ c.in-9.is };
     within_row = c.requires.row;
     room = c.requires.rule_room;
   };
-    }
+}
 
 pub state_rules-requires : goal.state_rules-requires
 state_rules-requires c = record { rule_tables = c.requires.rule_tables; i_lt_states = c.requires.i_lt_states; rule_room = c.requires.rule_room }

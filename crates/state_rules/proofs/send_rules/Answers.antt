@@ -1,20 +1,14 @@
-use Prim.Native.Nat.{ℕ, ◌+◌, ◌-◌, ◌≤◌, ◌<◌}
+use Prim.Native.Nat.{◌-◌, ◌≤◌, ◌<◌}
 use native.Mathlib.Omega.{arith}
 use mathlib.Core.Path.{◌≡◌, refl, sym, ◌∙◌, ap}
-use mathlib.Core.Bool.{Bool}
-use lib.ListN.{length, get_or}
-use Rattle.model.specs.Index.{gather}
-use Rattle.model.specs.Words.{right}
-use Rattle.model.specs.Rows.{program, send}
+use Rattle.model.specs.Rows.{send}
 use Rattle.model.specs.Tables.{tables}
 use Rattle.lists.specs.Lists.{range_from, range_to}
-use Rattle.rules.specs.Added.{Added}
-use Rattle.rules.specs.Within.{only_passing, AskedLetters}
+use Rattle.rules.specs.Within.{only_passing}
 use Rattle.rules.proofs.Adding.{added_none, added_same, added_more}
 use Rattle.rules.proofs.Entries.{name_starts, flow_order}
 use Rattle.rules.proofs.Within.{only_gather}
 use Rattle.plain_rules.proofs.Heads.{tag_head, here_low, send_low}
-use Rattle.state_rules.specs.Heads.{send_turn}
 use Rattle.state_rules.proofs.Done.{state_open}
 use Rattle.state_rules.proofs.Sends.{sent_mailed, send_value, send_room, send_most, send_same, send_gathered}
 use borrow.Author.Rules.{rules}
@@ -24,11 +18,9 @@ use Rattle.state_rules.proofs.send_rules.Goals as goal
 low-row : (c : goal.After-slice_known-2-1) → c.args.r < c.args.s.rows
 low-row c = here_low c.requires.send_tables.sent_tables.letter_tables.ready c.args.r (tag_head _ 5 c.requires.lettered_state.state.head (omega arith) (omega arith))
 
-low-names : (c : goal.After-num-message) → (c.num-target.result < c.args.s.names) × (c.num-message.result < c.args.s.names)
-low-names c = send_low c.requires.send_tables.sent_tables.letter_tables.ready _ _ _ c.requires.lettered_state.state.head c.num-target.ensures c.num-message.ensures
-
 range : (c : goal.After-word-to) → (c.word-from.result ≡ range_from (tables c.args.ws.now c.args.s).flow c.num-target.result) × (c.word-to.result ≡ range_to (tables c.args.ws.now c.args.s).flow c.num-target.result)
-range c = name_starts c.requires.send_tables.sent_tables.letter_tables.ready _ _ _ _ c.requires.send_tables.sent_tables.flow_starts (low-names c.before.before.before).0 c.word-from.ensures.0 c.word-to.ensures.0
+range c =
+    let low-names-here : (c.num-target.result < c.args.s.names) × (c.num-message.result < c.args.s.names) = send_low c.requires.send_tables.sent_tables.letter_tables.ready _ _ _ c.requires.lettered_state.state.head c.num-target.ensures c.num-message.ensures in name_starts c.requires.send_tables.sent_tables.letter_tables.ready _ _ _ _ c.requires.send_tables.sent_tables.flow_starts low-names-here.0 c.word-from.ensures.0 c.word-to.ensures.0
 
 order : (c : goal.After-word-to) → (c.word-from.result ≤ c.word-to.result) × (c.word-to.result ≤ c.args.s.flows)
 order c = flow_order c.requires.send_tables.sent_tables.letter_tables.ready _ _ _ (range c).0 (range c).1
@@ -42,10 +34,10 @@ overflow_add-r-2 c =
 
 pub behind-next-requires : goal.behind-next-requires
 behind-next-requires c = record {
-        ready = c.requires.send_tables.sent_tables.letter_tables.ready;
-        ends = c.requires.send_tables.ends;
-        i_lt_states = (c.requires.lettered_state.state.low, tag_head _ 5 c.requires.lettered_state.state.head (omega arith) (omega arith));
-    }
+  ready = c.requires.send_tables.sent_tables.letter_tables.ready;
+  ends = c.requires.send_tables.ends;
+  i_lt_states = (c.requires.lettered_state.state.low, tag_head _ 5 c.requires.lettered_state.state.head (omega arith) (omega arith));
+}
 
 pub word-from-requires : goal.word-from-requires
 word-from-requires c =
@@ -66,19 +58,16 @@ pub sent_rules-n-requires : goal.sent_rules-n-requires
 sent_rules-n-requires c =
     let low-names-here : (c.num-target.result < c.args.s.names) × (c.num-message.result < c.args.s.names) = send_low c.requires.send_tables.sent_tables.letter_tables.ready _ _ _ c.requires.lettered_state.state.head c.num-target.ensures c.num-message.ensures in
     let range-here : (c.word-from.result ≡ range_from (tables c.args.ws.now c.args.s).flow c.num-target.result) × (c.word-to.result ≡ range_to (tables c.args.ws.now c.args.s).flow c.num-target.result) = name_starts c.requires.send_tables.sent_tables.letter_tables.ready _ _ _ _ c.requires.send_tables.sent_tables.flow_starts low-names-here.0 c.word-from.ensures.0 c.word-to.ensures.0 in
-    let low-names-here : (c.num-target.result < c.args.s.names) × (c.num-message.result < c.args.s.names) = send_low c.requires.send_tables.sent_tables.letter_tables.ready _ _ _ c.requires.lettered_state.state.head c.num-target.ensures c.num-message.ensures in
     let low_value-here : c.flow_value-d.result ≤ c.args.s.rows = send_value c.requires.send_tables.sent_tables.letter_tables.ready c.num-target.result _ _ _ _ range-here.0 range-here.1 c.loop-j.invariant.1 c.loop-j-test.true c.flow_value-d.ensures in
-    let range-here : (c.word-from.result ≡ range_from (tables c.args.ws.now c.args.s).flow c.num-target.result) × (c.word-to.result ≡ range_to (tables c.args.ws.now c.args.s).flow c.num-target.result) = name_starts c.requires.send_tables.sent_tables.letter_tables.ready _ _ _ _ c.requires.send_tables.sent_tables.flow_starts low-names-here.0 c.word-from.ensures.0 c.word-to.ensures.0 in
-    let low-names-here : (c.num-target.result < c.args.s.names) × (c.num-message.result < c.args.s.names) = send_low c.requires.send_tables.sent_tables.letter_tables.ready _ _ _ c.requires.lettered_state.state.head c.num-target.ensures c.num-message.ensures in
     record {
-        sent_tables = c.requires.send_tables.sent_tables;
-        class_room = send_room c.requires.send_tables.sent_tables.letter_tables.ready _ _ c.requires.send_tables.sent_tables.letter_tables _ _ _ _ _ _ _ c.requires.lettered_state.within_row (search rules) (search rules) c.requires.lettered_state.room c.loop-j.invariant.6 c.loop-j.invariant.7 _ c.loop-j.j _ c.flow_value-d.ensures low_value-here (c.loop-j.invariant.3 c.loop-j-test.true);
-        sent_to = λ z. record {
-      name = low-names-here.1;
-      mailed = sent_mailed c.requires.send_tables.sent_tables.letter_tables.ready c.args.i c.args.r _ _ _ _ _ c.requires.lettered_state.state.row (state_open c.requires.send_tables.sent_tables.letter_tables.ready c.args.i c.requires.send_tables.closed c.requires.lettered_state.state.low) c.requires.lettered_state.state.head
-          (range-here.0 ∙ ap (range_from (tables c.args.ws.now c.args.s).flow) c.num-target.ensures) (range-here.1 ∙ ap (range_to (tables c.args.ws.now c.args.s).flow) c.num-target.ensures)
-          c.loop-j.invariant.1 c.loop-j-test.true c.flow_value-d.ensures c.num-message.ensures z;
-    };
+      sent_tables = c.requires.send_tables.sent_tables;
+      class_room = send_room c.requires.send_tables.sent_tables.letter_tables.ready _ _ c.requires.send_tables.sent_tables.letter_tables _ _ _ _ _ _ _ c.requires.lettered_state.within_row (search rules) (search rules) c.requires.lettered_state.room c.loop-j.invariant.6 c.loop-j.invariant.7 _ c.loop-j.j _ c.flow_value-d.ensures low_value-here (c.loop-j.invariant.3 c.loop-j-test.true);
+      sent_to = λ z. record {
+        name = low-names-here.1;
+        mailed = sent_mailed c.requires.send_tables.sent_tables.letter_tables.ready c.args.i c.args.r _ _ _ _ _ c.requires.lettered_state.state.row (state_open c.requires.send_tables.sent_tables.letter_tables.ready c.args.i c.requires.send_tables.closed c.requires.lettered_state.state.low) c.requires.lettered_state.state.head
+            (range-here.0 ∙ ap (range_from (tables c.args.ws.now c.args.s).flow) c.num-target.ensures) (range-here.1 ∙ ap (range_to (tables c.args.ws.now c.args.s).flow) c.num-target.ensures)
+            c.loop-j.invariant.1 c.loop-j-test.true c.flow_value-d.ensures c.num-message.ensures z;
+      };
     }
 
 pub overflow_step-j : goal.overflow_step-j
@@ -94,15 +83,15 @@ pub loop-j-preserved : goal.loop-j-preserved
 loop-j-preserved c =
     let low-names-here : (c.num-target.result < c.args.s.names) × (c.num-message.result < c.args.s.names) = send_low c.requires.send_tables.sent_tables.letter_tables.ready _ _ _ c.requires.lettered_state.state.head c.num-target.ensures c.num-message.ensures in
     let range-here : (c.word-from.result ≡ range_from (tables c.args.ws.now c.args.s).flow c.num-target.result) × (c.word-to.result ≡ range_to (tables c.args.ws.now c.args.s).flow c.num-target.result) = name_starts c.requires.send_tables.sent_tables.letter_tables.ready _ _ _ _ c.requires.send_tables.sent_tables.flow_starts low-names-here.0 c.word-from.ensures.0 c.word-to.ensures.0 in (
-  λ f o. added_more send _ _ 0 _ _ _ _ _ _ (c.loop-j.invariant.0 f o) c.loop-j.invariant.1 _ _ _ (added_same send _ _ _ _ _ _ _ _ (c.sent_rules-n.ensures.by_index f o) (send_same _ _ f _ _ _ _ c.flow_value-d.ensures)),
-  omega (arith, c.loop-j.invariant.1),
-  omega (arith, c.loop-j-test.true),
-  (λ l. send_most c.requires.send_tables.sent_tables.letter_tables.ready _ _ c.requires.send_tables.sent_tables.letter_tables c.num-target.result c.loop-j.j _ _ _ _ _ range-here.0 range-here.1 c.loop-j.invariant.1 l c.flow_value-d.ensures (c.loop-j.invariant.3 c.loop-j-test.true) c.sent_rules-n.ensures.d_bound),
-  search rules,
-  search rules,
-  search rules,
-  search rules,
-)
+      λ f o. added_more send _ _ 0 _ _ _ _ _ _ (c.loop-j.invariant.0 f o) c.loop-j.invariant.1 _ _ _ (added_same send _ _ _ _ _ _ _ _ (c.sent_rules-n.ensures.by_index f o) (send_same _ _ f _ _ _ _ c.flow_value-d.ensures)),
+      omega (arith, c.loop-j.invariant.1),
+      omega (arith, c.loop-j-test.true),
+      (λ l. send_most c.requires.send_tables.sent_tables.letter_tables.ready _ _ c.requires.send_tables.sent_tables.letter_tables c.num-target.result c.loop-j.j _ _ _ _ _ range-here.0 range-here.1 c.loop-j.invariant.1 l c.flow_value-d.ensures (c.loop-j.invariant.3 c.loop-j-test.true) c.sent_rules-n.ensures.d_bound),
+      search rules,
+      search rules,
+      search rules,
+      search rules,
+    )
 
 pub returns : goal.returns
 returns c =

@@ -1,23 +1,14 @@
-use Prim.Native.Nat.{ℕ, ◌+◌, ◌-◌, ◌≤◌, ◌<◌}
-use native.Mathlib.Omega.{arith}
-use mathlib.Core.Path.{◌≡◌, refl, sym, ◌∙◌, ap}
+use Prim.Native.Nat.{ℕ, ◌-◌, ◌≤◌, ◌<◌}
+use mathlib.Core.Path.{◌≡◌}
 use mathlib.Core.Bool.{Bool}
 use lib.ListN.{length, get_or}
 use Rattle.model.specs.Index.{gather}
 use Rattle.model.specs.Words.{right}
 use Rattle.model.specs.Rows.{program, send}
 use Rattle.model.specs.Tables.{tables}
-use Rattle.lists.specs.Lists.{range_from, range_to}
 use Rattle.rules.specs.Added.{Added}
 use Rattle.rules.specs.Within.{only_passing, AskedLetters}
-use Rattle.rules.proofs.Adding.{added_none, added_same, added_more}
-use Rattle.rules.proofs.Entries.{name_starts, flow_order}
-use Rattle.rules.proofs.Within.{only_gather}
-use Rattle.plain_rules.proofs.Heads.{tag_head, here_low, send_low}
 use Rattle.state_rules.specs.Heads.{send_turn}
-use Rattle.state_rules.proofs.Done.{state_open}
-use Rattle.state_rules.proofs.Sends.{sent_mailed, send_value, send_room, send_most, send_same, send_gathered}
-use borrow.Author.Rules.{rules}
 use Rattle.state_rules.proofs.send_rules.Given as goal
 
 abbrev pub invariant-loop-j : goal.invariant-loop-j

@@ -1,6 +1,5 @@
 use mathlib.Core.Path.{refl, ◌∙◌}
 use Rattle.steps.specs.Steps.{limit_after_step}
-use borrow.Author.Rules.{rules}
 use Rattle.steps.proofs.limit_after.Goals as goal
 
 pub returns : goal.returns

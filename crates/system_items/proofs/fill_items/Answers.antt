@@ -1,8 +1,8 @@
-use Prim.Native.Nat.{◌-◌, ◌≤◌}
+use Prim.Native.Nat.{◌-◌}
 use native.Mathlib.Omega.{arith}
-use mathlib.Core.Path.{◌≡◌, refl, ◌∙◌}
-use lib.ListN.{length, length-set}
-use Rattle.system_items.proofs.Table.{own_low, Filled, none_filled, more_filled, all_filled}
+use mathlib.Core.Path.{refl, ◌∙◌}
+use lib.ListN.{length-set}
+use Rattle.system_items.proofs.Table.{own_low, none_filled, more_filled, all_filled}
 use borrow.Author.Rules.{rules}
 use Rattle.system_items.proofs.fill_items.Goals as goal
 

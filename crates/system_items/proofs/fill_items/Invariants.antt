@@ -1,10 +1,8 @@
 -- The loop's invariant: the rows before r are filled in.
 use Prim.Native.Nat.{◌-◌, ◌≤◌}
-use native.Mathlib.Omega.{arith}
-use mathlib.Core.Path.{◌≡◌, refl, ◌∙◌}
-use lib.ListN.{length, length-set}
-use Rattle.system_items.proofs.Table.{own_low, Filled, none_filled, more_filled, all_filled}
-use borrow.Author.Rules.{rules}
+use mathlib.Core.Path.{◌≡◌}
+use lib.ListN.{length}
+use Rattle.system_items.proofs.Table.{Filled}
 use Rattle.system_items.proofs.fill_items.Given as goal
 
 abbrev pub invariant-loop-r : goal.invariant-loop-r

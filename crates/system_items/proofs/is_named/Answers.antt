@@ -1,11 +1,11 @@
 use mathlib.Core.Bool.{not}
 use mathlib.Core.Path.{ap}
-use Prim.Native.Nat.{◌-◌, ◌≤◌}
+use Prim.Native.Nat.{◌-◌}
 use native.Mathlib.Omega.{arith}
 use Rattle.model.specs.Rows.{program}
 use Rattle.model.specs.Tables.{tables}
 use Rattle.model.specs.Bads.{bad_rows}
-use Rattle.system_items.proofs.Letters.{Left, digits_start, digit_wrong, digit_right, digits_over}
+use Rattle.system_items.proofs.Letters.{digits_start, digit_wrong, digit_right, digits_over}
 use borrow.Author.Rules.{rules}
 use Rattle.system_items.proofs.is_named.Goals as goal
 

@@ -1,11 +1,9 @@
 -- The loop's invariant: letter y is named exactly where its digits from row r on are those of the rows.
 use Prim.Native.Nat.{◌-◌, ◌≤◌}
-use native.Mathlib.Omega.{arith}
 use Rattle.model.specs.Rows.{program}
 use Rattle.model.specs.Tables.{tables}
 use Rattle.model.specs.Bads.{bad_rows}
-use Rattle.system_items.proofs.Letters.{Left, digits_start, digit_wrong, digit_right, digits_over}
-use borrow.Author.Rules.{rules}
+use Rattle.system_items.proofs.Letters.{Left}
 use Rattle.system_items.proofs.is_named.Given as goal
 
 abbrev pub invariant-loop-r : goal.invariant-loop-r

@@ -1,6 +1,5 @@
 use mathlib.Core.Path.{◌∙◌}
 use Rattle.system_items.proofs.Ranges.{item_head}
-use borrow.Author.Rules.{rules}
 use Rattle.system_items.proofs.item_counters.Goals as goal
 
 pub returns-then-bad_tag-eq-TAG_HEAD : goal.returns-then-bad_tag-eq-TAG_HEAD

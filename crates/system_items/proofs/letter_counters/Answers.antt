@@ -2,12 +2,10 @@ use Prim.Native.Nat.{◌+◌}
 use native.Mathlib.Omega.{arith}
 use mathlib.Core.Path.{◌≡◌, sym, ◌∙◌}
 use mathlib.Core.Bool.{true}
-use borrow.Author.Tests.{not-true, not-false}
 use Rattle.model.specs.Rows.{program}
 use Rattle.model.specs.Bads.{bad_rows}
 use Rattle.system_items.specs.Stretches.{names_letters_of}
 use Rattle.system_items.proofs.Ranges.{class_missed, none_named, letters_range}
-use borrow.Author.Rules.{rules}
 use Rattle.system_items.proofs.letter_counters.Goals as goal
 
 pub returns-then-class-s : goal.returns-then-class-s

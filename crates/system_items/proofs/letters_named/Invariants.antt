@@ -1,19 +1,9 @@
 -- The loop's invariant: of the letters of the class before y, those from `first` below `end` are named.
-use Prim.Native.Nat.{◌+◌, ◌-◌, ◌≤◌, ◌<◌}
-use native.Mathlib.Omega.{arith}
-use mathlib.Core.Path.{◌≡◌, sym, ◌∙◌}
-use mathlib.Core.Logic.{⊎_elim}
-use lib.ListN.{length}
+use Prim.Native.Nat.{◌-◌, ◌≤◌}
 use Rattle.model.specs.Rows.{program}
 use Rattle.model.specs.Tables.{tables}
 use Rattle.model.specs.Bads.{bad_rows}
-use Rattle.model.specs.Counters.{letter_count_of}
-use Rattle.system_letters.specs.Letters.{letters_before}
-use Rattle.system_letters.proofs.Tables.{last_inside}
 use Rattle.system_items.specs.Stretches.{is_named_of, Stretched}
-use Rattle.system_items.proofs.Letters.{class_span, rows_few, named_span}
-use Rattle.system_items.proofs.Stretching.{none_yet, passes_not, passes_first, passes_more}
-use borrow.Author.Rules.{rules}
 use Rattle.system_items.proofs.letters_named.Given as goal
 
 abbrev pub invariant-loop-y : goal.invariant-loop-y

@@ -3,7 +3,6 @@ use mathlib.Core.Path.{◌∙◌, ap}
 use Rattle.model.specs.Rows.{program}
 use Rattle.model.specs.Bads.{letter_arity_of}
 use Rattle.system_items.proofs.Letters.{heads_few, alone_told, heads_told}
-use borrow.Author.Rules.{rules}
 use Rattle.system_items.proofs.names_letters.Goals as goal
 
 pub overflow_add-result-else-to-from : goal.overflow_add-result-else-to-from

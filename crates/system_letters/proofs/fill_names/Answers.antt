@@ -1,9 +1,8 @@
-use Prim.Native.Nat.{◌-◌, ◌≤◌}
+use Prim.Native.Nat.{◌-◌}
 use native.Mathlib.Omega.{arith}
-use mathlib.Core.Path.{◌≡◌, refl, ◌∙◌}
-use lib.ListN.{length}
+use mathlib.Core.Path.{refl, ◌∙◌}
 use borrow.Author.Rules.{rules}
-use Rattle.system_letters.proofs.Tables.{Headed, headed_none, headed_next, headed_all, flow_name, head_small, name_room}
+use Rattle.system_letters.proofs.Tables.{headed_none, headed_next, headed_all, flow_name, head_small, name_room}
 use Rattle.lists.proofs.Facts.{flow_usable}
 use Rattle.lists.proofs.Told.{flow_told}
 use Rattle.system_letters.proofs.fill_names.Goals as goal

@@ -1,11 +1,7 @@
 use Prim.Native.Nat.{◌-◌, ◌≤◌}
-use native.Mathlib.Omega.{arith}
-use mathlib.Core.Path.{◌≡◌, refl, ◌∙◌}
+use mathlib.Core.Path.{◌≡◌}
 use lib.ListN.{length}
-use borrow.Author.Rules.{rules}
-use Rattle.system_letters.proofs.Tables.{Headed, headed_none, headed_next, headed_all, flow_name, head_small, name_room}
-use Rattle.lists.proofs.Facts.{flow_usable}
-use Rattle.lists.proofs.Told.{flow_told}
+use Rattle.system_letters.proofs.Tables.{Headed}
 use Rattle.system_letters.proofs.fill_names.Given as goal
 
 abbrev pub invariant-loop-i : goal.invariant-loop-i

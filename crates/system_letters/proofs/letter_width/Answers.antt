@@ -1,5 +1,3 @@
-use borrow.Author.Rules.{rules}
-use borrow.Author.Rules.{rules}
 use Rattle.system_letters.proofs.Tables.{width_told}
 use Rattle.system_letters.proofs.letter_width.Goals as goal
 

@@ -1,7 +1,6 @@
 use native.Mathlib.Omega.{arith}
 use mathlib.Core.Path.{refl}
 use lib.ListN.{length-set}
-use borrow.Author.Rules.{rules}
 use Rattle.system_listing.specs.Putting.{put_line}
 use Rattle.system_listing.proofs.put.Goals as goal
 

@@ -5,18 +5,18 @@ use Rattle.system_listing.proofs.put_rule.Goals as goal
 
 pub put-requires : goal.put-requires
 put-requires c = record {
-        x_lt_n = (omega (arith, (two_room _ _ _ _ _ _ _ c.requires.room).0), (two_room _ _ _ _ _ _ _ c.requires.room).1);
-        number_bound = c.requires.from_bound.0;
-    }
+  x_lt_n = (omega (arith, (two_room _ _ _ _ _ _ _ c.requires.room).0), (two_room _ _ _ _ _ _ _ c.requires.room).1);
+  number_bound = c.requires.from_bound.0;
+}
 
 pub overflow_add-second : goal.overflow_add-second
 overflow_add-second c = let r = two_room _ _ _ _ _ _ _ c.requires.room in search rules
 
 pub put-requires-2 : goal.put-requires-2
 put-requires-2 c = record {
-        x_lt_n = (omega (arith, (two_room _ _ _ _ _ _ _ c.requires.room).0), omega (arith, (two_room _ _ _ _ _ _ _ c.requires.room).1, c.put.auto.0));
-        number_bound = c.requires.from_bound.1;
-    }
+  x_lt_n = (omega (arith, (two_room _ _ _ _ _ _ _ c.requires.room).0), omega (arith, (two_room _ _ _ _ _ _ _ c.requires.room).1, c.put.auto.out));
+  number_bound = c.requires.from_bound.1;
+}
 
 pub overflow_add-behind : goal.overflow_add-behind
 overflow_add-behind c = let r = two_room _ _ _ _ _ _ _ c.requires.room in search rules
@@ -26,9 +26,9 @@ returns-then-third-eq0 c = two_put _ _ _ _ _ _ _ _ _ c.if-third-eq0.true c.put.e
 
 pub put-requires-3 : goal.put-requires-3
 put-requires-3 c = record {
-        x_lt_n = (omega (arith, three_room _ _ _ _ _ _ _ c.requires.room c.if-third-eq0.false), omega (arith, (two_room _ _ _ _ _ _ _ c.requires.room).1, c.put.auto.0, c.put-2.auto.0));
-        number_bound = c.requires.from_bound.2;
-    }
+  x_lt_n = (omega (arith, three_room _ _ _ _ _ _ _ c.requires.room c.if-third-eq0.false), omega (arith, (two_room _ _ _ _ _ _ _ c.requires.room).1, c.put.auto.out, c.put-2.auto.out));
+  number_bound = c.requires.from_bound.2;
+}
 
 pub overflow_add-result : goal.overflow_add-result
 overflow_add-result c = let r = two_room _ _ _ _ _ _ _ c.requires.room in search rules

@@ -1,13 +1,10 @@
 use Prim.Native.Nat.{◌-◌, ◌≤◌}
-use native.Mathlib.Omega.{arith}
 use mathlib.Core.List.{[], ◌∷◌}
-use borrow.Author.Rules.{rules}
 use Rattle.model.specs.Index.{gather}
 use Rattle.model.specs.Rows.{kind}
-use Rattle.rules.specs.Listed.{listed_rule, listed_rules}
+use Rattle.rules.specs.Listed.{listed_rule}
 use Rattle.system_totals.specs.Lines.{lines}
 use Rattle.system_listing.specs.Putting.{Put}
-use Rattle.system_listing.proofs.Putting.{put_begin, put_kept, put_more, put_room, put_ends, rule_room, rule_put}
 use Rattle.system_listing.proofs.put_rules.Given as goal
 
 abbrev pub invariant-loop-k : goal.invariant-loop-k

@@ -1,15 +1,9 @@
-use Prim.Native.Nat.{◌-◌, ◌≤◌}
+use Prim.Native.Nat.{◌-◌}
 use native.Mathlib.Omega.{arith}
-use borrow.Author.Rules.{rules}
-use Rattle.model.specs.Index.{gather}
-use Rattle.model.specs.Rows.{program}
 use Rattle.model.specs.Words.{columns}
 use Rattle.model.specs.Tables.{tables, entries}
 use Rattle.model.specs.Rules.{rules}
-use Rattle.system_totals.specs.Lines.{lines}
-use Rattle.system_totals.proofs.Lined.{of_state}
-use Rattle.system_totals.proofs.Walk.{Walk, walk_begin, walk_next, walk_room}
-use Rattle.system_listing.specs.Putting.{Put}
+use Rattle.system_totals.proofs.Walk.{walk_begin, walk_next, walk_room}
 use Rattle.system_listing.proofs.Putting.{put_begin, put_kept, put_more, put_room, put_ends, state_room, state_put}
 use Rattle.system_listing.proofs.write_rules.Goals as goal
 
@@ -28,16 +22,16 @@ state_head-head-requires c = c.requires.joined_tables.ready
 pub put_rules-e-requires : goal.put_rules-e-requires
 unfolding rules tables entries columns
 put_rules-e-requires c = record {
-        m_in_bounds = (c.rules_of-m.ensures.tos_room, c.rules_of-m.ensures.others_room);
-        i_bound = omega (arith, c.loop-i-test.true, c.requires.joined_tables.ready.limits.states);
-        room = state_room _ _ _ _ _ _ _ c.rules_of-m.ensures c.state_head-head.ensures _ _ _ (put_room _ _ _ _ _ _ 0 c.loop-i.i c.loop-i.invariant.0 (omega arith) _ c.loop-i-test.true c.requires.room);
-    }
+  m_in_bounds = (c.rules_of-m.ensures.tos_room, c.rules_of-m.ensures.others_room);
+  i_bound = omega (arith, c.loop-i-test.true, c.requires.joined_tables.ready.limits.states);
+  room = state_room _ _ _ _ _ _ _ c.rules_of-m.ensures c.state_head-head.ensures _ _ _ (put_room _ _ _ _ _ _ 0 c.loop-i.i c.loop-i.invariant.0 (omega arith) _ c.loop-i-test.true c.requires.room);
+}
 
 pub overflow_add-i : goal.overflow_add-i
 overflow_add-i c = record { fits = omega (arith, c.loop-i-test.true, c.requires.joined_tables.ready.limits.states) }
 
 pub loop-i-preserved : goal.loop-i-preserved
-loop-i-preserved c = (put_more _ _ _ _ _ _ 0 c.loop-i.i c.loop-i.invariant.0 (omega arith) _ _ (state_put _ _ _ _ _ _ _ c.rules_of-m.ensures c.state_head-head.ensures _ _ _ _ _ c.put_rules-e.ensures), walk_next _ _ _ _ _ _ c.loop-i.invariant.1 _ _ _ c.guess_class.auto.1.1.0 c.rules_of-m.auto.1.1.1.1.1.1.1.1.0 c.rules_of-m.auto.1.1.1.1.1.1.1.1.1.0, omega (arith, c.loop-i-test.true))
+loop-i-preserved c = (put_more _ _ _ _ _ _ 0 c.loop-i.i c.loop-i.invariant.0 (omega arith) _ _ (state_put _ _ _ _ _ _ _ c.rules_of-m.ensures c.state_head-head.ensures _ _ _ _ _ c.put_rules-e.ensures), walk_next _ _ _ _ _ _ c.loop-i.invariant.1 _ _ _ c.guess_class.auto.at c.rules_of-m.auto.tos c.rules_of-m.auto.others, omega (arith, c.loop-i-test.true))
 
 pub shape_of-out : goal.shape_of-out
 shape_of-out c = put_kept _ _ _ _ _ _ c.loop-i.invariant.0

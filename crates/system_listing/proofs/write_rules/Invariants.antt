@@ -1,16 +1,11 @@
 use Prim.Native.Nat.{◌-◌, ◌≤◌}
-use native.Mathlib.Omega.{arith}
-use borrow.Author.Rules.{rules}
 use Rattle.model.specs.Index.{gather}
 use Rattle.model.specs.Rows.{program}
-use Rattle.model.specs.Words.{columns}
-use Rattle.model.specs.Tables.{tables, entries}
-use Rattle.model.specs.Rules.{rules}
+use Rattle.model.specs.Tables.{tables}
 use Rattle.system_totals.specs.Lines.{lines}
 use Rattle.system_totals.proofs.Lined.{of_state}
-use Rattle.system_totals.proofs.Walk.{Walk, walk_begin, walk_next, walk_room}
+use Rattle.system_totals.proofs.Walk.{Walk}
 use Rattle.system_listing.specs.Putting.{Put}
-use Rattle.system_listing.proofs.Putting.{put_begin, put_kept, put_more, put_room, put_ends, state_room, state_put}
 use Rattle.system_listing.proofs.write_rules.Given as goal
 
 abbrev pub invariant-loop-i : goal.invariant-loop-i

@@ -1,6 +1,5 @@
 use native.Mathlib.Omega.{arith}
 use lib.ListN.{length-set}
-use borrow.Author.Rules.{rules}
 use Rattle.system_listing.proofs.write_sizes.Goals as goal
 
 pub bounds-out-1 : goal.bounds-out-1

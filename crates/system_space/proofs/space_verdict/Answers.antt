@@ -1,7 +1,6 @@
 use native.Mathlib.Omega.{arith}
 use Rattle.system_totals.proofs.Lined.{words_told}
 use Rattle.system_space.proofs.Spacing.{too_long, fits}
-use borrow.Author.Rules.{rules}
 use Rattle.system_space.proofs.space_verdict.Goals as goal
 
 pub overflow_mul-needed : goal.overflow_mul-needed
@@ -18,11 +17,11 @@ pub write_listing-requires : goal.write_listing-requires
 write_listing-requires c =
     let n = c.requires.totalled in
     record {
-        joined_tables = c.requires.joined_tables;
-        rule_room = c.requires.rule_room;
-        n_value = n.told;
-        rules_bound = (omega (arith, n.few_rules), omega (arith, n.few_rows));
-        s_in_bounds = omega (arith, words_told _ _ _ n.told);
+      joined_tables = c.requires.joined_tables;
+      rule_room = c.requires.rule_room;
+      n_value = n.told;
+      rules_bound = (omega (arith, n.few_rules), omega (arith, n.few_rows));
+      s_in_bounds = omega (arith, words_told _ _ _ n.told);
     }
 
 pub returns : goal.returns

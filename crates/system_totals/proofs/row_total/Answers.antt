@@ -1,5 +1,3 @@
-use borrow.Author.Rules.{rules}
-use Rattle.system_totals.specs.Lines.{third_tag_of}
 use Rattle.system_totals.proofs.Lined.{two_rows, three_rows}
 use Rattle.system_totals.proofs.row_total.Goals as goal
 

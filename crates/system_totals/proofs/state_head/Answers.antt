@@ -1,5 +1,4 @@
 use mathlib.Core.Path.{◌∙◌, ap}
-use borrow.Author.Rules.{rules}
 use Rattle.model.specs.Rows.{program, tag}
 use Rattle.system_totals.proofs.state_head.Goals as goal
 

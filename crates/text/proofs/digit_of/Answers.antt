@@ -1,4 +1,3 @@
-use borrow.Author.Rules.{rules}
 use Rattle.text.proofs.Digits.{digit_low, digit_high}
 use Rattle.text.proofs.digit_of.Goals as goal
 

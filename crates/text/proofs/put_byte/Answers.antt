@@ -1,4 +1,3 @@
-use borrow.Author.Rules.{rules}
 use mathlib.Core.Path.{refl}
 use Rattle.text.proofs.Putting.{put_one}
 use Rattle.text.proofs.put_byte.Goals as goal

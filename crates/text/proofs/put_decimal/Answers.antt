@@ -1,15 +1,13 @@
 use borrow.Author.Rules.{rules}
-use native.Mathlib.Omega.{arith}
-use Rattle.text.specs.Text.{decimal}
-use Rattle.text.proofs.Digits.{width_most, length_decimal, decimal_put}
+use Rattle.text.proofs.Digits.{width_most, decimal_put}
 use Rattle.text.proofs.put_decimal.Goals as goal
 
 pub put_digits-requires : goal.put_digits-requires
 put_digits-requires c =
     let n = c.args.n in
     record {
-        lt_base = (search rules, search rules);
-        k_in_bounds = let w = c.width_of.ensures in let z = width_most n in search rules;
+      lt_base = (search rules, search rules);
+      k_in_bounds = let w = c.width_of.ensures in let z = width_most n in search rules;
     }
 
 pub returns : goal.returns

@@ -1,9 +1,8 @@
-use Prim.Native.Nat.{◌≤◌}
-use mathlib.Core.Path.{◌≡◌, ◌∙◌}
-use lib.ListN.{length, length-set}
+use mathlib.Core.Path.{◌∙◌}
+use lib.ListN.{length-set}
 use borrow.Author.Rules.{rules}
 use Rattle.text.proofs.Digits.{below_base}
-use Rattle.text.proofs.Digits.{Spelled, spelled_none, spelled_more, spelled_all}
+use Rattle.text.proofs.Digits.{spelled_none, spelled_more, spelled_all}
 use Rattle.text.proofs.put_digits.Goals as goal
 
 pub loop-i-init : goal.loop-i-init

@@ -1,4 +1,3 @@
-use borrow.Author.Rules.{rules}
 use Rattle.text.specs.Text.{line_end}
 use Rattle.text.proofs.put_end.Goals as goal
 

@@ -1,6 +1,6 @@
-use Prim.Native.Nat.{◌-◌, ◌≤◌}
+use Prim.Native.Nat.{◌-◌}
 use borrow.Author.Rules.{rules}
-use Rattle.text.proofs.Digits.{Widened, widened_none, widened_more, widened_small, widened_all}
+use Rattle.text.proofs.Digits.{widened_none, widened_more, widened_small, widened_all}
 use Rattle.text.proofs.width_of.Goals as goal
 
 pub loop-k-init : goal.loop-k-init

@@ -1,6 +1,5 @@
 use Prim.Native.Nat.{◌-◌, ◌≤◌}
-use borrow.Author.Rules.{rules}
-use Rattle.text.proofs.Digits.{Widened, widened_none, widened_more, widened_small, widened_all}
+use Rattle.text.proofs.Digits.{Widened}
 use Rattle.text.proofs.width_of.Given as goal
 
 abbrev pub invariant-loop-k : goal.invariant-loop-k

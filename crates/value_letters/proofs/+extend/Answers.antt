@@ -1,16 +1,9 @@
-use Prim.Native.Nat.{ℕ, ◌-◌, ◌≤◌, ◌<◌}
+use Prim.Native.Nat.{ℕ, ◌-◌, ◌<◌}
 use native.Mathlib.Omega.{arith}
-use mathlib.Core.Path.{◌≡◌}
-use mathlib.Core.Bool.{true}
-use borrow.Author.Rules.{rules}
-use Rattle.bits.specs.Bits.{member}
 use Rattle.model.specs.Limits.{max_arity}
-use Rattle.model.specs.Rows.{program}
-use Rattle.model.specs.Tables.{tables}
-use Rattle.ascending.specs.Numbers.{Added}
 use Rattle.ascending.proofs.Numbers.{added_room}
 use Rattle.value_letters.proofs.Values.{argument_row, next_range, next_here, next_none}
-use Rattle.value_letters.proofs.Extending.{Turned, within_arity, longer_fits, longer_low, longer_none}
+use Rattle.value_letters.proofs.Extending.{within_arity, longer_fits, longer_low, longer_none}
 use Rattle.value_letters.proofs.Extending.{extended_stop, extended_put, extended_on, turned_begin, turned_hit, turned_gap, turned_all}
 use Rattle.value_letters.proofs.+extend.Goals as goal
 
@@ -21,8 +14,8 @@ pub insert-requires : goal.insert-requires
 insert-requires t c =
     let r = c.requires.prefixed.room in
     record {
-        from_le_n = (r.begun, omega (arith, c.if-n-most.false, r.limit), omega (arith, c.if-n-most.false, r.long));
-        rising = r.rising;
+      from_le_n = (r.begun, omega (arith, c.if-n-most.false, r.limit), omega (arith, c.if-n-most.false, r.long));
+      rising = r.rising;
     }
 
 pub returns-then-i-eq-MAX_ARITY : goal.returns-then-i-eq-MAX_ARITY
@@ -51,9 +44,9 @@ overflow_add-v-2 t c = record { fits = omega (arith, c.requires.prefixed.value.l
 
 pub next_of_two-h-requires : goal.next_of_two-h-requires
 next_of_two-h-requires t c = record {
-        row = argument_row c.requires.heads_known c.requires.prefixed.value.arguments _ _ c.num-name.ensures c.if-i-arity.false;
-        from_le_end = (omega arith, omega (arith, c.requires.heads_known.ready.limits.constructors));
-    }
+  row = argument_row c.requires.heads_known c.requires.prefixed.value.arguments _ _ c.num-name.ensures c.if-i-arity.false;
+  from_le_end = (omega arith, omega (arith, c.requires.heads_known.ready.limits.constructors));
+}
 
 pub loop-h-init : goal.loop-h-init
 loop-h-init t c = (
@@ -78,9 +71,9 @@ overflow_add-h t c = record { fits = omega (arith, c.requires.heads_known.ready.
 
 pub next_of_two-h-requires-in-loop-h : goal.next_of_two-h-requires-in-loop-h
 next_of_two-h-requires-in-loop-h t c = record {
-        row = argument_row c.requires.heads_known c.requires.prefixed.value.arguments _ _ c.num-name.ensures c.if-i-arity.false;
-        from_le_end = (omega arith, omega (arith, c.requires.heads_known.ready.limits.constructors));
-    }
+  row = argument_row c.requires.heads_known c.requires.prefixed.value.arguments _ _ c.num-name.ensures c.if-i-arity.false;
+  from_le_end = (omega arith, omega (arith, c.requires.heads_known.ready.limits.constructors));
+}
 
 pub loop-h-smaller : goal.loop-h-smaller
 loop-h-smaller t c = omega (arith, (next_range _ _ _ _ _ c.next_of_two-h-in-loop-h.ensures (omega arith)).0)

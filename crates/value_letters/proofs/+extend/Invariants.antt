@@ -1,17 +1,11 @@
-use Prim.Native.Nat.{ℕ, ◌-◌, ◌≤◌, ◌<◌}
-use native.Mathlib.Omega.{arith}
+use Prim.Native.Nat.{◌-◌, ◌≤◌, ◌<◌}
 use mathlib.Core.Path.{◌≡◌}
 use mathlib.Core.Bool.{true}
-use borrow.Author.Rules.{rules}
 use Rattle.bits.specs.Bits.{member}
-use Rattle.model.specs.Limits.{max_arity}
 use Rattle.model.specs.Rows.{program}
 use Rattle.model.specs.Tables.{tables}
 use Rattle.ascending.specs.Numbers.{Added}
-use Rattle.ascending.proofs.Numbers.{added_room}
-use Rattle.value_letters.proofs.Values.{argument_row, next_range, next_here, next_none}
-use Rattle.value_letters.proofs.Extending.{Turned, within_arity, longer_fits, longer_low, longer_none}
-use Rattle.value_letters.proofs.Extending.{extended_stop, extended_put, extended_on, turned_begin, turned_hit, turned_gap, turned_all}
+use Rattle.value_letters.proofs.Extending.{Turned}
 use Rattle.value_letters.proofs.+extend.Given as goal
 
 abbrev pub decreases-extend : goal.decreases-extend

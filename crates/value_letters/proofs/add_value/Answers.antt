@@ -1,4 +1,3 @@
-use borrow.Author.Rules.{rules}
 use native.Mathlib.Omega.{arith}
 use Rattle.model.specs.Rows.{program}
 use Rattle.value_letters.specs.Letters.{ValueOf}
@@ -27,8 +26,8 @@ pub extend-requires : goal.extend-requires
 extend-requires c =
     let value-here : ValueOf (program c.args.ws.now c.args.s) c.args.v c.value_arity-arity.result = record { low = c.requires.v_bound.0; arguments = value_arguments c.requires.heads_known.ready _ _ c.value_arity-arity.ensures } in
     record {
-        heads_known = c.requires.heads_known;
-        prefixed = record { value = value-here; digit = omega arith; short = head_digit c.requires.heads_known.ready _ _ c.row_head-head.ensures; room = c.requires.v_bound.1 };
+      heads_known = c.requires.heads_known;
+      prefixed = record { value = value-here; digit = omega arith; short = head_digit c.requires.heads_known.ready _ _ c.row_head-head.ensures; room = c.requires.v_bound.1 };
     }
 
 pub returns : goal.returns

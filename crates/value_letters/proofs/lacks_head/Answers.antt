@@ -1,11 +1,9 @@
 use borrow.Author.Rules.{rules}
-use Prim.Native.Nat.{ℕ, ◌-◌, ◌≤◌, ◌<◌}
-use borrow.Author.Tests.{not-true, not-false}
+use Prim.Native.Nat.{◌-◌}
 use native.Mathlib.Omega.{arith}
 use mathlib.Core.Path.{refl}
-use Rattle.model.specs.Rows.{program}
 use Rattle.model.proofs.Logic.{true_false}
-use Rattle.value_letters.proofs.Values.{argument_row, lacking, Headed, headed_next, headed_all}
+use Rattle.value_letters.proofs.Values.{argument_row, lacking, headed_next, headed_all}
 use Rattle.value_letters.proofs.lacks_head.Goals as goal
 
 pub loop-i-init : goal.loop-i-init
@@ -19,15 +17,15 @@ meets-requires c = let r = argument_row c.requires.heads_known c.requires.value_
 
 pub returns-then-not-meets : goal.returns-then-not-meets
 returns-then-not-meets c = record {
-        lacking = λ z. lacking _ _ _ _ _ _ c.num-argument.ensures (omega arith) c.meets.ensures c.if-not-meets.true;
-        not_lacking = λ z. true_false refl z;
-    }
+  lacking = λ z. lacking _ _ _ _ _ _ c.num-argument.ensures (omega arith) c.meets.ensures c.if-not-meets.true;
+  not_lacking = λ z. true_false refl z;
+}
 
 pub loop-i-preserved : goal.loop-i-preserved
 loop-i-preserved c = (search rules, headed_next _ _ _ _ _ c.num-argument.ensures c.meets.ensures c.if-not-meets.false c.loop-i.invariant.1)
 
 pub returns : goal.returns
 returns c = record {
-        lacking = λ z. true_false z refl;
-        not_lacking = λ z. headed_all _ _ _ _ _ (omega arith) c.loop-i.invariant.1;
-    }
+  lacking = λ z. true_false z refl;
+  not_lacking = λ z. headed_all _ _ _ _ _ (omega arith) c.loop-i.invariant.1;
+}

@@ -1,11 +1,6 @@
-use borrow.Author.Rules.{rules}
 use Prim.Native.Nat.{ℕ, ◌-◌, ◌≤◌, ◌<◌}
-use borrow.Author.Tests.{not-true, not-false}
-use native.Mathlib.Omega.{arith}
-use mathlib.Core.Path.{refl}
 use Rattle.model.specs.Rows.{program}
-use Rattle.model.proofs.Logic.{true_false}
-use Rattle.value_letters.proofs.Values.{argument_row, lacking, Headed, headed_next, headed_all}
+use Rattle.value_letters.proofs.Values.{Headed}
 use Rattle.value_letters.proofs.lacks_head.Given as goal
 
 abbrev pub invariant-loop-i : goal.invariant-loop-i

@@ -1,4 +1,3 @@
-use borrow.Author.Rules.{rules}
 use Rattle.value_letters.proofs.Values.{arity_built, arity_plain}
 use Rattle.value_letters.proofs.value_arity.Goals as goal
 

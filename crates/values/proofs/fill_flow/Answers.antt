@@ -1,10 +1,8 @@
-use Prim.Native.Nat.{◌-◌, ◌≤◌}
-use mathlib.Core.Path.{◌≡◌, refl, ◌∙◌}
-use lib.ListN.{length}
+use Prim.Native.Nat.{◌-◌}
+use mathlib.Core.Path.{refl, ◌∙◌}
 use borrow.Author.Rules.{rules}
-use Rattle.lists.specs.Lists.{listed}
 use Rattle.lists.proofs.Facts.{flow_usable}
-use Rattle.values.proofs.Gathered.{Gathered, gathered_start, gathered_next, room_row, flow_entry, flow_over}
+use Rattle.values.proofs.Gathered.{gathered_start, gathered_next, room_row, flow_entry, flow_over}
 use Rattle.values.proofs.fill_flow.Goals as goal
 
 pub loop-i-init : goal.loop-i-init

@@ -1,10 +1,8 @@
 use Prim.Native.Nat.{◌-◌, ◌≤◌}
-use mathlib.Core.Path.{◌≡◌, refl, ◌∙◌}
+use mathlib.Core.Path.{◌≡◌}
 use lib.ListN.{length}
-use borrow.Author.Rules.{rules}
 use Rattle.lists.specs.Lists.{listed}
-use Rattle.lists.proofs.Facts.{flow_usable}
-use Rattle.values.proofs.Gathered.{Gathered, gathered_start, gathered_next, room_row, flow_entry, flow_over}
+use Rattle.values.proofs.Gathered.{Gathered}
 use Rattle.values.proofs.fill_flow.Given as goal
 
 abbrev pub invariant-loop-i : goal.invariant-loop-i

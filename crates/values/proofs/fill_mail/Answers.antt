@@ -1,12 +1,8 @@
-use Prim.Native.Nat.{◌-◌, ◌≤◌}
-use mathlib.Core.Path.{◌≡◌, refl, ◌∙◌}
-use lib.ListN.{length}
+use Prim.Native.Nat.{◌-◌}
+use mathlib.Core.Path.{refl, ◌∙◌}
 use borrow.Author.Rules.{rules}
-use Rattle.model.specs.Rows.{program}
-use Rattle.values.specs.Values.{mail_set_of}
-use Rattle.lists.specs.Lists.{listed}
 use Rattle.lists.proofs.Facts.{mail_usable}
-use Rattle.values.proofs.Gathered.{Gathered, gathered_start, gathered_next, room_row, mail_entry, mail_over}
+use Rattle.values.proofs.Gathered.{gathered_start, gathered_next, room_row, mail_entry, mail_over}
 use Rattle.values.proofs.fill_mail.Goals as goal
 
 pub loop-i-init : goal.loop-i-init

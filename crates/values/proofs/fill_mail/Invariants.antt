@@ -1,12 +1,10 @@
 use Prim.Native.Nat.{◌-◌, ◌≤◌}
-use mathlib.Core.Path.{◌≡◌, refl, ◌∙◌}
+use mathlib.Core.Path.{◌≡◌}
 use lib.ListN.{length}
-use borrow.Author.Rules.{rules}
 use Rattle.model.specs.Rows.{program}
 use Rattle.values.specs.Values.{mail_set_of}
 use Rattle.lists.specs.Lists.{listed}
-use Rattle.lists.proofs.Facts.{mail_usable}
-use Rattle.values.proofs.Gathered.{Gathered, gathered_start, gathered_next, room_row, mail_entry, mail_over}
+use Rattle.values.proofs.Gathered.{Gathered}
 use Rattle.values.proofs.fill_mail.Given as goal
 
 abbrev pub invariant-loop-i : goal.invariant-loop-i

@@ -1,12 +1,11 @@
-use Prim.Native.Nat.{◌+◌, ◌-◌, ◌≤◌}
+use Prim.Native.Nat.{◌-◌}
 use native.Mathlib.Omega.{arith}
-use mathlib.Core.Path.{◌≡◌, refl, ◌∙◌}
-use lib.ListN.{length}
+use mathlib.Core.Path.{refl}
 use borrow.Author.Rules.{rules}
 use Rattle.model.specs.Words.{columns}
 use Rattle.lists.specs.Lists.{listed}
 use Rattle.lists.proofs.Facts.{flow_usable}
-use Rattle.values.proofs.Starts.{Begun, begun, begun_next, begun_over, reach_low}
+use Rattle.values.proofs.Starts.{begun, begun_next, begun_over, reach_low}
 use Rattle.values.proofs.fill_starts.Goals as goal
 
 pub loop-n-init : goal.loop-n-init

@@ -1,12 +1,8 @@
 use Prim.Native.Nat.{◌+◌, ◌-◌, ◌≤◌}
-use native.Mathlib.Omega.{arith}
-use mathlib.Core.Path.{◌≡◌, refl, ◌∙◌}
+use mathlib.Core.Path.{◌≡◌}
 use lib.ListN.{length}
-use borrow.Author.Rules.{rules}
-use Rattle.model.specs.Words.{columns}
 use Rattle.lists.specs.Lists.{listed}
-use Rattle.lists.proofs.Facts.{flow_usable}
-use Rattle.values.proofs.Starts.{Begun, begun, begun_next, begun_over, reach_low}
+use Rattle.values.proofs.Starts.{Begun}
 use Rattle.values.proofs.fill_starts.Given as goal
 
 abbrev pub invariant-loop-n : goal.invariant-loop-n

@@ -1,4 +1,3 @@
-use borrow.Author.Rules.{rules}
 use Rattle.values.proofs.Names.{set_start, set_spawn}
 use Rattle.values.proofs.mail_set.Goals as goal
 

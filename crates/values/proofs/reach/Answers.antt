@@ -1,9 +1,6 @@
-use Prim.Native.Nat.{◌-◌, ◌≤◌}
-use mathlib.Core.Path.{◌≡◌, refl, ◌∙◌}
+use Prim.Native.Nat.{◌-◌}
+use mathlib.Core.Path.{refl}
 use borrow.Author.Rules.{rules}
-use Rattle.model.specs.Index.{first}
-use Rattle.lists.specs.Lists.{listed}
-use Rattle.values.specs.Values.{reaches}
 use Rattle.values.proofs.Starts.{reach_here, reach_on, reach_end}
 use Rattle.values.proofs.reach.Goals as goal
 

@@ -1,10 +1,8 @@
 use Prim.Native.Nat.{◌-◌, ◌≤◌}
-use mathlib.Core.Path.{◌≡◌, refl, ◌∙◌}
-use borrow.Author.Rules.{rules}
+use mathlib.Core.Path.{◌≡◌}
 use Rattle.model.specs.Index.{first}
 use Rattle.lists.specs.Lists.{listed}
 use Rattle.values.specs.Values.{reaches}
-use Rattle.values.proofs.Starts.{reach_here, reach_on, reach_end}
 use Rattle.values.proofs.reach.Given as goal
 
 abbrev pub invariant-loop-k : goal.invariant-loop-k

@@ -18,9 +18,9 @@ raises-requires c =
 
 pub returns-then-raises : goal.returns-then-raises
 returns-then-raises c = record {
-        value = sym (c.loop-k.invariant.0 ∙ first_hit _ _ _ c.loop-k-test.true (sym c.raises.ensures ∙ c.if-raises.true));
-        upper_bound = omega (arith, c.loop-k.invariant.1);
-    }
+  value = sym (c.loop-k.invariant.0 ∙ first_hit _ _ _ c.loop-k-test.true (sym c.raises.ensures ∙ c.if-raises.true));
+  upper_bound = omega (arith, c.loop-k.invariant.1);
+}
 
 pub overflow_step-k : goal.overflow_step-k
 overflow_step-k c = let h = c.loop-k-test.true in search rules
@@ -36,6 +36,6 @@ returns c =
     let z = c.loop-k-test.false in
     let l = c.loop-k.invariant.1 in
     record {
-        value = omega (arith, c.loop-k.invariant.0, first_end c.loop-k.k _ (λ x. above_zero (change (weight_of c.args.weights.now c.args.lines c.args.n x) (rule_of_step c.args.step))) z);
-        upper_bound = omega arith;
+      value = omega (arith, c.loop-k.invariant.0, first_end c.loop-k.k _ (λ x. above_zero (change (weight_of c.args.weights.now c.args.lines c.args.n x) (rule_of_step c.args.step))) z);
+      upper_bound = omega arith;
     }

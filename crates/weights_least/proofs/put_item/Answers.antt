@@ -28,16 +28,16 @@ pub put_lacking-requires : goal.put_lacking-requires
 put_lacking-requires c =
     let a = c.args in let low = range_low a.ws.now a.s _ _ _ c.requires.weighable a.r c.requires.k_lt_lines.1 (get_or a.froms.now a.r 0) (get_or a.tos.now a.r 0) refl refl in
     record {
-        k_lt_lines = (c.requires.k_lt_lines.0, range_some a.ws.now a.s _ _ _ c.requires.weighable a.r c.requires.k_lt_lines.1 (get_or a.froms.now a.r 0) (get_or a.tos.now a.r 0) refl refl c.requires.has_counter, omega (arith, low, c.requires.weighable.counters_low));
-        lines_in_bounds = weights_room a.ws.now a.s _ _ _ c.requires.weighable a.r c.requires.k_lt_lines.1 (get_or a.froms.now a.r 0) (get_or a.tos.now a.r 0) refl refl;
-        to_in_bounds = (omega (arith, low, c.requires.k_lt_lines.2), c.bad_number-minimum.ensures.1);
+      k_lt_lines = (c.requires.k_lt_lines.0, range_some a.ws.now a.s _ _ _ c.requires.weighable a.r c.requires.k_lt_lines.1 (get_or a.froms.now a.r 0) (get_or a.tos.now a.r 0) refl refl c.requires.has_counter, omega (arith, low, c.requires.weighable.counters_low));
+      lines_in_bounds = weights_room a.ws.now a.s _ _ _ c.requires.weighable a.r c.requires.k_lt_lines.1 (get_or a.froms.now a.r 0) (get_or a.tos.now a.r 0) refl refl;
+      to_in_bounds = (omega (arith, low, c.requires.k_lt_lines.2), c.bad_number-minimum.ensures.1);
     }
 
 pub returns : goal.returns
 returns c =
     let a = c.args in
     record {
-        counts_after = item_filled a.ws.now a.s _ _ _ c.requires.weighable a.r c.requires.k_lt_lines.1 (get_or a.froms.now a.r 0) (get_or a.tos.now a.r 0) refl refl a.k c.requires.k_lt_lines.0 _ _ c.requires.next_value c.bad_number-minimum.ensures.0 _ _ _ c.put_lacking.ensures.put_lacking;
-        grown = item_grown a.ws.now a.s _ _ _ c.requires.weighable a.r c.requires.k_lt_lines.1 (get_or a.froms.now a.r 0) (get_or a.tos.now a.r 0) refl refl a.k c.requires.k_lt_lines.0 _ _ c.requires.next_value c.bad_number-minimum.ensures.0 _ _ _ c.put_lacking.ensures.put_lacking;
-        upper_bound = c.put_lacking.ensures.upper_bound;
+      counts_after = item_filled a.ws.now a.s _ _ _ c.requires.weighable a.r c.requires.k_lt_lines.1 (get_or a.froms.now a.r 0) (get_or a.tos.now a.r 0) refl refl a.k c.requires.k_lt_lines.0 _ _ c.requires.next_value c.bad_number-minimum.ensures.0 _ _ _ c.put_lacking.ensures.put_lacking;
+      grown = item_grown a.ws.now a.s _ _ _ c.requires.weighable a.r c.requires.k_lt_lines.1 (get_or a.froms.now a.r 0) (get_or a.tos.now a.r 0) refl refl a.k c.requires.k_lt_lines.0 _ _ c.requires.next_value c.bad_number-minimum.ensures.0 _ _ _ c.put_lacking.ensures.put_lacking;
+      upper_bound = c.put_lacking.ensures.upper_bound;
     }

@@ -20,9 +20,9 @@ pub returns-then-bad_tag-ne-TAG_CLASS : goal.returns-then-bad_tag-ne-TAG_CLASS
 returns-then-bad_tag-ne-TAG_CLASS c =
     let a = c.args in let v = c.loop-s.invariant in
     record {
-        counts_after = sym (v.0 ∙ those_over a.ws.now a.s c.loop-s.i _ c.bad_tag.ensures (line_of a.ws.now a.s a.k) (in_pass a.single) (counts_in (counters_of a.ws.now a.s) c.loop-s.counts) c.if-bad_tag-ne-TAG_CLASS.true);
-        grown = v.1;
-        upper_bound = omega (arith, v.3, v.4, c.requires.weighable.whole.limits);
+      counts_after = sym (v.0 ∙ those_over a.ws.now a.s c.loop-s.i _ c.bad_tag.ensures (line_of a.ws.now a.s a.k) (in_pass a.single) (counts_in (counters_of a.ws.now a.s) c.loop-s.counts) c.if-bad_tag-ne-TAG_CLASS.true);
+      grown = v.1;
+      upper_bound = omega (arith, v.3, v.4, c.requires.weighable.whole.limits);
     }
 
 pub next_item-next-requires : goal.next_item-next-requires
@@ -35,10 +35,10 @@ pub put_item-more-requires : goal.put_item-more-requires
 put_item-more-requires c =
     let a = c.args in let h = bad_inside _ _ _ _ c.bad_tag.ensures (omega (arith, c.if-bad_tag-ne-TAG_CLASS.false)) in
     record {
-        weighable = c.requires.weighable;
-        k_lt_lines = (c.requires.k_lt_lines.0, h, search rules);
-        next_value = c.next_item-next.ensures.value;
-        has_counter = item_counted a.ws.now a.s c.loop-s.i _ c.bad_tag.ensures c.if-bad_tag-ne-TAG_CLASS.false _ c.next_item-next.ensures.value c.loop-s.invariant.2;
+      weighable = c.requires.weighable;
+      k_lt_lines = (c.requires.k_lt_lines.0, h, search rules);
+      next_value = c.next_item-next.ensures.value;
+      has_counter = item_counted a.ws.now a.s c.loop-s.i _ c.bad_tag.ensures c.if-bad_tag-ne-TAG_CLASS.false _ c.next_item-next.ensures.value c.loop-s.invariant.2;
     }
 
 pub weight_with-total-requires : goal.weight_with-total-requires

@@ -30,6 +30,6 @@ pub returns : goal.returns
 returns c =
     let a = c.args in
     record {
-        put_lacking = put_some (held a.weights.now a.lines a.k) a.from a.to a.minimum a.counts.now _ _ c.lightest_of-y.ensures c.sum_over-sum.ensures _ _ refl refl _ (search rules) (ap (λ v. v * (a.minimum - c.sum_over-sum.result)) c.weight.ensures.value);
-        upper_bound = words_product _ _ c.weight.ensures.upper_bound (search rules);
+      put_lacking = put_some (held a.weights.now a.lines a.k) a.from a.to a.minimum a.counts.now _ _ c.lightest_of-y.ensures c.sum_over-sum.ensures _ _ refl refl _ (search rules) (ap (λ v. v * (a.minimum - c.sum_over-sum.result)) c.weight.ensures.value);
+      upper_bound = words_product _ _ c.weight.ensures.upper_bound (search rules);
     }

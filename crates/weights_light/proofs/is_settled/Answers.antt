@@ -22,18 +22,18 @@ pub start_weight-start-requires : goal.start_weight-start-requires
 start_weight-start-requires c =
     let a = c.args in let p = c.requires.weighing in
     record {
-        k_lt_lines = search rules;
-        row = row_in _ a.n _ _ p.start_low (weights_room a.ws.now a.s a.n _ _ _ _ p);
+      k_lt_lines = search rules;
+      row = row_in _ a.n _ _ p.start_low (weights_room a.ws.now a.s a.n _ _ _ _ p);
     }
 
 pub least_weight-requires : goal.least_weight-requires
 least_weight-requires c =
     let a = c.args in let p = c.requires.weighing in
     record {
-        weighable = weighable a.ws.now a.s a.n _ _ _ _ p;
-        n_value = p.counters;
-        k_lt_lines = (search rules, c.requires.r_le_badrows.0, search rules);
-        all_counted = sym c.lacks_counter.ensures ∙ c.if-lacks_counter.false;
+      weighable = weighable a.ws.now a.s a.n _ _ _ _ p;
+      n_value = p.counters;
+      k_lt_lines = (search rules, c.requires.r_le_badrows.0, search rules);
+      all_counted = sym c.lacks_counter.ensures ∙ c.if-lacks_counter.false;
     }
 
 pub returns-then-start-least_weight : goal.returns-then-start-least_weight

@@ -40,9 +40,9 @@ pub first_raised_by-line-requires : goal.first_raised_by-line-requires
 first_raised_by-line-requires c =
     let r = c.rules_of-m.ensures in
     record {
-        upto_le_lines = (omega (arith, c.loop-i.invariant.0.upto), room _ _ _ _ c.requires.weights_table);
-        kind_bound = c.effect_kind-kind.ensures.upper_bound;
-        m_in_bounds = (r.tos_room, r.others_room);
+      upto_le_lines = (omega (arith, c.loop-i.invariant.0.upto), room _ _ _ _ c.requires.weights_table);
+      kind_bound = c.effect_kind-kind.ensures.upper_bound;
+      m_in_bounds = (r.tos_room, r.others_room);
     }
 
 pub overflow_step-i : goal.overflow_step-i
@@ -79,7 +79,7 @@ returns c =
     let h = c.loop-i in
     let end = c.loop-i-test.false in
     record {
-        line_value = so_far_end _ _ _ _ h.i h.line h.invariant.0 end ∙ by_lines _ _ _ _ c.requires.weights_table c.requires.n_value;
-        line_le_lines = h.invariant.0.upto;
-        totalled = summed_all _ _ h.i h.rules h.rows h.invariant.1 (omega (arith, h.invariant.3, end)) (omega (arith, h.invariant.3, c.requires.joined_tables.ready.limits.states));
+      line_value = so_far_end _ _ _ _ h.i h.line h.invariant.0 end ∙ by_lines _ _ _ _ c.requires.weights_table c.requires.n_value;
+      line_le_lines = h.invariant.0.upto;
+      totalled = summed_all _ _ h.i h.rules h.rows h.invariant.1 (omega (arith, h.invariant.3, end)) (omega (arith, h.invariant.3, c.requires.joined_tables.ready.limits.states));
     }

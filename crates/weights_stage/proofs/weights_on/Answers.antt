@@ -33,9 +33,9 @@ light_verdict-light-requires c =
     let t = c.requires.joined_tables in
     let l = c.requires.lined in
     record {
-        startable = record { ready = t.ready; ends = t.ends; closed = t.closed; counted = record { counters = l.counted; few = omega (arith, l.counted, t.few) } };
-        letters_filled = (record { ready = t.ready; class_letters = lent_letters _ _ _ _ _ _ t; letter_sets_of = t.letter_sets_of }, l.bads);
-        weights_table = (c.fill_weights.ensures.weights_table, c.requires.bounds_room.1);
+      startable = record { ready = t.ready; ends = t.ends; closed = t.closed; counted = record { counters = l.counted; few = omega (arith, l.counted, t.few) } };
+      letters_filled = (record { ready = t.ready; class_letters = lent_letters _ _ _ _ _ _ t; letter_sets_of = t.letter_sets_of }, l.bads);
+      weights_table = (c.fill_weights.ensures.weights_table, c.requires.bounds_room.1);
     }
 
 pub shape_of-weights-then-not-is_safe-2 : goal.shape_of-weights-then-not-is_safe-2
@@ -48,10 +48,10 @@ returns-then-not-is_safe-2 c =
 
 pub space_verdict-requires : goal.space_verdict-requires
 space_verdict-requires c = record {
-        joined_tables = c.requires.joined_tables;
-        rule_room = room_kept _ _ _ _ _ _ c.requires.rule_room.0 c.rise_check-rises.auto.1.1.1.1.1.1.1.1.1.1.0 c.rise_check-rises.auto.1.1.1.1.1.1.1.1.1.1.1.0;
-        totalled = c.rise_check-rises.ensures.totalled;
-    }
+  joined_tables = c.requires.joined_tables;
+  rule_room = room_kept _ _ _ _ _ _ c.requires.rule_room.0 c.rise_check-rises.auto.1.1.1.1.1.1.1.1.1.1.0 c.rise_check-rises.auto.1.1.1.1.1.1.1.1.1.1.1.0;
+  totalled = c.rise_check-rises.ensures.totalled;
+}
 
 pub shape_of-weights : goal.shape_of-weights
 shape_of-weights c = c.fill_weights.auto.1.1.1.0

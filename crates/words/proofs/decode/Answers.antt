@@ -1,11 +1,11 @@
-use Prim.Native.Nat.{◌-◌, ◌≤◌}
+use Prim.Native.Nat.{◌-◌}
 use native.Mathlib.Omega.{arith}
 use mathlib.Core.Path.{◌≡◌, refl, ◌∙◌}
 use lib.ListN.{length, length-set}
 use lib.Seq.{take-length}
 use borrow.Author.Rules.{rules}
 use Rattle.model.specs.Words.{words}
-use Rattle.words.proofs.Words.{words_length, put, put_next}
+use Rattle.words.proofs.Words.{words_length, put_next}
 use Rattle.words.proofs.decode.Goals as goal
 
 pub loop-i-init : goal.loop-i-init

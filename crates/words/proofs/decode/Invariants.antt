@@ -1,12 +1,9 @@
 -- The loop's invariant: the first i words stand in front, what was behind them is behind them, and the length is what it was.
 use Prim.Native.Nat.{◌-◌, ◌≤◌}
-use native.Mathlib.Omega.{arith}
-use mathlib.Core.Path.{◌≡◌, refl, ◌∙◌}
-use lib.ListN.{length, length-set}
-use lib.Seq.{take-length}
-use borrow.Author.Rules.{rules}
+use mathlib.Core.Path.{◌≡◌}
+use lib.ListN.{length}
 use Rattle.model.specs.Words.{words}
-use Rattle.words.proofs.Words.{words_length, put, put_next}
+use Rattle.words.proofs.Words.{put}
 use Rattle.words.proofs.decode.Given as goal
 
 abbrev pub invariant-loop-i : goal.invariant-loop-i

@@ -1,5 +1,4 @@
 use native.Mathlib.Omega.{arith}
-use borrow.Author.Rules.{rules}
 use Rattle.ceilings_form.proofs.Ceilings.{part_in}
 use Rattle.ceilings_form.proofs.Checked.{place_low, ceilings_pass, ceiling_wrong}
 use Rattle.ceilings_form.proofs.entries.ceiling_check.Goals as goal

@@ -1,5 +1,4 @@
 use native.Mathlib.Omega.{arith}
-use borrow.Author.Rules.{rules}
 use Rattle.ceilings_form.specs.Parts.{ceilings_part_of}
 use Rattle.ceilings_form.proofs.Reading.{begins_low}
 use Rattle.ceilings_form.proofs.entries.ceilings_part.Goals as goal

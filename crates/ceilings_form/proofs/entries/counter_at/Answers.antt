@@ -1,5 +1,3 @@
-use borrow.Author.Rules.{rules}
-use Rattle.ceilings_form.specs.Parts.{ceilings_part_of}
 use Rattle.ceilings_form.proofs.Ceilings.{part_of, part_in}
 use Rattle.ceilings_form.proofs.entries.counter_at.Goals as goal
 

@@ -1,11 +1,9 @@
 use Prim.Native.Nat.{◌-◌}
 use native.Mathlib.Omega.{arith}
 use mathlib.Core.Path.{sym, ◌∙◌}
-use mathlib.Core.Logic.{⊎_elim}
-use borrow.Author.Tests.{not-true, not-false}
 use Rattle.model.specs.Words.{columns}
 use Rattle.ceilings_form.specs.Parts.{part_entries}
-use Rattle.ceilings_form.proofs.Reading.{in_bound_below, so_far, at_first, passed_all, refused_behind, refused_early, refused_open, refused_wrong, closed_so_far, next_so_far, fewer_left}
+use Rattle.ceilings_form.proofs.Reading.{in_bound_below, at_first, passed_all, refused_behind, refused_early, refused_open, refused_wrong, closed_so_far, next_so_far, fewer_left}
 use Rattle.ceilings_form.proofs.entries.first_wrong.Goals as goal
 use Rattle.ceilings_form.proofs.entries.first_wrong.Goals.{then-x-n+else-number-ne0, else-x-n+else-not-in_bound}
 
@@ -54,8 +52,8 @@ loop-e-preserved c =
     let x = c.entry_counter-x.ensures in
     let l = c.entry_number-number.ensures in
     elim c.if-x-n.branch [
-      then-x-n+else-number-ne0 w ↦ closed_so_far _ _ _ _ h.e h.least h.closed h.invariant more inside _ _ x l w.if-x-n.true w.if-number-ne0.false _ _ w.least-is w.closed-is
-    | else-x-n+else-not-in_bound w ↦ next_so_far _ _ _ _ h.e h.least h.closed h.invariant more inside _ _ x l w.if-x-n.false (sym w.in_bound.ensures ∙ w.if-not-in_bound.false) _ _ w.least-is w.closed-is
+      | then-x-n+else-number-ne0 w ↦ closed_so_far _ _ _ _ h.e h.least h.closed h.invariant more inside _ _ x l w.if-x-n.true w.if-number-ne0.false _ _ w.least-is w.closed-is
+      | else-x-n+else-not-in_bound w ↦ next_so_far _ _ _ _ h.e h.least h.closed h.invariant more inside _ _ x l w.if-x-n.false (sym w.in_bound.ensures ∙ w.if-not-in_bound.false) _ _ w.least-is w.closed-is
     ]
 
 pub returns-then-closed-count-2 : goal.returns-then-closed-count-2

@@ -49,8 +49,8 @@ pub name_check-unique-requires : goal.name_check-unique-requires
 name_check-unique-requires c =
     let rows_pass-here : Passes c.before.before.before.before.before.before (λ ws s. row_check_of (program ws s)) = passed _ _ _ (row_refuses _) c.row_check-rows.ensures c.is_safe.ensures c.if-not-is_safe.false in
     record {
-        fitted = record { whole = c.requires.parts_whole.program; fits = rows_pass-here };
-        names_in_bounds = omega (arith, c.requires.parts_whole.limits.names.1, c.words16_512-binders.ensures.room);
+      fitted = record { whole = c.requires.parts_whole.program; fits = rows_pass-here };
+      names_in_bounds = omega (arith, c.requires.parts_whole.limits.names.1, c.words16_512-binders.ensures.room);
     }
 
 pub returns-then-not-is_safe-2 : goal.returns-then-not-is_safe-2
@@ -136,8 +136,8 @@ open_verdict-open-requires c =
     let all-ready-here : Ready c.args.ws.now c.args.s = ready _ _ c.requires.parts_whole (program_passes _ rows_pass-here names-pass-here scopes-pass-here) entries-pass-here in
     let r = c.requires.parts_whole.limits in
     record {
-        le_most = omega arith;
-        openable = record {
+      le_most = omega arith;
+      openable = record {
         ready = all-ready-here;
         layout = c.fill_ends.ensures;
         unfitted = c.requires.unfitted;
@@ -176,9 +176,9 @@ join_tables-requires c =
     let r = c.requires.parts_whole.limits in
     let k = c.open_verdict-open.auto in
     record {
-        within_limits = r;
-        names_in_bounds = (omega (arith, r.names.1, k.1.1.1.1.0, c.row_words16-starts.ensures.room), omega (arith, r.states, k.1.1.1.1.1.1.0, c.row_words16-branches.ensures.room));
-        letter_from_in_bounds = omega (arith, narrow-long-here);
+      within_limits = r;
+      names_in_bounds = (omega (arith, r.names.1, k.1.1.1.1.0, c.row_words16-starts.ensures.room), omega (arith, r.states, k.1.1.1.1.1.1.0, c.row_words16-branches.ensures.room));
+      letter_from_in_bounds = omega (arith, narrow-long-here);
     }
 
 pub slice_bounds-system_verdict-end : goal.slice_bounds-system_verdict-end

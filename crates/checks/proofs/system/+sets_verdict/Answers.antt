@@ -14,9 +14,9 @@ pub letter_words-words-requires : goal.letter_words-words-requires
 letter_words-words-requires t c =
     let l = c.requires.lettered in
     record {
-        ready = l.closed_tables.ready;
-        class_letters = lent_classes _ _ _ _ _ _ _ l;
-        s_bound = counters_few _ _ _ _ _ _ _ l;
+      ready = l.closed_tables.ready;
+      class_letters = lent_classes _ _ _ _ _ _ _ l;
+      s_bound = counters_few _ _ _ _ _ _ _ l;
     }
 
 pub few_letters-requires : goal.few_letters-requires

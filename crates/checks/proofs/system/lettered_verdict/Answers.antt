@@ -11,20 +11,20 @@ pub fill_letters-requires : goal.fill_letters-requires
 fill_letters-requires c =
     let l = c.requires.lettered in
     record {
-        letters_known = record { heads = record { ready = l.closed_tables.ready; name_heads = l.name_heads }; class_letters = lent_classes _ _ _ _ _ _ _ l; coded = l.coded };
-        letters_empty = record { room = c.requires.letter_room; empty = c.requires.empty };
+      letters_known = record { heads = record { ready = l.closed_tables.ready; name_heads = l.name_heads }; class_letters = lent_classes _ _ _ _ _ _ _ l; coded = l.coded };
+      letters_empty = record { room = c.requires.letter_room; empty = c.requires.empty };
     }
 
 pub fill_reads-requires : goal.fill_reads-requires
 fill_reads-requires c =
     let l = c.requires.lettered in
     record {
-        pattern_tables = record {
+      pattern_tables = record {
         match_tables = match_tables _ _ _ _ _ _ _ l _ c.name_width-w.ensures;
         ends = l.closed_tables.ends;
         letter_tables = record { ready = l.closed_tables.ready; few = counters_few _ _ _ _ _ _ _ l; class_letters = lent_classes _ _ _ _ _ _ _ l; letter_sets_of = c.fill_letters.ensures };
       };
-        owners_room = owners_kept _ _ _ _ c.requires.owners_room (search rules);
+      owners_room = owners_kept _ _ _ _ c.requires.owners_room (search rules);
     }
 
 pub bounds_verdict-requires : goal.bounds_verdict-requires

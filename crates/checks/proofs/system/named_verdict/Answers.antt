@@ -21,8 +21,8 @@ pub fill_codes-l-requires : goal.fill_codes-l-requires
 fill_codes-l-requires c =
     let k = c.requires.closed_tables in
     record {
-        heads_known = record { ready = k.ready; name_heads = c.fill_names.ensures };
-        codes_room = record { few = omega arith; starts = letters_fit _ _ _ _ k; numbers = omega (arith, c.letter_codes-codes.ensures.room) };
+      heads_known = record { ready = k.ready; name_heads = c.fill_names.ensures };
+      codes_room = record { few = omega arith; starts = letters_fit _ _ _ _ k; numbers = omega (arith, c.letter_codes-codes.ensures.room) };
     }
 
 pub counters_verdict-counters-requires : goal.counters_verdict-counters-requires
@@ -41,9 +41,9 @@ overflow_add-n c = record { fits = omega (arith, capped_most _ _ _ c.fill_codes-
 
 pub form_verdict-form-requires : goal.form_verdict-form-requires
 form_verdict-form-requires c = record {
-        whole = c.requires.closed_tables.whole;
-        n_le_max_counters = omega (arith, (all_counted _ _ _ c.fill_codes-l.ensures.value (counters_fit _ _ _ (passed _ _ _ (then_counters_refuse _ _ _) c.counters_verdict-counters.ensures c.is_safe.ensures c.if-not-is_safe.false))).1);
-    }
+  whole = c.requires.closed_tables.whole;
+  n_le_max_counters = omega (arith, (all_counted _ _ _ c.fill_codes-l.ensures.value (counters_fit _ _ _ (passed _ _ _ (then_counters_refuse _ _ _) c.counters_verdict-counters.ensures c.is_safe.ensures c.if-not-is_safe.false))).1);
+}
 
 pub shape_of-names-then-not-is_safe-2 : goal.shape_of-names-then-not-is_safe-2
 shape_of-names-then-not-is_safe-2 c = c.fill_names.auto.1.1.0
@@ -59,8 +59,8 @@ sets_verdict-requires c =
     let k = c.requires.closed_tables in
     let all = all_counted _ _ _ c.fill_codes-l.ensures.value (counters_fit _ _ _ (passed _ _ _ (then_counters_refuse _ _ _) c.counters_verdict-counters.ensures c.is_safe.ensures c.if-not-is_safe.false)) in
     record {
-        le_most = omega arith;
-        lettered = record {
+      le_most = omega arith;
+      lettered = record {
         closed_tables = closed_kept _ _ _ _ c.fill_codes-l.new.1.1.1.1.0 k c.fill_codes-l.auto.1.1.1.1.0;
         name_heads = c.fill_names.ensures;
         class_letters = letters_kept _ _ _ _ c.fill_codes-l.new.1.1.1.1.0 k (c.fill_codes-l.ensures.class_letters (omega (arith, all.1)));

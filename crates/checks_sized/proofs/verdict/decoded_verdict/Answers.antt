@@ -16,6 +16,6 @@ pub returns : goal.returns
 returns c =
     let e = decoded c.args.bytes.now _ _ c.decode.ensures in
     record {
-        value = whole_told c.args.bytes.now c.args.s _ c.requires.whole_message e _ _ c.sized_verdict.ensures.value;
-        lent_after = whole_written c.args.bytes.now c.args.s _ c.requires.whole_message e _ _ _ c.sized_verdict.ensures.value c.sized_verdict.ensures.lent_after;
+      value = whole_told c.args.bytes.now c.args.s _ c.requires.whole_message e _ _ c.sized_verdict.ensures.value;
+      lent_after = whole_written c.args.bytes.now c.args.s _ c.requires.whole_message e _ _ _ c.sized_verdict.ensures.value c.sized_verdict.ensures.lent_after;
     }

@@ -1,5 +1,4 @@
 use mathlib.Core.Path.{refl}
-use borrow.Author.Rules.{rules}
 use Rattle.lists.proofs.Rising.{first_told, second_told, third_told}
 use Rattle.evidence.proofs.Lists.{ascends_first, ascends_later}
 use Rattle.evidence.proofs.entries.ascends.Goals as goal

@@ -1,5 +1,3 @@
-use borrow.Author.Rules.{rules}
-use borrow.Author.Tests.{not-true, not-false}
 use Rattle.evidence.proofs.Tables.{flow_held, mail_held, states_held, flow_refused, mail_refused, states_answer}
 use Rattle.evidence.proofs.entries.entry_check.Goals as goal
 

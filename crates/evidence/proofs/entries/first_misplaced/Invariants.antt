@@ -1,12 +1,8 @@
 use Prim.Native.Nat.{◌≤◌, ◌-◌}
-use mathlib.Core.Path.{◌≡◌, refl, sym, ◌∙◌}
-use borrow.Author.Rules.{rules}
-use borrow.Author.Tests.{not-true, not-false}
+use mathlib.Core.Path.{◌≡◌}
 use Rattle.model.specs.Rows.{program}
-use Rattle.model.specs.Words.{columns}
 use Rattle.lists.specs.Lists.{listed, thirds}
 use Rattle.evidence.specs.Ranges.{misplaced}
-use Rattle.evidence.proofs.Lists.{misplaced_hit, misplaced_miss, misplaced_end}
 use Rattle.evidence.proofs.entries.first_misplaced.Given as goal
 
 abbrev pub invariant-loop-i : goal.invariant-loop-i

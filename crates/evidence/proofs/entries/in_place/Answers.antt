@@ -1,4 +1,3 @@
-use borrow.Author.Rules.{rules}
 use Rattle.evidence.proofs.Lists.{place_pass, place_fail}
 use Rattle.evidence.proofs.entries.in_place.Goals as goal
 

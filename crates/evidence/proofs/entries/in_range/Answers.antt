@@ -1,6 +1,5 @@
 use mathlib.Core.Path.{refl, sym, ◌∙◌}
 use borrow.Author.Tests.{lt-ltb, le-ltb}
-use borrow.Author.Rules.{rules}
 use Rattle.model.specs.Rows.{program, is_name}
 use Rattle.model.proofs.Logic.{and_first, and_second}
 use Rattle.evidence.specs.Ranges.{legal_left, legal_rest}

@@ -1,4 +1,3 @@
-use borrow.Author.Rules.{rules}
 use Rattle.model.specs.Words.{columns}
 use Rattle.lists.specs.Lists.{listed}
 use Rattle.evidence.proofs.Tables.{list_refused, list_passed}

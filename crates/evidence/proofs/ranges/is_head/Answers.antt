@@ -1,4 +1,3 @@
-use borrow.Author.Rules.{rules}
 use Rattle.evidence.proofs.Tags.{head_from, no_head}
 use Rattle.evidence.proofs.ranges.is_head.Goals as goal
 

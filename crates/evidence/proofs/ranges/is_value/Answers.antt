@@ -1,4 +1,4 @@
-use mathlib.Core.Logic.{inl, inr, ⊎_elim}
+use mathlib.Core.Logic.{inl, inr}
 use borrow.Author.Rules.{rules}
 use Rattle.model.specs.Words.{columns}
 use Rattle.model.specs.Rows.{program}
@@ -12,8 +12,8 @@ unfolding program columns
 returns-in_default c =
     value_start _ _ _ c.tag.ensures
     (elim c.in_default.branch [
-      in_default-via-then-this-lt2 w ↦ inl (omega arith)
-    | in_default-via-else-this-lt2+else-this-lt4 w ↦ inr (omega arith)
+      | in_default-via-then-this-lt2 w ↦ inl (omega arith)
+      | in_default-via-else-this-lt2+else-this-lt4 w ↦ inr (omega arith)
     ])
     (omega arith)
 

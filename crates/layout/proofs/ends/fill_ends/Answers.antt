@@ -1,13 +1,11 @@
 use native.Mathlib.Omega.{arith}
 use native.Mathlib.Nat.{le_refl}
-use Prim.Native.Nat.{◌+◌, ◌-◌, ◌≤◌}
-use mathlib.Core.Path.{◌≡◌, refl, ◌∙◌}
-use lib.ListN.{length, length-set}
+use Prim.Native.Nat.{◌+◌, ◌-◌}
+use mathlib.Core.Path.{refl, ◌∙◌}
+use lib.ListN.{length-set}
 use Rattle.model.specs.Words.{columns}
 use Rattle.model.specs.Rows.{program}
-use Rattle.layout.specs.Tables.{AfterFrom}
 use Rattle.layout.proofs.Ending.{ends_of, after_start, after_set, after_keep, after_by}
-use borrow.Author.Rules.{rules}
 use Rattle.layout.proofs.ends.fill_ends.Goals as goal
 
 pub loop-r-init : goal.loop-r-init
@@ -21,9 +19,9 @@ pub end_row-end-requires : goal.end_row-end-requires
 end_row-end-requires c =
     let l = c.loop-r in
     record {
-        whole = c.requires.whole;
-        r_lt_rows = omega (arith, c.loop-r-test.true, l.invariant.0);
-        after_from = after_by _ l.r (l.r - 1 + 1) l.afters (omega (arith, c.loop-r-test.true)) l.invariant.2;
+      whole = c.requires.whole;
+      r_lt_rows = omega (arith, c.loop-r-test.true, l.invariant.0);
+      after_from = after_by _ l.r (l.r - 1 + 1) l.afters (omega (arith, c.loop-r-test.true)) l.invariant.2;
     }
 
 pub offset_bounds-afters-r : goal.offset_bounds-afters-r

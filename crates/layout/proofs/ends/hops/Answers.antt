@@ -1,5 +1,4 @@
-use mathlib.Core.Path.{◌≡◌, refl, sym, ◌∙◌}
-use Rattle.layout.specs.Tables.{hop}
+use mathlib.Core.Path.{refl, sym, ◌∙◌}
 use Rattle.layout.proofs.Ending.{hop_turn, hop_end}
 use borrow.Author.Rules.{rules}
 use Rattle.layout.proofs.ends.hops.Goals as goal

@@ -1,7 +1,5 @@
-use mathlib.Core.Path.{◌≡◌, refl, sym, ◌∙◌}
+use mathlib.Core.Path.{◌≡◌}
 use Rattle.layout.specs.Tables.{hop}
-use Rattle.layout.proofs.Ending.{hop_turn, hop_end}
-use borrow.Author.Rules.{rules}
 use Rattle.layout.proofs.ends.hops.Given as goal
 
 abbrev pub invariant-loop-left : goal.invariant-loop-left

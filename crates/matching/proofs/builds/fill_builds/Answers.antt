@@ -1,11 +1,10 @@
-use Prim.Native.Nat.{◌+◌, ◌-◌, ◌≤◌}
+use Prim.Native.Nat.{◌-◌}
 use native.Mathlib.Omega.{arith}
-use mathlib.Core.Path.{◌≡◌, refl, sym, ◌∙◌}
-use lib.ListN.{length}
+use mathlib.Core.Path.{refl, sym, ◌∙◌}
 use borrow.Author.Rules.{rules}
 use Rattle.model.specs.Words.{columns}
 use Rattle.model.specs.Rows.{program}
-use Rattle.matching.proofs.Chains.{Blank, blank_none, blank_next, Chained, chained_begin, chained_skip, chained_link, chained_over, made_low}
+use Rattle.matching.proofs.Chains.{blank_none, blank_next, chained_begin, chained_skip, chained_link, chained_over, made_low}
 use Rattle.matching.proofs.builds.fill_builds.Goals as goal
 
 pub overflow_cast-none : goal.overflow_cast-none

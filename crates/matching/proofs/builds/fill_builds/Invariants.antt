@@ -1,11 +1,8 @@
-use Prim.Native.Nat.{◌+◌, ◌-◌, ◌≤◌}
-use native.Mathlib.Omega.{arith}
-use mathlib.Core.Path.{◌≡◌, refl, sym, ◌∙◌}
+use Prim.Native.Nat.{◌-◌, ◌≤◌}
+use mathlib.Core.Path.{◌≡◌}
 use lib.ListN.{length}
-use borrow.Author.Rules.{rules}
-use Rattle.model.specs.Words.{columns}
 use Rattle.model.specs.Rows.{program}
-use Rattle.matching.proofs.Chains.{Blank, blank_none, blank_next, Chained, chained_begin, chained_skip, chained_link, chained_over, made_low}
+use Rattle.matching.proofs.Chains.{Blank, Chained}
 use Rattle.matching.proofs.builds.fill_builds.Given as goal
 
 abbrev pub invariant-loop-k : goal.invariant-loop-k

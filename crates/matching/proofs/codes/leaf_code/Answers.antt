@@ -1,6 +1,5 @@
 use mathlib.Core.Bool.{not}
 use mathlib.Core.Path.{ap}
-use borrow.Author.Rules.{rules}
 use Rattle.matching.proofs.Leaves.{leaf_row, leaf_none, leaf_any, leaf_name, leaf_flow, held_code, lack_code}
 use Rattle.matching.proofs.codes.leaf_code.Goals as goal
 

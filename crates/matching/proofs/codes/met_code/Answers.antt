@@ -1,4 +1,3 @@
-use borrow.Author.Rules.{rules}
 use Rattle.bits.specs.Bits.{shared}
 use Rattle.matching.proofs.Leaves.{met_code, unmet_code}
 use Rattle.matching.proofs.codes.met_code.Goals as goal

@@ -1,12 +1,9 @@
-use Prim.Native.Nat.{◌-◌, ◌≤◌}
+use Prim.Native.Nat.{◌-◌}
 use native.Mathlib.Omega.{arith}
-use mathlib.Core.Path.{◌≡◌, refl, ◌∙◌}
+use mathlib.Core.Path.{refl}
 use borrow.Author.Rules.{rules}
-use borrow.Author.Tests.{not-true, not-false}
-use Rattle.model.specs.Rows.{program}
 use Rattle.values.specs.Values.{width}
-use Rattle.matching_sets.specs.Sets.{Joined}
-use Rattle.matching_sets.proofs.Joining.{row_kept, equals_before, equals_begin, equals_next, equals_skip, held_row, held_alike, held_over}
+use Rattle.matching_sets.proofs.Joining.{row_kept, equals_begin, equals_next, equals_skip, held_row, held_alike, held_over}
 use Rattle.matching_sets.proofs.equals.fill_equals.Goals as goal
 
 pub overflow_mul-u-end : goal.overflow_mul-u-end
@@ -28,9 +25,9 @@ loop-u-preserved-then-not-holds c = (equals_skip _ _ _ _ _ _ _ c.loop-u.invarian
 
 pub put_equals-requires : goal.put_equals-requires
 put_equals-requires c = record {
-        build_ready = c.requires.build_ready;
-        equals_room = record { low = omega (arith, c.width-w.ensures); row = row_kept refl c.requires.held_name.row c.loop-u.invariant.0.long; alike = held_alike _ _ _ _ _ _ _ c.width-w.ensures c.loop-u.invariant.0 c.requires.held_name.clear };
-    }
+  build_ready = c.requires.build_ready;
+  equals_room = record { low = omega (arith, c.width-w.ensures); row = row_kept refl c.requires.held_name.row c.loop-u.invariant.0.long; alike = held_alike _ _ _ _ _ _ _ c.width-w.ensures c.loop-u.invariant.0 c.requires.held_name.clear };
+}
 
 pub overflow_step-u-in-loop-u : goal.overflow_step-u-in-loop-u
 unfolding width

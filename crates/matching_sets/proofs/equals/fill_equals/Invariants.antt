@@ -1,12 +1,7 @@
 use Prim.Native.Nat.{◌-◌, ◌≤◌}
-use native.Mathlib.Omega.{arith}
-use mathlib.Core.Path.{◌≡◌, refl, ◌∙◌}
-use borrow.Author.Rules.{rules}
-use borrow.Author.Tests.{not-true, not-false}
 use Rattle.model.specs.Rows.{program}
-use Rattle.values.specs.Values.{width}
 use Rattle.matching_sets.specs.Sets.{Joined}
-use Rattle.matching_sets.proofs.Joining.{row_kept, equals_before, equals_begin, equals_next, equals_skip, held_row, held_alike, held_over}
+use Rattle.matching_sets.proofs.Joining.{equals_before}
 use Rattle.matching_sets.proofs.equals.fill_equals.Given as goal
 
 abbrev pub invariant-loop-u : goal.invariant-loop-u

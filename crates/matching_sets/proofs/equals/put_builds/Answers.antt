@@ -1,13 +1,13 @@
-use Prim.Native.Nat.{◌+◌, ◌-◌}
+use Prim.Native.Nat.{◌-◌}
 use native.Mathlib.Omega.{arith}
-use mathlib.Core.Path.{◌≡◌, refl}
+use mathlib.Core.Path.{refl}
 use borrow.Author.Rules.{rules}
 use Rattle.model.specs.Words.{columns}
-use Rattle.model.specs.Rows.{program, num}
+use Rattle.model.specs.Rows.{program}
 use Rattle.lists.proofs.Facts.{columns_whole}
 use Rattle.values.proofs.Gathered.{width_above}
 use Rattle.matching.proofs.Chains.{made_low, build_first, build_next}
-use Rattle.matching_sets.proofs.Joining.{row_kept, Building, building_begin, building_next, building_over}
+use Rattle.matching_sets.proofs.Joining.{row_kept, building_begin, building_next, building_over}
 use Rattle.matching_sets.proofs.equals.put_builds.Goals as goal
 
 pub overflow_add-u : goal.overflow_add-u
@@ -24,9 +24,9 @@ loop-v-init c = building_begin _ _ _ _ _ _ (build_first c.requires.build_ready.b
 
 pub put-requires : goal.put-requires
 put-requires c = record {
-        v_bound = rw c.width-w.ensures (width_above _ _ (search rules));
-        row = row_kept c.width-w.ensures c.requires.row.0 c.loop-v.invariant.joined.long;
-    }
+  v_bound = rw c.width-w.ensures (width_above _ _ (search rules));
+  row = row_kept c.width-w.ensures c.requires.row.0 c.loop-v.invariant.joined.long;
+}
 
 pub word-v-requires-in-loop-v : goal.word-v-requires-in-loop-v
 unfolding program columns

@@ -1,11 +1,9 @@
 use native.Mathlib.Omega.{arith}
-use mathlib.Core.Path.{◌≡◌, refl, sym, ◌∙◌}
-use borrow.Author.Rules.{rules}
+use mathlib.Core.Path.{refl, sym, ◌∙◌}
 use Rattle.model.specs.Words.{columns}
 use Rattle.model.specs.Rows.{program}
 use Rattle.model.proofs.Parse.Lengths.{row_within}
 use Rattle.lists.proofs.Facts.{columns_whole}
-use Rattle.values.specs.Values.{width}
 use Rattle.matching_sets.proofs.Joining.{row_kept, put_class, put_build, put_none, put_there}
 use Rattle.matching_sets.proofs.equals.put_equals.Goals as goal
 
@@ -27,9 +25,9 @@ returns-then-holds c = put_there _ _ _ _ _ _ _ _ c.is_class.ensures _ c.tag.ensu
 pub put_builds-requires : goal.put_builds-requires
 unfolding program columns
 put_builds-requires c = record {
-        build_ready = c.requires.build_ready;
-        row = (c.requires.equals_room.row, (sym c.tag.ensures ∙ c.if-tag-ne-TAG_BUILD.false, row_within (columns_whole c.requires.build_ready.ready) _ (omega (arith, c.tag.ensures, c.if-tag-ne-TAG_BUILD.false))));
-    }
+  build_ready = c.requires.build_ready;
+  row = (c.requires.equals_room.row, (sym c.tag.ensures ∙ c.if-tag-ne-TAG_BUILD.false, row_within (columns_whole c.requires.build_ready.ready) _ (omega (arith, c.tag.ensures, c.if-tag-ne-TAG_BUILD.false))));
+}
 
 pub returns : goal.returns
 returns c = put_build _ _ _ _ 0 _ _ _ c.is_class.ensures _ c.tag.ensures c.if-is_class.false c.if-tag-ne-TAG_BUILD.false c.put_builds.ensures

@@ -2,14 +2,13 @@ use Prim.Native.Nat.{◌-◌}
 use native.Mathlib.Omega.{arith}
 use Rattle.model.specs.Words.{columns}
 use Rattle.model.specs.Rows.{program}
-use Rattle.model.specs.Tables.{tables}
 use Rattle.model.specs.Closed.{is_same_constructor}
 use Rattle.lists.proofs.Facts.{rows_fit, columns_whole}
 use Rattle.values.proofs.Gathered.{width_above, room_row}
 use Rattle.matching.specs.Patterns.{is_build}
 use Rattle.matching.proofs.Chains.{build_first, build_next}
 use Rattle.matching.proofs.Subpatterns.{pattern_stands, pattern_constructor}
-use Rattle.matching_sets.proofs.Filling.{fill_match, Filling, filling_begin, filling_next, filling_over, still, still_clear, same_room}
+use Rattle.matching_sets.proofs.Filling.{fill_match, filling_begin, filling_next, filling_over, still, still_clear, same_room}
 use borrow.Author.Rules.{rules}
 use Rattle.matching_sets.proofs.patterns.fill_pattern.Goals as goal
 
@@ -27,21 +26,21 @@ loop-v-init c = let z = pattern_constructor (pattern_stands (rows_fit c.requires
 pub arguments_code-code-requires : goal.arguments_code-code-requires
 unfolding program columns is_build is_same_constructor
 arguments_code-code-requires c = record {
-        cases = fill_match c.requires.fill_ready (still _ _ _ _ c.requires.filled_from.1.0 _ _ _ _ _ c.width-w.ensures c.loop-v.invariant c.requires.filled_from.0.patterns);
-        same_made = record { stands = pattern_stands (rows_fit c.requires.fill_ready.ready) _ c.requires.filled_from.1.1 c.requires.filled_from.1.0; made = c.requires.filled_from.1.0; same = c.loop-v.invariant.here (search rules) };
-    }
+  cases = fill_match c.requires.fill_ready (still _ _ _ _ c.requires.filled_from.1.0 _ _ _ _ _ c.width-w.ensures c.loop-v.invariant c.requires.filled_from.0.patterns);
+  same_made = record { stands = pattern_stands (rows_fit c.requires.fill_ready.ready) _ c.requires.filled_from.1.1 c.requires.filled_from.1.0; made = c.requires.filled_from.1.0; same = c.loop-v.invariant.here (search rules) };
+}
 
 pub put_if-requires : goal.put_if-requires
 put_if-requires c = record {
-        v_bound = rw c.width-w.ensures (width_above _ _ (search rules));
-        row = room_row _ _ _ _ _ _ c.width-w.ensures c.requires.filled_from.0.may_room c.loop-v.invariant.may_long c.requires.filled_from.1.1;
-    }
+  v_bound = rw c.width-w.ensures (width_above _ _ (search rules));
+  row = room_row _ _ _ _ _ _ c.width-w.ensures c.requires.filled_from.0.may_room c.loop-v.invariant.may_long c.requires.filled_from.1.1;
+}
 
 pub put_if-requires-in-loop-v : goal.put_if-requires-in-loop-v
 put_if-requires-in-loop-v c = record {
-        v_bound = rw c.width-w.ensures (width_above _ _ (search rules));
-        row = room_row _ _ _ _ _ _ c.width-w.ensures c.requires.filled_from.0.held_room c.loop-v.invariant.held_long c.requires.filled_from.1.1;
-    }
+  v_bound = rw c.width-w.ensures (width_above _ _ (search rules));
+  row = room_row _ _ _ _ _ _ c.width-w.ensures c.requires.filled_from.0.held_room c.loop-v.invariant.held_long c.requires.filled_from.1.1;
+}
 
 pub word-v-requires-in-loop-v : goal.word-v-requires-in-loop-v
 unfolding program columns

@@ -1,16 +1,7 @@
 use Prim.Native.Nat.{◌-◌}
-use native.Mathlib.Omega.{arith}
-use Rattle.model.specs.Words.{columns}
 use Rattle.model.specs.Rows.{program}
 use Rattle.model.specs.Tables.{tables}
-use Rattle.model.specs.Closed.{is_same_constructor}
-use Rattle.lists.proofs.Facts.{rows_fit, columns_whole}
-use Rattle.values.proofs.Gathered.{width_above, room_row}
-use Rattle.matching.specs.Patterns.{is_build}
-use Rattle.matching.proofs.Chains.{build_first, build_next}
-use Rattle.matching.proofs.Subpatterns.{pattern_stands, pattern_constructor}
-use Rattle.matching_sets.proofs.Filling.{fill_match, Filling, filling_begin, filling_next, filling_over, still, still_clear, same_room}
-use borrow.Author.Rules.{rules}
+use Rattle.matching_sets.proofs.Filling.{Filling}
 use Rattle.matching_sets.proofs.patterns.fill_pattern.Given as goal
 
 abbrev pub invariant-loop-v : goal.invariant-loop-v

@@ -1,7 +1,4 @@
-use Prim.Native.Nat.{◌≤◌}
-use mathlib.Core.Path.{◌≡◌, refl, sym, ◌∙◌}
-use lib.ListN.{length}
-use Rattle.matching_sets.specs.Sets.{FilledFrom}
+use mathlib.Core.Path.{refl, sym, ◌∙◌}
 use Rattle.matching_sets.proofs.Filling.{matches_down, one_up, fill_builds, filled_none, filled_skip, filled_joined}
 use borrow.Author.Rules.{rules}
 use Rattle.matching_sets.proofs.patterns.fill_patterns.Goals as goal
@@ -14,9 +11,9 @@ tag-kind-requires c = c.requires.fill_ready.ready.whole
 
 pub fill_pattern-requires : goal.fill_pattern-requires
 fill_pattern-requires c = record {
-        fill_ready = c.requires.fill_ready;
-        filled_from = (rw (one_up c.loop-q.q (search rules)) c.loop-q.invariant.1, (sym c.tag-kind.ensures ∙ c.if-kind-eq-TAG_PATTERN_CONSTRUCTOR.true, search rules));
-    }
+  fill_ready = c.requires.fill_ready;
+  filled_from = (rw (one_up c.loop-q.q (search rules)) c.loop-q.invariant.1, (sym c.tag-kind.ensures ∙ c.if-kind-eq-TAG_PATTERN_CONSTRUCTOR.true, search rules));
+}
 
 pub loop-q-preserved-then-kind-eq-TAG_PATTERN_CONSTRUCTOR : goal.loop-q-preserved-then-kind-eq-TAG_PATTERN_CONSTRUCTOR
 loop-q-preserved-then-kind-eq-TAG_PATTERN_CONSTRUCTOR c = (search rules, c.fill_pattern.ensures, (search rules, search rules))
@@ -26,8 +23,8 @@ fill_equals-requires c =
     let h = c.requires.fill_ready in
     let f = c.loop-q.invariant.1 in
     record {
-        build_ready = fill_builds h;
-        held_name = record {
+      build_ready = fill_builds h;
+      held_name = record {
         names = h.names;
         row = f.may_room.row _ (search rules);
         clear = rw (one_up c.loop-q.q (search rules)) f.may_clear;

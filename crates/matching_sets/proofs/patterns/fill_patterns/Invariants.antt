@@ -1,9 +1,7 @@
 use Prim.Native.Nat.{◌≤◌}
-use mathlib.Core.Path.{◌≡◌, refl, sym, ◌∙◌}
+use mathlib.Core.Path.{◌≡◌}
 use lib.ListN.{length}
 use Rattle.matching_sets.specs.Sets.{FilledFrom}
-use Rattle.matching_sets.proofs.Filling.{matches_down, one_up, fill_builds, filled_none, filled_skip, filled_joined}
-use borrow.Author.Rules.{rules}
 use Rattle.matching_sets.proofs.patterns.fill_patterns.Given as goal
 
 abbrev pub invariant-loop-q : goal.invariant-loop-q

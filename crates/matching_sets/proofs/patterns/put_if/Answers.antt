@@ -1,4 +1,3 @@
-use borrow.Author.Rules.{rules}
 use Rattle.matching_sets.proofs.Filling.{put_taken, put_left}
 use Rattle.matching_sets.proofs.patterns.put_if.Goals as goal
 

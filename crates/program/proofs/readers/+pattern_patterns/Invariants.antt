@@ -1,14 +1,8 @@
-use borrow.Author.Rules.{rules}
-use Prim.Native.Nat.{ℕ, ◌+◌, ◌*◌, ◌-◌, ◌≤◌, ◌<◌}
-use native.Mathlib.Omega.{arith}
-use mathlib.Core.Path.{◌≡◌, refl, sym, ◌∙◌}
-use mathlib.Core.List.{[], ◌∷◌}
+use Prim.Native.Nat.{◌+◌, ◌*◌, ◌-◌, ◌≤◌}
+use mathlib.Core.Path.{◌≡◌}
 use lib.ListN.{replicate}
-use borrow.Author.Tests.{lt-ltb, le-ltb, eq-eqb, ne_eqb}
-use Rattle.model.specs.Rows.{program, pattern, arity}
+use Rattle.model.specs.Rows.{program, pattern}
 use Rattle.program.specs.Rows.{from}
-use Rattle.program.proofs.Items.{pattern_named, pattern_31, pattern_32, pattern_other, pattern_none}
-use Rattle.program.proofs.Reading.{past_answer, wrong_answer, came_past, came_wrong, replicate_past, replicate_wrong, replicate_none, replicate_by, from_stop, past_upto, takes_row, last_row, refuses_row, yes_fits, no_fits}
 use Rattle.program.proofs.readers.+pattern_patterns.Given as goal
 
 abbrev pub decreases-pattern : goal.decreases-pattern

@@ -14,9 +14,9 @@ names-requires c = record { whole = search rules; r_le_rows = (search rules, ref
 pub counted-requires : goal.counted-requires
 unfolding listed
 counted-requires c = record {
-        whole = search rules;
-        r_le_rows = ((past_upto _ _ (replicate 1 (listed_item 21)) _ _ _ (search rules) c.names.ensures c.in-Past.is).1, refl);
-    }
+  whole = search rules;
+  r_le_rows = ((past_upto _ _ (replicate 1 (listed_item 21)) _ _ _ (search rules) c.names.ensures c.in-Past.is).1, refl);
+}
 
 pub returns-in-Past : goal.returns-in-Past
 unfolding listed_item counted_items

@@ -1,13 +1,8 @@
-use Prim.Native.Nat.{◌+◌, ◌-◌, ◌≤◌, ◌<◌}
-use native.Mathlib.Omega.{arith}
-use mathlib.Core.Path.{◌≡◌, refl, ◌∙◌}
+use Prim.Native.Nat.{◌-◌, ◌≤◌}
+use mathlib.Core.Path.{◌≡◌}
 use lib.ListN.{replicate}
-use borrow.Author.Rules.{rules}
-use borrow.Author.Tests.{not-true, not-false}
 use Rattle.model.specs.Rows.{program, constructor}
 use Rattle.program.specs.Rows.{from}
-use Rattle.program.proofs.Items.{constructor_says}
-use Rattle.program.proofs.Reading.{past_answer, wrong_answer, replicate_none, rows_turn, rows_halt}
 use Rattle.program.proofs.readers.constructors.Given as goal
 
 abbrev pub invariant-loop-left : goal.invariant-loop-left

@@ -1,13 +1,8 @@
-use Prim.Native.Nat.{◌+◌, ◌-◌, ◌≤◌, ◌<◌}
-use native.Mathlib.Omega.{arith}
-use mathlib.Core.Path.{◌≡◌, refl, ◌∙◌}
+use Prim.Native.Nat.{◌-◌, ◌≤◌}
+use mathlib.Core.Path.{◌≡◌}
 use lib.ListN.{replicate}
-use borrow.Author.Rules.{rules}
-use borrow.Author.Tests.{not-true, not-false}
 use Rattle.model.specs.Rows.{program}
 use Rattle.program.specs.Rows.{from, listed_item}
-use Rattle.program.proofs.Items.{listed_says}
-use Rattle.program.proofs.Reading.{past_answer, wrong_answer, replicate_none, rows_turn, rows_halt}
 use Rattle.program.proofs.readers.names.Given as goal
 
 abbrev pub invariant-loop-left : goal.invariant-loop-left

@@ -1,6 +1,5 @@
 use mathlib.Core.Path.{ap}
 use lib.Dec.{ltb}
-use borrow.Author.Rules.{rules}
 use Rattle.program.proofs.Items.{both, not_both}
 use Rattle.program.proofs.rows.is_row.Goals as goal
 

@@ -1,6 +1,5 @@
 use mathlib.Core.Path.{ap}
 use lib.Dec.{leb}
-use borrow.Author.Rules.{rules}
 use Rattle.program.proofs.Items.{both, not_both}
 use Rattle.program.proofs.rows.is_small_row.Goals as goal
 

@@ -1,4 +1,3 @@
-use borrow.Author.Rules.{rules}
 use Rattle.model.specs.Words.{right, columns}
 use Rattle.model.specs.Rows.{program, num}
 use Rattle.program.proofs.rows.num.Goals as goal

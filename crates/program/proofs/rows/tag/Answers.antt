@@ -1,4 +1,3 @@
-use borrow.Author.Rules.{rules}
 use Rattle.model.specs.Words.{left, columns}
 use Rattle.model.specs.Rows.{program, tag}
 use Rattle.program.proofs.rows.tag.Goals as goal

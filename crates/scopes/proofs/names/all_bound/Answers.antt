@@ -1,11 +1,9 @@
-use Prim.Native.Nat.{◌≤◌, ◌-◌}
+use Prim.Native.Nat.{◌-◌}
 use native.Mathlib.Omega.{arith}
-use mathlib.Core.Path.{◌≡◌, refl, sym, ◌∙◌}
-use Rattle.model.specs.Index.{all}
+use mathlib.Core.Path.{refl, sym, ◌∙◌}
 use Rattle.model.specs.Words.{columns}
 use Rattle.model.specs.Rows.{program}
 use Rattle.model.proofs.Index.{all_end, all_hit, all_miss}
-use Rattle.scopes.specs.Tables.{is_bound}
 use Rattle.scopes.proofs.Binding.{is_bound_yes, is_bound_no}
 use borrow.Author.Rules.{rules}
 use Rattle.scopes.proofs.names.all_bound.Goals as goal

@@ -1,13 +1,8 @@
 use Prim.Native.Nat.{◌≤◌, ◌-◌}
-use native.Mathlib.Omega.{arith}
-use mathlib.Core.Path.{◌≡◌, refl, sym, ◌∙◌}
+use mathlib.Core.Path.{◌≡◌}
 use Rattle.model.specs.Index.{all}
-use Rattle.model.specs.Words.{columns}
 use Rattle.model.specs.Rows.{program}
-use Rattle.model.proofs.Index.{all_end, all_hit, all_miss}
 use Rattle.scopes.specs.Tables.{is_bound}
-use Rattle.scopes.proofs.Binding.{is_bound_yes, is_bound_no}
-use borrow.Author.Rules.{rules}
 use Rattle.scopes.proofs.names.all_bound.Given as goal
 
 abbrev pub invariant-loop-n : goal.invariant-loop-n

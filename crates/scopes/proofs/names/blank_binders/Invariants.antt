@@ -1,13 +1,8 @@
-use Prim.Native.Nat.{◌-◌, ◌≤◌, ◌<◌}
-use native.Mathlib.Decide.{ℕ_discrete}
-use native.Mathlib.Omega.{arith}
-use mathlib.Core.Path.{◌≡◌, refl, ◌∙◌, ap}
-use lib.ListN.{length, length-set, get_or, set}
-use lib.Seq.{get_or-set_same, get_or-set_other}
-use Rattle.model.specs.Words.{columns}
+use Prim.Native.Nat.{◌-◌, ◌≤◌}
+use mathlib.Core.Path.{◌≡◌}
+use lib.ListN.{length}
 use Rattle.model.specs.Rows.{program}
 use Rattle.scopes.specs.Tables.{Unbound}
-use borrow.Author.Rules.{rules}
 use Rattle.scopes.proofs.names.blank_binders.Given as goal
 
 abbrev pub invariant-loop-n : goal.invariant-loop-n

@@ -1,14 +1,13 @@
-use Prim.Native.Nat.{◌≤◌, ◌-◌}
+use Prim.Native.Nat.{◌-◌}
 use native.Mathlib.Omega.{arith}
 use native.Mathlib.Nat.{le_refl}
-use mathlib.Core.Path.{◌≡◌, refl, sym, ◌∙◌, ap}
-use lib.ListN.{length, length-set}
+use mathlib.Core.Path.{refl, sym, ◌∙◌, ap}
+use lib.ListN.{length-set}
 use Rattle.model.specs.Words.{columns}
 use Rattle.model.specs.Rows.{program}
 use Rattle.model.specs.Scopes.{binds, binds_name}
 use Rattle.model.proofs.Index.{first_end}
-use Rattle.scopes.proofs.Binding.{Binders, binders_set, binders_keep, binders_all, binds_no_name, binds_nothing}
-use borrow.Author.Rules.{rules}
+use Rattle.scopes.proofs.Binding.{binders_set, binders_keep, binders_all, binds_no_name, binds_nothing}
 use Rattle.scopes.proofs.names.fill_binders.Goals as goal
 
 pub loop-r-init : goal.loop-r-init

@@ -1,9 +1,6 @@
-use Prim.Native.Nat.{◌≤◌, ◌-◌}
+use Prim.Native.Nat.{◌-◌}
 use native.Mathlib.Omega.{arith}
-use mathlib.Core.Path.{◌≡◌, refl, sym, ◌∙◌}
-use Rattle.model.specs.Index.{first}
-use Rattle.model.specs.Rows.{program}
-use Rattle.model.specs.Scopes.{bound_again}
+use mathlib.Core.Path.{refl, sym, ◌∙◌}
 use Rattle.model.proofs.Index.{first_end, first_hit, first_miss}
 use borrow.Author.Rules.{rules}
 use Rattle.scopes.proofs.names.first_again.Goals as goal

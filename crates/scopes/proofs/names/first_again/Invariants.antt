@@ -1,11 +1,8 @@
 use Prim.Native.Nat.{◌≤◌, ◌-◌}
-use native.Mathlib.Omega.{arith}
-use mathlib.Core.Path.{◌≡◌, refl, sym, ◌∙◌}
+use mathlib.Core.Path.{◌≡◌}
 use Rattle.model.specs.Index.{first}
 use Rattle.model.specs.Rows.{program}
 use Rattle.model.specs.Scopes.{bound_again}
-use Rattle.model.proofs.Index.{first_end, first_hit, first_miss}
-use borrow.Author.Rules.{rules}
 use Rattle.scopes.proofs.names.first_again.Given as goal
 
 abbrev pub invariant-loop-r : goal.invariant-loop-r

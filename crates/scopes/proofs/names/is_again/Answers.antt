@@ -5,7 +5,6 @@ use Rattle.model.specs.Rows.{program}
 use Rattle.model.specs.Scopes.{binds}
 use Rattle.layout.proofs.Visits.{bound_below}
 use Rattle.scopes.proofs.Binding.{again_is, never_again}
-use borrow.Author.Rules.{rules}
 use Rattle.scopes.proofs.names.is_again.Goals as goal
 
 pub returns-then-binds : goal.returns-then-binds

@@ -1,13 +1,12 @@
 use Prim.Native.Nat.{◌-◌, ◌≤◌, ◌<◌}
-use lib.ListN.{length, length-set}
+use lib.ListN.{length-set}
 use Rattle.model.specs.Words.{columns}
 use Rattle.model.specs.Rows.{program, is_head_of}
 use Rattle.model.specs.Scopes.{next_head}
 use native.Mathlib.Omega.{arith}
 use native.Mathlib.Nat.{le_refl}
-use mathlib.Core.Logic.{⊎_elim}
 use mathlib.Core.Path.{◌≡◌, refl, sym, ◌∙◌, ap}
-use Rattle.scopes.proofs.Scoping.{Heads, heads_set, head_here, head_behind, head_end}
+use Rattle.scopes.proofs.Scoping.{heads_set, head_here, head_behind, head_end}
 use Rattle.scopes.proofs.scope.fill_next_heads.Goals as goal
 use Rattle.scopes.proofs.scope.fill_next_heads.Goals.{then-is_head, else-is_head}
 
@@ -34,8 +33,8 @@ overflow_cast-table c =
     let more = c.loop-r-test.true in
     let below : l.r - 1 < c.args.s.rows = omega (arith, more, l.invariant.0) in
     elim c.if-is_head.branch [
-      then-is_head w ↦ (omega (arith, w.head-is, l.invariant.0), w.head-is ∙ head_here _ (l.r - 1) below (e ∙ w.if-is_head.true))
-    | else-is_head w ↦ (omega (arith, w.head-is, l.invariant.2), head_behind _ l.r (l.r - 1) _ (omega (arith, more)) below (e ∙ w.if-is_head.false) (w.head-is ∙ l.invariant.3))
+      | then-is_head w ↦ (omega (arith, w.head-is, l.invariant.0), w.head-is ∙ head_here _ (l.r - 1) below (e ∙ w.if-is_head.true))
+      | else-is_head w ↦ (omega (arith, w.head-is, l.invariant.2), head_behind _ l.r (l.r - 1) _ (omega (arith, more)) below (e ∙ w.if-is_head.false) (w.head-is ∙ l.invariant.3))
     ] in omega (arith, joined_here.0, c.requires.whole.rows)
 
 pub offset_bounds-table-r : goal.offset_bounds-table-r
@@ -57,8 +56,8 @@ loop-r-preserved c =
     let more = c.loop-r-test.true in
     let below : l.r - 1 < c.args.s.rows = omega (arith, more, l.invariant.0) in
     elim c.if-is_head.branch [
-      then-is_head w ↦ (omega (arith, w.head-is, l.invariant.0), w.head-is ∙ head_here _ (l.r - 1) below (e ∙ w.if-is_head.true))
-    | else-is_head w ↦ (omega (arith, w.head-is, l.invariant.2), head_behind _ l.r (l.r - 1) _ (omega (arith, more)) below (e ∙ w.if-is_head.false) (w.head-is ∙ l.invariant.3))
+      | then-is_head w ↦ (omega (arith, w.head-is, l.invariant.0), w.head-is ∙ head_here _ (l.r - 1) below (e ∙ w.if-is_head.true))
+      | else-is_head w ↦ (omega (arith, w.head-is, l.invariant.2), head_behind _ l.r (l.r - 1) _ (omega (arith, more)) below (e ∙ w.if-is_head.false) (w.head-is ∙ l.invariant.3))
     ] in
     let l = c.loop-r in
     let j = joined_here in (

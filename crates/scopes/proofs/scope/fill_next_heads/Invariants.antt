@@ -1,13 +1,9 @@
-use Prim.Native.Nat.{◌-◌, ◌≤◌, ◌<◌}
-use lib.ListN.{length, length-set}
-use Rattle.model.specs.Words.{columns}
-use Rattle.model.specs.Rows.{program, is_head_of}
+use Prim.Native.Nat.{◌-◌, ◌≤◌}
+use lib.ListN.{length}
+use Rattle.model.specs.Rows.{program}
 use Rattle.model.specs.Scopes.{next_head}
-use native.Mathlib.Omega.{arith}
-use native.Mathlib.Nat.{le_refl}
-use mathlib.Core.Logic.{⊎_elim}
-use mathlib.Core.Path.{◌≡◌, refl, sym, ◌∙◌, ap}
-use Rattle.scopes.proofs.Scoping.{Heads, heads_set, head_here, head_behind, head_end}
+use mathlib.Core.Path.{◌≡◌}
+use Rattle.scopes.proofs.Scoping.{Heads}
 use Rattle.scopes.proofs.scope.fill_next_heads.Given as goal
 
 abbrev pub invariant-loop-r : goal.invariant-loop-r

@@ -2,10 +2,7 @@ use Prim.Native.Nat.{◌-◌, ◌≤◌}
 use Rattle.model.specs.Index.{first}
 use Rattle.model.specs.Rows.{program}
 use Rattle.model.specs.Scopes.{out_of_scope}
-use Rattle.model.proofs.Index.{first_end, first_hit, first_miss}
-use native.Mathlib.Omega.{arith}
-use mathlib.Core.Path.{◌≡◌, refl, sym, ◌∙◌}
-use borrow.Author.Rules.{rules}
+use mathlib.Core.Path.{◌≡◌}
 use Rattle.scopes.proofs.scope.first_out.Given as goal
 
 abbrev pub invariant-loop-r : goal.invariant-loop-r

@@ -2,7 +2,6 @@ use Rattle.model.specs.Words.{columns}
 use Rattle.model.specs.Rows.{program, is_head_of}
 use mathlib.Core.Path.{sym, ◌∙◌, ap}
 use Rattle.scopes.proofs.Scoping.{holds_rest, holds_next}
-use borrow.Author.Rules.{rules}
 use Rattle.scopes.proofs.scope.holds_in.Goals as goal
 
 pub tag-requires : goal.tag-requires

@@ -3,7 +3,6 @@ use Rattle.model.specs.Rows.{program}
 use native.Mathlib.Omega.{arith}
 use mathlib.Core.Path.{sym, ◌∙◌}
 use Rattle.scopes.proofs.Scoping.{scope_global, scope_before, scope_within, holds_end}
-use borrow.Author.Rules.{rules}
 use Rattle.scopes.proofs.scope.is_in_scope.Goals as goal
 
 pub returns-then-tag-eq-TAG_GLOBAL : goal.returns-then-tag-eq-TAG_GLOBAL

@@ -1,13 +1,11 @@
 use Rattle.model.specs.Words.{columns}
 use Rattle.model.specs.Rows.{program, tag}
 use Rattle.model.specs.Scopes.{uses, binder}
-use borrow.Author.Tests.{not-true, not-false}
 use Rattle.layout.proofs.Visits.{used_below}
 use native.Mathlib.Omega.{arith}
 use mathlib.Core.Bool.{true}
 use mathlib.Core.Path.{◌≡◌, sym, ◌∙◌, ap}
 use Rattle.scopes.proofs.Scoping.{out_unused, out_unbound, out_by, binder_binds}
-use borrow.Author.Rules.{rules}
 use Rattle.scopes.proofs.scope.is_out.Goals as goal
 
 pub returns-then-not-uses : goal.returns-then-not-uses

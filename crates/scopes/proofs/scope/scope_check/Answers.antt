@@ -4,7 +4,6 @@ use Rattle.model.specs.Words.{columns}
 use Rattle.model.specs.Rows.{program}
 use Rattle.scopes.proofs.Binding.{first_whole}
 use Rattle.scopes.proofs.Scoping.{scope_out, scopes_pass}
-use borrow.Author.Rules.{rules}
 use Rattle.scopes.proofs.scope.scope_check.Goals as goal
 
 pub fill_next_heads-requires : goal.fill_next_heads-requires

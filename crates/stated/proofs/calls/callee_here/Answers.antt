@@ -1,4 +1,3 @@
-use borrow.Author.Rules.{rules}
 use mathlib.Core.Path.{sym, ◌∙◌}
 use Rattle.model.specs.Tables.{state_at}
 use Rattle.branches.proofs.Walk.{state_there}

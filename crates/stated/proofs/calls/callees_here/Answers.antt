@@ -1,15 +1,11 @@
-use Prim.Native.Nat.{◌-◌, ◌≤◌}
+use Prim.Native.Nat.{◌-◌}
 use native.Mathlib.Omega.{arith}
-use mathlib.Core.Path.{◌≡◌, sym, ◌∙◌}
-use borrow.Author.Tests.{not-true, not-false}
-use Rattle.model.specs.Index.{all}
+use mathlib.Core.Path.{sym, ◌∙◌}
 use Rattle.model.specs.Rows.{program}
-use Rattle.model.specs.Tables.{tables, state_at}
 use Rattle.model.proofs.Index.{all_hit, all_miss, all_end}
-use Rattle.stated.specs.Stated.{callees_of}
 use Rattle.asks.proofs.Rows.{row_below, read_name}
 use Rattle.asks.proofs.Ranges.{starts_range}
-use Rattle.stated.proofs.Giving.{callee_at, callees_all, callee_told}
+use Rattle.stated.proofs.Giving.{callees_all, callee_told}
 use borrow.Author.Rules.{rules}
 use Rattle.stated.proofs.calls.callees_here.Goals as goal
 

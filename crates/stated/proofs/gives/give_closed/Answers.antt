@@ -3,7 +3,6 @@ use mathlib.Core.Path.{ap}
 use native.Mathlib.Omega.{arith}
 use Rattle.lists.proofs.Facts.{states_rise}
 use Rattle.stated.proofs.Giving.{return_some, return_low, give_here, call_name, rest_here, heads_upto, gives_nothing, gives_none, gives_lack, gives_on, name_given}
-use borrow.Author.Rules.{rules}
 use Rattle.stated.proofs.gives.give_closed.Goals as goal
 
 pub returns-then-call-s : goal.returns-then-call-s
@@ -23,9 +22,9 @@ num-name-requires c = c.requires.flow_ready.ready.whole
 
 pub includes-requires : goal.includes-requires
 includes-requires c = record {
-        flow_sets = c.requires.flow_ready.names;
-        a_lt_names = (give_here c.requires.flow_ready.ready _ _ c.requires.i_lt_states.1 c.num-given.ensures, call_name c.requires.flow_ready.ready _ _ (return_some c.requires.flow_ready.ready _ _ c.requires.i_lt_states.0 c.state_return-call.ensures c.if-call-s.false) c.num-name.ensures);
-    }
+  flow_sets = c.requires.flow_ready.names;
+  a_lt_names = (give_here c.requires.flow_ready.ready _ _ c.requires.i_lt_states.1 c.num-given.ensures, call_name c.requires.flow_ready.ready _ _ (return_some c.requires.flow_ready.ready _ _ c.requires.i_lt_states.0 c.state_return-call.ensures c.if-call-s.false) c.num-name.ensures);
+}
 
 pub returns-then-not-includes : goal.returns-then-not-includes
 returns-then-not-includes c = name_given _ _ _ _ _ _ c.num-given.ensures (gives_lack _ _ (states_rise c.requires.flow_ready.ready) _ _ _ _ _ _ c.state_return-call.ensures c.state_class-c.ensures c.heads_from-from.ensures c.heads_to-to.ensures _ _ c.if-from-to.false c.num-name.ensures c.includes.ensures (ap not c.if-not-includes.true))

@@ -1,10 +1,7 @@
 use Prim.Native.Nat.{◌-◌}
-use mathlib.Core.Path.{◌≡◌, refl, sym, ◌∙◌}
+use mathlib.Core.Path.{refl, sym, ◌∙◌}
 use borrow.Author.Tests.{lt-ltb, le-ltb}
-use Rattle.model.specs.Index.{all}
-use Rattle.model.specs.Tables.{tables}
 use Rattle.model.proofs.Index.{all_hit, all_miss, all_end}
-use Rattle.stated.specs.Stated.{goes_on}
 use Rattle.stated.proofs.Giving.{goes_told}
 use borrow.Author.Rules.{rules}
 use Rattle.stated.proofs.gives.go_on.Goals as goal

@@ -1,12 +1,8 @@
 use Prim.Native.Nat.{◌-◌}
-use mathlib.Core.Path.{◌≡◌, refl, sym, ◌∙◌}
-use borrow.Author.Tests.{lt-ltb, le-ltb}
+use mathlib.Core.Path.{◌≡◌}
 use Rattle.model.specs.Index.{all}
 use Rattle.model.specs.Tables.{tables}
-use Rattle.model.proofs.Index.{all_hit, all_miss, all_end}
 use Rattle.stated.specs.Stated.{goes_on}
-use Rattle.stated.proofs.Giving.{goes_told}
-use borrow.Author.Rules.{rules}
 use Rattle.stated.proofs.gives.go_on.Given as goal
 
 abbrev pub invariant-loop-j : goal.invariant-loop-j

@@ -1,4 +1,3 @@
-use borrow.Author.Rules.{rules}
 use native.Mathlib.Omega.{arith}
 use mathlib.Core.Path.{sym, ◌∙◌}
 use Rattle.model.specs.Words.{columns}
@@ -17,9 +16,9 @@ give_closed-requires c = record { flow_ready = closure_flow c.requires.closure_r
 
 pub call_closed-requires : goal.call_closed-requires
 call_closed-requires c = record {
-        starts_ready = closure_starts c.requires.closure_ready;
-        r_value = ((sym c.tag.ensures ∙ c.in-4.is), c.requires.state_asked.settled.asked (omega (arith, (sym c.tag.ensures ∙ c.in-4.is))) (omega (arith, (sym c.tag.ensures ∙ c.in-4.is))));
-    }
+  starts_ready = closure_starts c.requires.closure_ready;
+  r_value = ((sym c.tag.ensures ∙ c.in-4.is), c.requires.state_asked.settled.asked (omega (arith, (sym c.tag.ensures ∙ c.in-4.is))) (omega (arith, (sym c.tag.ensures ∙ c.in-4.is))));
+}
 
 pub self_closed-requires : goal.self_closed-requires
 self_closed-requires c = record { layout_ready = closure_layout c.requires.closure_ready; flow_sets = (c.requires.closure_ready.names, (c.requires.state_asked.low, (sym c.tag.ensures ∙ c.in-7.is))) }
@@ -35,9 +34,9 @@ overflow_add-r-in-8 c = omega (arith, (row_below c.requires.closure_ready.ready 
 
 pub branches_here-requires : goal.branches_here-requires
 branches_here-requires c = record {
-        layout_ready = closure_layout c.requires.closure_ready;
-        i_lt_states = (c.requires.state_asked.low, (case_here c.requires.closure_ready.ready _ (sym c.tag.ensures ∙ c.in-8.is) _ c.num-count.ensures).0);
-    }
+  layout_ready = closure_layout c.requires.closure_ready;
+  i_lt_states = (c.requires.state_asked.low, (case_here c.requires.closure_ready.ready _ (sym c.tag.ensures ∙ c.in-8.is) _ c.num-count.ensures).0);
+}
 
 pub num-number-requires : goal.num-number-requires
 num-number-requires c = c.requires.closure_ready.ready.whole
@@ -53,8 +52,8 @@ unfolding program columns
 taken_bits-bits-requires c =
     let (run, few) = receive_here c.requires.closure_ready.ready _ (sym c.tag.ensures ∙ c.in-9.is) _ c.num-number.ensures in
     record {
-        cases = closure_match c.requires.closure_ready;
-        branches_asked = record { row = rw c.mail_set-set.ensures (c.requires.closure_ready.classes.of_class _ ((class_some c.requires.closure_ready.ready _ _ c.requires.state_asked.low c.state_class-c.ensures))).row; run = run; few = few };
+      cases = closure_match c.requires.closure_ready;
+      branches_asked = record { row = rw c.mail_set-set.ensures (c.requires.closure_ready.classes.of_class _ ((class_some c.requires.closure_ready.ready _ _ c.requires.state_asked.low c.state_class-c.ensures))).row; run = run; few = few };
     }
 
 pub overflow_add-r-in-9-2 : goal.overflow_add-r-in-9-2
@@ -62,15 +61,15 @@ overflow_add-r-in-9-2 c = omega (arith, (row_below c.requires.closure_ready.read
 
 pub branches_here-requires-in-9 : goal.branches_here-requires-in-9
 branches_here-requires-in-9 c = record {
-        layout_ready = closure_layout c.requires.closure_ready;
-        i_lt_states = (c.requires.state_asked.low, (receive_here c.requires.closure_ready.ready _ (sym c.tag.ensures ∙ c.in-9.is) _ c.num-number.ensures).0);
-    }
+  layout_ready = closure_layout c.requires.closure_ready;
+  i_lt_states = (c.requires.state_asked.low, (receive_here c.requires.closure_ready.ready _ (sym c.tag.ensures ∙ c.in-9.is) _ c.num-number.ensures).0);
+}
 
 pub rest_closed-requires : goal.rest_closed-requires
 rest_closed-requires c = record {
-        layout_ready = closure_layout c.requires.closure_ready;
-        i_lt_states = (c.requires.state_asked.low, (omega (arith, c.tag.ensures, c.in_default.in_default-own.rest.0.0.0.0.1, (head_some c.requires.closure_ready.ready _ _ c.requires.state_asked.low c.requires.state_asked.location).0), omega (arith, c.tag.ensures, c.in_default.in_default-own.rest.0.1, c.in_default.in_default-own.rest.1, (head_some c.requires.closure_ready.ready _ _ c.requires.state_asked.low c.requires.state_asked.location).1)));
-    }
+  layout_ready = closure_layout c.requires.closure_ready;
+  i_lt_states = (c.requires.state_asked.low, (omega (arith, c.tag.ensures, c.in_default.in_default-own.rest.0.0.0.0.1, (head_some c.requires.closure_ready.ready _ _ c.requires.state_asked.low c.requires.state_asked.location).0), omega (arith, c.tag.ensures, c.in_default.in_default-own.rest.0.1, c.in_default.in_default-own.rest.1, (head_some c.requires.closure_ready.ready _ _ c.requires.state_asked.low c.requires.state_asked.location).1)));
+}
 
 pub returns-in-1 : goal.returns-in-1
 returns-in-1 c = stated_give _ _ _ _ _ (location_at _ _ _ c.requires.state_asked.location) c.tag.ensures _ _ c.in-1.is c.give_closed.ensures c.unless.ensures
