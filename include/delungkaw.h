@@ -1,4 +1,4 @@
-/* The proved verifier, for C and C++ on x86-64. `rt staticlib verifier` writes target/staticlib/libverifier.a; link it and nothing else
+/* The proved verifier, for C and C++ on x86-64. `./staticlib` writes target/staticlib/libverifier.a; link it and nothing else
  * but the C library, of which it uses memcpy and memset. examples/c and examples/rust show its use. */
 #ifndef DELUNGKAW_H
 #define DELUNGKAW_H
@@ -40,7 +40,7 @@ enum delungkaw_verdict {
  * What it takes. `message` are `length` bytes, which are only read. `lent` are `words` words for the system. The verdict's place goes to `*place`,
  * the length in bytes of the part handed on to `*part`. Any bytes and any number of words will do, 0 too; nothing has to hold of them.
  *
- * What holds afterwards, which is proved (crates/verifier/src/lib.rt has it as the contract of this function):
+ * What holds afterwards, which is proved (crates/verifier_c/src/lib.rt has it as the contract of this function):
  * - The number is 0 exactly when the message is sound and the lent words suffice. Then no run of the station, of any length and in any order of its
  *   processes, meets one of the bads of the message.
  * - After 0 no mailbox directly holds a function in any run.

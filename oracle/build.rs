@@ -1,4 +1,4 @@
-//! With the feature `proved`: links the proved verifier, the static library that `rt staticlib verifier` writes.
+//! With the feature `proved`: links the proved verifier, the static library that `./staticlib` of the repository writes.
 
 use std::env;
 use std::path::PathBuf;
@@ -21,6 +21,6 @@ fn main() {
     println!("cargo::rustc-link-lib=static=verifier");
     if !library.is_file() {
         let library = library.display();
-        println!("cargo::error={library} is missing: run `rt staticlib verifier`, or name its folder in DELUNGKAW_LIB");
+        println!("cargo::error={library} is missing: run `./staticlib`, or name its folder in DELUNGKAW_LIB");
     }
 }

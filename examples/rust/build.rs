@@ -1,4 +1,4 @@
-//! Says where the proved library is: `rt staticlib verifier` writes it to target/staticlib of the repository.
+//! Says where the proved library is: `./staticlib` writes it to target/staticlib of the repository.
 
 use std::path::Path;
 
@@ -8,6 +8,6 @@ fn main() {
     println!("cargo::rerun-if-changed={}", library.display());
     println!("cargo::rustc-link-search=native={}", folder.display());
     if !library.is_file() {
-        println!("cargo::error={} is missing: run `rt staticlib verifier`", library.display());
+        println!("cargo::error={} is missing: run `./staticlib`", library.display());
     }
 }

@@ -1,7 +1,7 @@
 // What is printed for a case.
 ghost use Rattle.std.specs.Prelude.{◌≡◌, ◌+◌, ◌<◌, ◌≤◌, length};
 ghost use Rattle.model.specs.Verify.{lent_after};
-ghost use Rattle.io.specs.Counts.{IsPrefixLen};
+ghost use Rattle.input.specs.Counts.{IsPrefixLen};
 ghost use Rattle.text.specs.Text.{put_at};
 ghost use Rattle.corpus.specs.Lines.{marks, hex, result_line, case_line};
 

@@ -6,9 +6,12 @@
 mod cases;
 mod digest;
 
-ghost use Rattle.std.specs.Prelude.{◌+◌, ◌<◌, ◌≤◌, length};
+ghost use Rattle.std.specs.Prelude.{◌≡◌, ◌+◌, ◌<◌, ◌≤◌, length};
 
 use cases::{blank_words, put_case};
+use input::read_full;
+use std::io;
+use std::io::{Read, Write};
 
 fn wide(byte: u8) -> usize
     ensures { result < 256 }
@@ -25,48 +28,60 @@ fn number_at(bytes: &[u8], at: usize) -> usize
     low + 65536 * high
 }
 
-// Prints the line of a case: whether that was done.
-fn tell_case(message: &[u8], words: usize) -> bool
+// Room for the longest message of a case.
+fn message_room() -> [u8; 65536]
+    ensures { 65536 ≡ length result }
+{
+    [0; 65536]
+}
+
+// Prints the line of a case.
+fn tell_case<W: Write>(message: &[u8], words: usize, out: &mut W) -> io::Result<()>
     requires { words ≤ 16384 }
 {
     let mut lent = blank_words();
     let mut line = [0u8; 128];
     let n = put_case(message, &mut lent[..words], &mut line);
-    io::write_all(1, &line[..n])
+    out.write_all(&line[..n])
 }
 
-// Reads the next case and prints its line: whether that was done.
-fn run_case() -> bool {
+// Reads the next case and prints its line: whether there was one.
+fn run_case<R: Read, W: Write>(reader: &mut R, out: &mut W) -> io::Result<bool> {
     let mut sizes = [0u8; 8];
-    let got = io::read_full(0, &mut sizes);
+    let got = read_full(reader, &mut sizes)?;
     if got < 8 {
-        return false;
+        return Ok(false);
     }
     let words = number_at(&sizes, 0);
     let size = number_at(&sizes, 4);
     if words > 16384 {
-        return false;
+        return Ok(false);
     }
     if size > 65536 {
-        return false;
+        return Ok(false);
     }
-    let mut message = io::large_buffer();
-    let came = io::read_full(0, &mut message[..size]);
+    let mut message = message_room();
+    let came = read_full(reader, &mut message[..size])?;
     if came < size {
-        return false;
+        return Ok(false);
     }
-    tell_case(&message[..size], words)
+    tell_case(&message[..size], words, out)?;
+    Ok(true)
 }
 
 // The corpus: eight bytes of a name, the number of cases, the cases.
-fn main() {
+fn main(rt: HostRuntime) -> io::Result<()> {
+    let mut reader = rt.stdin();
+    let mut out = rt.stdout();
     let mut head = [0u8; 12];
-    let got = io::read_full(0, &mut head);
+    let got = read_full(&mut reader, &mut head)?;
     if got < 12 {
-        return;
+        return Ok(());
     }
-    let mut left = number_at(&head, 8);
-    while left > 0 && run_case() {
-        left -= 1;
+    for _ in 0..number_at(&head, 8) {
+        if !run_case(&mut reader, &mut out)? {
+            break;
+        }
     }
+    Ok(())
 }

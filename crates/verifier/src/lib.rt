@@ -43,9 +43,9 @@ pub fn verify<'a>(message: &'a [u8], lent: &mut [u32], answer: &mut [usize; 2]) 
     part_of(message, words, v)
 }
 
-// The same for C and Rust: the number; the place, and the length of the part, which begins where the message does.
-#[unsafe(no_mangle)]
-pub extern "C" fn delungkaw_verify(
+// The same as C calls it, which `verifier_c` exports: the number; the place, and the length of the part, which begins where
+// the message does.
+pub fn delungkaw_verify(
     message: &[u8],
     lent: &mut [u32],
     position: &mut usize,

@@ -8,7 +8,7 @@ use lib.ListN.{length, get_or, take, replicate, length-append, length-take, leng
 use lib.Seq.{length-take-le}
 use lib.Dec.{eqb}
 use borrow.Author.Tests.{eq-eqb, ne_eqb}
-use Rattle.io.specs.Counts.{IsPrefixLen}
+use Rattle.input.specs.Counts.{IsPrefixLen}
 use Rattle.model.specs.declared.Verdict.{Verdict}
 use Rattle.model.specs.declared.Verdict.TheVariants.{Safe}
 use Rattle.model.specs.Verdict.{number, place}

@@ -4,14 +4,28 @@
 
 mod tell;
 
+ghost use Rattle.std.specs.Prelude.{IfSome, OnOk, take};
+ghost use Rattle.std.specs.Io.KnownBytes.{Appends};
+ghost use Rattle.verify.specs.Told.{most_read, told};
+
+use input::read_full;
+use std::io;
+use std::io::{Read, Write};
 use tell::{message_room, room, tell};
 
-// The longest message is read whole. What is longer is settled by its beginning: the sizes that the limits allow end
-// before the buffer does, so the answer is the same as for the whole.
-fn main() {
+// Reads a message and writes what is told of it. The longest message is read whole. What is longer is settled by its
+// beginning: the sizes that the limits allow end before the buffer does, so the answer is the same as for the whole.
+fn run<R: Read, W: Write>(reader: &mut R, writer: &mut W) -> io::Result<()>
+    ensures { OnOk result (IfSome (R.remaining reader.old)
+        (λ xs. Appends (W.contents writer.old) (W.contents writer.new) (told (take most_read xs)))) }
+{
     let mut message = message_room();
-    let n = io::read_full(0, &mut message);
+    let n = read_full(reader, &mut message)?;
     let mut text = room();
     let k = tell(&message[..n], &mut text);
-    io::write_all(1, &text[..k]);
+    writer.write_all(&text[..k])
+}
+
+fn main(rt: HostRuntime) -> io::Result<()> {
+    run(&mut rt.stdin(), &mut rt.stdout())
 }

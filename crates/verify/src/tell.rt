@@ -1,6 +1,6 @@
 // What is told of a message, as text.
 ghost use Rattle.std.specs.Prelude.{◌≡◌, ◌≤◌, length, replicate};
-ghost use Rattle.io.specs.Counts.{IsPrefixLen};
+ghost use Rattle.input.specs.Counts.{IsPrefixLen};
 ghost use Rattle.text.specs.Text.{put_at};
 ghost use Rattle.verify.specs.Told.{lent_words, most_read, most_text, told};
 
@@ -49,7 +49,8 @@ pub fn tell(message: &[u8], out: &mut [u8]) -> usize
     let number = answer[0];
     let place = answer[1];
     let at = put_line(out, 0, number as u64, place as u64);
-    if number != 0 {
+    let is_refused = number != 0;
+    if is_refused {
         return at;
     }
     put_system(out, at, &lent)

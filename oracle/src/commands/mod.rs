@@ -21,7 +21,7 @@ use std::io::Read;
 /// What a command for the proved code says in a build that does not have it.
 #[cfg(not(feature = "proved"))]
 pub const WITHOUT_PROVED: &str =
-    "built without the proved code: run `rt staticlib verifier`, then build with `--features proved`";
+    "built without the proved code: run `./staticlib`, then build with `--features proved`";
 
 /// The status that a command ends with, or a word on what went wrong (status 2).
 pub type Answer = Result<u8, String>;
