@@ -1,6 +1,5 @@
 -- Each return is what follows the form of what the message has.
 use native.Mathlib.Omega.{arith}
-use borrow.Author.Rules.{rules}
 use Rattle.stages.specs.Order.{below_bounds}
 use Rattle.stages.proofs.Answering.{by_ceilings, by_weights}
 use Rattle.checks.proofs.Laying.{numbered, lined}

@@ -1,4 +1,4 @@
-use Prim.Native.Nat.{ℕ, ◌<◌, ◌-◌}
+use Prim.Native.Nat.{◌-◌}
 use native.Mathlib.Omega.{arith}
 use borrow.Author.Rules.{rules}
 use Rattle.checks.proofs.Laying.{letters_from, lent_classes, counters_few}
@@ -6,6 +6,9 @@ use Rattle.checks.proofs.system.+sets_verdict.Goals as goal
 
 pub all_letters-requires : goal.all_letters-requires
 all_letters-requires t c = c.requires.lettered
+
+pub slice_bounds-letter_words-start : goal.slice_bounds-letter_words-start
+slice_bounds-letter_words-start t c = let l = letters_from _ _ _ _ _ _ _ c.requires.lettered in search rules
 
 pub slice_bounds-letter_words-count : goal.slice_bounds-letter_words-count
 slice_bounds-letter_words-count t c = omega (arith, letters_from _ _ _ _ _ _ _ c.requires.lettered)

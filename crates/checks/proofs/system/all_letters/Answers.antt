@@ -1,4 +1,3 @@
-use borrow.Author.Rules.{rules}
 use Rattle.checks.proofs.Laying.{letters_lent, all_words}
 use Rattle.checks.proofs.system.all_letters.Goals as goal
 

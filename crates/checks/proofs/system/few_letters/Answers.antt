@@ -1,4 +1,3 @@
-use borrow.Author.Rules.{rules}
 use Rattle.checks.proofs.Laying.{letters_lent}
 use Rattle.checks.proofs.system.few_letters.Goals as goal
 

@@ -1,7 +1,6 @@
 use native.Mathlib.Omega.{arith}
 use mathlib.Core.Path.{refl}
 use Rattle.checks.proofs.Laying.{words_told, words_most}
-use borrow.Author.Rules.{rules}
 use Rattle.checks.proofs.system.letter_words.Goals as goal
 
 pub set_count-sets-requires : goal.set_count-sets-requires

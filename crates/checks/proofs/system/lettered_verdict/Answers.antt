@@ -4,6 +4,9 @@ use Rattle.stages.proofs.Answering.{below_told}
 use Rattle.checks.proofs.Laying.{letters_from, lent_classes, counters_few, match_tables, rule_tables, owners_kept}
 use Rattle.checks.proofs.system.lettered_verdict.Goals as goal
 
+pub slice_bounds-letter_at-start : goal.slice_bounds-letter_at-start
+slice_bounds-letter_at-start c = let l = letters_from _ _ _ _ _ _ _ c.requires.lettered in search rules
+
 pub slice_bounds-letter_at-count : goal.slice_bounds-letter_at-count
 slice_bounds-letter_at-count c = omega (arith, letters_from _ _ _ _ _ _ _ c.requires.lettered)
 

@@ -1,7 +1,6 @@
 use native.Mathlib.Omega.{arith}
 use mathlib.Core.Path.{refl, sym, ap, ◌∙◌}
 use borrow.Author.Rules.{rules}
-use borrow.Author.Tests.{not-true, not-false}
 use Rattle.model.specs.Verify.{answer}
 use Rattle.answers.proofs.Passing.{passed}
 use Rattle.letter_codes.proofs.Capped.{capped_most}
@@ -13,6 +12,9 @@ use Rattle.checks.proofs.system.named_verdict.Goals as goal
 
 pub fill_names-requires : goal.fill_names-requires
 fill_names-requires c = record { ready = c.requires.closed_tables.ready; names_in_bounds = c.requires.names_in_bounds }
+
+pub slice_bounds-fill_codes-start : goal.slice_bounds-fill_codes-start
+slice_bounds-fill_codes-start c = let l = c.requires.closed_tables.room in search rules
 
 pub slice_bounds-fill_codes-count : goal.slice_bounds-fill_codes-count
 slice_bounds-fill_codes-count c = omega (arith, c.requires.closed_tables.room)
@@ -28,9 +30,6 @@ fill_codes-l-requires c =
 pub counters_verdict-counters-requires : goal.counters_verdict-counters-requires
 counters_verdict-counters-requires c = record { ready = c.requires.closed_tables.ready; n_value = c.fill_codes-l.ensures.value }
 
-pub shape_of-names-then-not-is_safe : goal.shape_of-names-then-not-is_safe
-shape_of-names-then-not-is_safe c = c.fill_names.auto.1.1.0
-
 pub returns-then-not-is_safe : goal.returns-then-not-is_safe
 unfolding from_22
 returns-then-not-is_safe c =
@@ -45,9 +44,6 @@ form_verdict-form-requires c = record {
   n_le_max_counters = omega (arith, (all_counted _ _ _ c.fill_codes-l.ensures.value (counters_fit _ _ _ (passed _ _ _ (then_counters_refuse _ _ _) c.counters_verdict-counters.ensures c.is_safe.ensures c.if-not-is_safe.false))).1);
 }
 
-pub shape_of-names-then-not-is_safe-2 : goal.shape_of-names-then-not-is_safe-2
-shape_of-names-then-not-is_safe-2 c = c.fill_names.auto.1.1.0
-
 pub returns-then-not-is_safe-2 : goal.returns-then-not-is_safe-2
 unfolding from_22 from_10
 returns-then-not-is_safe-2 c =
@@ -61,17 +57,14 @@ sets_verdict-requires c =
     record {
       le_most = omega arith;
       lettered = record {
-        closed_tables = closed_kept _ _ _ _ c.fill_codes-l.new.1.1.1.1.0 k c.fill_codes-l.auto.1.1.1.1.0;
+        closed_tables = closed_kept _ _ _ _ c.fill_codes-l.new.letter_at k c.fill_codes-l.auto.letter_at;
         name_heads = c.fill_names.ensures;
-        class_letters = letters_kept _ _ _ _ c.fill_codes-l.new.1.1.1.1.0 k (c.fill_codes-l.ensures.class_letters (omega (arith, all.1)));
+        class_letters = letters_kept _ _ _ _ c.fill_codes-l.new.letter_at k (c.fill_codes-l.ensures.class_letters (omega (arith, all.1)));
         coded = c.fill_codes-l.ensures.coded (omega (arith, all.1));
         formed = record { counted = all.0; in_form = passed _ _ _ (form_refuses _ _ _) c.form_verdict-form.ensures c.is_safe-2.ensures c.if-not-is_safe-2.false; bads = k.bads };
         few = all.1;
       };
     }
-
-pub shape_of-names : goal.shape_of-names
-shape_of-names c = c.fill_names.auto.1.1.0
 
 pub returns : goal.returns
 unfolding from_22 from_10

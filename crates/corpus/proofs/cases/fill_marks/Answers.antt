@@ -1,5 +1,5 @@
-use Rattle.std.proofs.Common.{◌≡◌, ◌-◌, ◌≤◌, length, refl, ◌∙◌, length-set, rules}
-use Rattle.corpus.proofs.Marking.{Marked, marked_none, marked_more, marked_all}
+use Rattle.std.proofs.Common.{◌-◌, refl, ◌∙◌, length-set, rules}
+use Rattle.corpus.proofs.Marking.{marked_none, marked_more, marked_all}
 use Rattle.corpus.proofs.cases.fill_marks.Goals as goal
 
 pub loop-i-init : goal.loop-i-init

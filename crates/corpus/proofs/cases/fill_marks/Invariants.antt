@@ -1,5 +1,5 @@
-use Rattle.std.proofs.Common.{◌≡◌, ◌-◌, ◌≤◌, length, refl, ◌∙◌, length-set, rules}
-use Rattle.corpus.proofs.Marking.{Marked, marked_none, marked_more, marked_all}
+use Rattle.std.proofs.Common.{◌≡◌, ◌-◌, ◌≤◌, length}
+use Rattle.corpus.proofs.Marking.{Marked}
 use Rattle.corpus.proofs.cases.fill_marks.Given as goal
 
 abbrev pub invariant-loop-i : goal.invariant-loop-i

@@ -1,4 +1,3 @@
-use Rattle.std.proofs.Common.{rules}
 use Rattle.corpus.proofs.Lining.{case_put}
 use Rattle.corpus.proofs.cases.put_case.Goals as goal
 

@@ -1,5 +1,3 @@
-use Rattle.std.proofs.Common.{rules}
-use Rattle.corpus.specs.Lines.{hex}
 use Rattle.corpus.proofs.Lining.{hex_put}
 use Rattle.corpus.proofs.cases.put_hex.Goals as goal
 

@@ -1,4 +1,3 @@
-use Rattle.std.proofs.Common.{rules}
 use Rattle.corpus.specs.Digest.{with_byte}
 use Rattle.corpus.proofs.digest.add_byte.Goals as goal
 

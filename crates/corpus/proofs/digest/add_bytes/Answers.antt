@@ -1,5 +1,4 @@
-use Rattle.std.proofs.Common.{◌≡◌, ◌-◌, ◌≤◌, length, drop, refl, ◌∙◌, rules}
-use Rattle.corpus.specs.Digest.{digest_from}
+use Rattle.std.proofs.Common.{◌-◌, refl, rules}
 use Rattle.corpus.proofs.Digesting.{byte_same, bytes_next, bytes_end}
 use Rattle.corpus.proofs.digest.add_bytes.Goals as goal
 

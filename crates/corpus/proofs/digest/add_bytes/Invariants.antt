@@ -1,6 +1,5 @@
-use Rattle.std.proofs.Common.{◌≡◌, ◌-◌, ◌≤◌, length, drop, refl, ◌∙◌, rules}
+use Rattle.std.proofs.Common.{◌≡◌, ◌-◌, ◌≤◌, length, drop}
 use Rattle.corpus.specs.Digest.{digest_from}
-use Rattle.corpus.proofs.Digesting.{byte_same, bytes_next, bytes_end}
 use Rattle.corpus.proofs.digest.add_bytes.Given as goal
 
 abbrev pub invariant-loop-i : goal.invariant-loop-i

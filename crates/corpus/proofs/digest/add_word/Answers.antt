@@ -1,4 +1,3 @@
-use Rattle.std.proofs.Common.{rules}
 use Rattle.corpus.proofs.Digesting.{four_bytes}
 use Rattle.corpus.proofs.digest.add_word.Goals as goal
 

@@ -1,5 +1,4 @@
-use Rattle.std.proofs.Common.{◌≡◌, ◌-◌, ◌≤◌, length, drop, refl, ◌∙◌, rules}
-use Rattle.corpus.specs.Digest.{words_from}
+use Rattle.std.proofs.Common.{◌-◌, refl, rules}
 use Rattle.corpus.proofs.Digesting.{word_same, words_next, words_end}
 use Rattle.corpus.proofs.digest.add_words.Goals as goal
 

@@ -1,6 +1,5 @@
-use Rattle.std.proofs.Common.{◌≡◌, ◌-◌, ◌≤◌, length, drop, refl, ◌∙◌, rules}
+use Rattle.std.proofs.Common.{◌≡◌, ◌-◌, ◌≤◌, length, drop}
 use Rattle.corpus.specs.Digest.{words_from}
-use Rattle.corpus.proofs.Digesting.{word_same, words_next, words_end}
 use Rattle.corpus.proofs.digest.add_words.Given as goal
 
 abbrev pub invariant-loop-i : goal.invariant-loop-i

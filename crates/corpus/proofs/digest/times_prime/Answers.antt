@@ -1,4 +1,4 @@
-use Rattle.std.proofs.Common.{refl, rules}
+use Rattle.std.proofs.Common.{refl}
 use Rattle.corpus.proofs.Digesting.{product}
 use Rattle.corpus.proofs.digest.times_prime.Goals as goal
 

@@ -1,4 +1,3 @@
-use borrow.Author.Rules.{rules}
 use Rattle.verify.proofs.Telling.{tell_refused, tell_safe, system_inside, system_room}
 use Rattle.verify.proofs.tell.tell.Goals as goal
 
