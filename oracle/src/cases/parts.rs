@@ -147,25 +147,25 @@ impl Parts {
     pub fn definitions(&self, section: &Section) -> String {
         let Some(([names, constructors, functions], rows)) = &self.program else { return String::new() };
         let mut words = vec![vec![format!("{}-program", section.name)]];
-        words.extend(self.bads.iter().map(|(bads, rows)| vec![format!("bad-words {bads}"), antt::pairs(rows)]));
+        words.extend(self.bads.iter().map(|(bads, rows)| vec![format!("bad_words {bads}"), antt::pairs(rows)]));
         let tables = |t: &Lists| {
             let triples =
                 t.states.iter().zip(&t.returns).map(|((class, head), back)| format!("({class}, {head}, {back})"));
-            vec!["table-words".to_string(), antt::pairs(&t.flow), antt::pairs(&t.mail), antt::list(triples)]
+            vec!["table_words".to_string(), antt::pairs(&t.flow), antt::pairs(&t.mail), antt::list(triples)]
         };
         words.extend(self.tables.iter().map(tables));
         words.extend(
-            self.bounds.iter().map(|(bounds, entries)| vec![format!("ceiling-words {bounds}"), antt::pairs(entries)]),
+            self.bounds.iter().map(|(bounds, entries)| vec![format!("ceiling_words {bounds}"), antt::pairs(entries)]),
         );
         words.extend(
-            self.weights.iter().map(|(lines, entries)| vec![format!("weight-words {lines}"), antt::pairs(entries)]),
+            self.weights.iter().map(|(lines, entries)| vec![format!("weight_words {lines}"), antt::pairs(entries)]),
         );
         let last = words.len() - 1;
         for part in &mut words[..last] {
             part.last_mut().expect("no part is empty").push_str(" ++");
         }
-        let program = [format!("program-words {names} {constructors} {functions}"), antt::pairs(rows)];
+        let program = [format!("program_words {names} {constructors} {functions}"), antt::pairs(rows)];
         antt::definition(&section.comment(), &format!("{}-program", section.name), "List ℕ", &program)
-            + &antt::definition("", &format!("{}-words", section.name), "List ℕ", &words.concat())
+            + &antt::definition("", &format!("{}_words", section.name), "List ℕ", &words.concat())
     }
 }

@@ -74,8 +74,8 @@ pub fn table(source: &str) -> Result<String, String> {
         }
         names.push(section.name);
     }
-    let all = antt::definition("", "run-stations", "List Program", &[antt::list(&names)]);
-    let table = format!("unfoldable pub run-cases : List Run-case\nrun-cases =\n{cases}{INDENT}[]\n\n");
-    names.extend(["run-stations", "run-cases"].map(str::to_string));
-    Ok(format!("{FRONT}{stations}{all}{table}{}", antt::opens("run-cases-opens", &names)))
+    let all = antt::definition("", "run_stations", "List Program", &[antt::list(&names)]);
+    let table = format!("unfoldable pub run_cases : List RunCase\nrun_cases =\n{cases}{INDENT}[]\n\n");
+    names.extend(["run_stations", "run_cases"].map(str::to_string));
+    Ok(format!("{FRONT}{stations}{all}{table}{}", antt::opens("run_cases_opens", &names)))
 }

@@ -27,20 +27,20 @@ fn numbers(text: &str) -> Result<Vec<usize>, String> {
 /// `words 1 2 3`: these words behind the section's; `byte 7`: one byte behind them; `8=12 17=1`: the section's words with others at these places; nothing: as they are.
 fn given(section: &Section, parts: &Parts, case: &Case) -> Result<Given, String> {
     let mut words = parts.words();
-    let name = format!("{}-words", section.name);
+    let name = format!("{}_words", section.name);
     if let Some(more) = case.given.strip_prefix("words") {
         let more = numbers(more)?;
         words.extend(more.iter().map(|&w| w as u16));
         let list = antt::list(&more);
         let text =
-            if parts.is_empty() { format!("(to-bytes {list})") } else { format!("(to-bytes ({name} ++ {list}))") };
+            if parts.is_empty() { format!("(to_bytes {list})") } else { format!("(to_bytes ({name} ++ {list}))") };
         return Ok(Given { message: to_bytes(&words), text });
     }
     if let Some(byte) = case.given.strip_prefix("byte") {
         let byte = numbers(byte)?;
         let mut message = to_bytes(&words);
         message.extend(byte.iter().map(|&byte| byte as u8));
-        return Ok(Given { message, text: format!("(to-bytes {name} ++ {})", antt::list(&byte)) });
+        return Ok(Given { message, text: format!("(to_bytes {name} ++ {})", antt::list(&byte)) });
     }
     let pair = |edit: &str| {
         let (at, word) = edit.split_once('=').ok_or(format!("{edit}: neither `words` nor `PLACE=WORD`"))?;
@@ -51,8 +51,8 @@ fn given(section: &Section, parts: &Parts, case: &Case) -> Result<Given, String>
         *words.get_mut(at).ok_or(format!("{}: no word {at}", section.name))? = word as u16;
     }
     let text = match edits.len() {
-        0 => format!("(to-bytes {name})"),
-        _ => format!("(to-bytes (changed {name} {}))", antt::pairs(&edits)),
+        0 => format!("(to_bytes {name})"),
+        _ => format!("(to_bytes (changed {name} {}))", antt::pairs(&edits)),
     };
     Ok(Given { message: to_bytes(&words), text })
 }
@@ -82,7 +82,7 @@ impl Tables {
         if outcome.number == 0 && case.given.is_empty() {
             lent.truncate(4 + 2 * lent[3] as usize);
             self.listed
-                .push_str(&format!("{sentence}\n{INDENT}safe {BEYOND} {name}-program {text} {name}-listing ∷\n"));
+                .push_str(&format!("{sentence}\n{INDENT}safe {BEYOND} {name}_program {text} {name}_listing ∷\n"));
             return Ok(Some(lent));
         }
         let (number, place) = (outcome.number, outcome.place);
@@ -111,11 +111,11 @@ pub fn table(source: &str) -> Result<String, String> {
         let parts = Parts::of(&section)?;
         if !parts.is_empty() {
             messages.push_str(&parts.definitions(&section));
-            names.extend(["program", "words"].map(|part| format!("{}-{part}", section.name)));
+            names.extend(["program", "words"].map(|part| format!("{}_{part}", section.name)));
         }
         for case in &section.cases {
             if let Some(listing) = tables.take(&section, &parts, case)? {
-                let name = format!("{}-listing", section.name);
+                let name = format!("{}_listing", section.name);
                 messages.push_str(&listing_definition(&name, &listing));
                 names.push(name);
             }
@@ -124,8 +124,8 @@ pub fn table(source: &str) -> Result<String, String> {
     let whole = |name: &str, kind: &str, cases: &str| {
         format!("unfoldable pub {name} : List {kind}\n{name} =\n{cases}{INDENT}[]\n\n")
     };
-    let verdicts = whole("verdict-cases", "Verdict-case", &tables.verdicts);
-    let listed = whole("listing-cases", "Case", &tables.listed);
-    names.extend(["verdict-cases", "listing-cases"].map(str::to_string));
-    Ok(format!("{FRONT}{messages}{verdicts}{listed}{}", antt::opens("verdict-cases-opens", &names)))
+    let verdicts = whole("verdict_cases", "VerdictCase", &tables.verdicts);
+    let listed = whole("listing_cases", "Case", &tables.listed);
+    names.extend(["verdict_cases", "listing_cases"].map(str::to_string));
+    Ok(format!("{FRONT}{messages}{verdicts}{listed}{}", antt::opens("verdict_cases_opens", &names)))
 }

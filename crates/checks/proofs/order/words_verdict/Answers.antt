@@ -110,7 +110,7 @@ join_tables-requires c =
     record {
       within_limits = l;
       names_in_bounds = (omega (arith, l.names.1, k.starts, c.row_words16-starts.ensures.room), omega (arith, l.states, k.branches, c.row_words16-branches.ensures.room));
-      letter_from_in_bounds = omega (arith, c.fill_ends.auto.narrow, c.rule_words16-narrow.ensures.room);
+      letter_from_in_bounds = omega (arith, c.fill_ends.auto.afters, c.rule_words16-narrow.ensures.room);
     }
 
 pub system_verdict-requires : goal.system_verdict-requires
@@ -122,7 +122,7 @@ system_verdict-requires c =
     let e = passed _ _ _ (entry_refuses _ _ _) c.entry_check-entries.ensures c.is_safe-5.ensures c.if-not-is_safe-5.false in
     let o = passed _ _ _ (open_refuses _ _ _) c.open_verdict-open.ensures.says c.is_safe-6.ensures c.if-not-is_safe-6.false in
     let safe = safe_only _ (sym c.is_safe-6.ensures ∙ c.if-not-is_safe-6.false) in
-    let long : length c.fill_ends.new.narrow ≡ rule_words = c.fill_ends.auto.narrow ∙ c.rule_words16-narrow.ensures.room in
+    let long : length c.fill_ends.new.afters ≡ rule_words = c.fill_ends.auto.afters ∙ c.rule_words16-narrow.ensures.room in
     let found = c.open_verdict-open.ensures in
     closed_tables _ _ _ _ _ _ _ (ready _ _ c.requires.parts_whole (program_passes _ r u h) e) (ceilings_whole _ _ c.requires.parts_whole) ((bad_none _ _ _).0 b) o long c.fill_ends.ensures (found.begins safe) (found.fits safe) (found.bits safe) c.join_tables.ensures
 
