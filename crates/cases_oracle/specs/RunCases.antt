@@ -1,6 +1,6 @@
 -- Document 01, "How a station runs", as cases: small stations, and what each run has come to after a list of process
 -- numbers. What is expected is what the other implementation's machine gives, which was written from the papers
--- alone: `oracle run_cases oracle/tests/cases/runs.txt` writes this file. proofs/RunCases.antt proves by computation
+-- alone: `oracle run-cases oracle/tests/cases/runs.txt` writes this file. proofs/RunCases.antt proves by computation
 -- that the model's runs come to the same.
 --
 -- Above each station stands its text (docs/STATIONS.md has the form; a run knows nothing of bads). `(0, 5) ∷ (1, 2) ∷

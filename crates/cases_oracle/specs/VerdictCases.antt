@@ -1,5 +1,5 @@
 -- Cases for every limit and for what Cases.antt leaves bare. What is expected is what the other implementation gives,
--- which was written from the papers alone: `oracle verdict_cases oracle/tests/cases/verdicts.txt` writes this file.
+-- which was written from the papers alone: `oracle verdict-cases oracle/tests/cases/verdicts.txt` writes this file.
 -- proofs/VerdictCases.antt proves by computation that the definitions give the same: number and place, and in the
 -- second table the part handed on and every lent word.
 --

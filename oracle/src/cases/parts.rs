@@ -146,7 +146,7 @@ impl Parts {
     /// The program part and all words in the model's language, below the section's text.
     pub fn definitions(&self, section: &Section) -> String {
         let Some(([names, constructors, functions], rows)) = &self.program else { return String::new() };
-        let mut words = vec![vec![format!("{}-program", section.name)]];
+        let mut words = vec![vec![format!("{}_program", section.name)]];
         words.extend(self.bads.iter().map(|(bads, rows)| vec![format!("bad_words {bads}"), antt::pairs(rows)]));
         let tables = |t: &Lists| {
             let triples =
@@ -165,7 +165,7 @@ impl Parts {
             part.last_mut().expect("no part is empty").push_str(" ++");
         }
         let program = [format!("program_words {names} {constructors} {functions}"), antt::pairs(rows)];
-        antt::definition(&section.comment(), &format!("{}-program", section.name), "List ℕ", &program)
+        antt::definition(&section.comment(), &format!("{}_program", section.name), "List ℕ", &program)
             + &antt::definition("", &format!("{}_words", section.name), "List ℕ", &words.concat())
     }
 }

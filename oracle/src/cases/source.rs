@@ -3,6 +3,7 @@
 /// A section begins with `== NAME`. Its lines up to the first case are the station; a case is a line `WORD ...: SENTENCE` with one of the
 /// table's words, and the lines below it that are set in belong to its sentence.
 pub struct Section {
+    /// NAME as a word of the model's language, where dashes are underscores.
     pub name: String,
     pub station: Vec<String>,
     pub cases: Vec<Case>,
@@ -51,7 +52,7 @@ pub fn sections(text: &str, word: &str) -> Result<Vec<Section>, String> {
     for line in text.lines() {
         match (line.strip_prefix("== "), sections.last_mut()) {
             (Some(name), _) => {
-                sections.push(Section { name: name.trim().to_string(), station: Vec::new(), cases: Vec::new() })
+                sections.push(Section { name: name.trim().replace('-', "_"), station: Vec::new(), cases: Vec::new() })
             }
             (None, Some(section)) => section.take(line, word)?,
             (None, None) => {}
