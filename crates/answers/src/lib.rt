@@ -1,5 +1,5 @@
 // Verdicts as numbers, and whether anything was refused.
-#![tactic(auto)]
+#![tactic(auto, unfolding(crate::specs::Safe::is_safe_of, model::specs::Verdict::number, model::specs::Verdict::place))]
 
 ghost use Rattle.std.specs.Prelude.{◌≡◌};
 ghost use Rattle.model.specs.Verdict.{number, place};
@@ -18,89 +18,33 @@ pub struct Told {
 pub fn told_of(v: Verdict) -> Told
     ensures { (result.number ≡ number v) × (result.place ≡ place v) }
 {
-    match v {
-        Verdict::Safe => Told {
-            number: 0,
-            place: 0,
-        },
-        Verdict::Length(at) => Told {
-            number: 1,
-            place: at,
-        },
-        Verdict::Size(at) => Told {
-            number: 2,
-            place: at,
-        },
-        Verdict::Row(at) => Told {
-            number: 3,
-            place: at,
-        },
-        Verdict::Name(at) => Told {
-            number: 4,
-            place: at,
-        },
-        Verdict::Scope(at) => Told {
-            number: 5,
-            place: at,
-        },
-        Verdict::Bad(at) => Told {
-            number: 6,
-            place: at,
-        },
-        Verdict::Entry(at) => Told {
-            number: 7,
-            place: at,
-        },
-        Verdict::Open(at) => Told {
-            number: 8,
-            place: at,
-        },
-        Verdict::Counters(at) => Told {
-            number: 9,
-            place: at,
-        },
-        Verdict::Ceiling(at) => Told {
-            number: 10,
-            place: at,
-        },
-        Verdict::Start(at) => Told {
-            number: 11,
-            place: at,
-        },
-        Verdict::Met(at) => Told {
-            number: 12,
-            place: at,
-        },
-        Verdict::Leak(at) => Told {
-            number: 13,
-            place: at,
-        },
-        Verdict::Space(at) => Told {
-            number: 14,
-            place: at,
-        },
-        Verdict::FunctionMailed(at) => Told {
-            number: 22,
-            place: at,
-        },
-        Verdict::Weights(at) => Told {
-            number: 16,
-            place: at,
-        },
-        Verdict::Rise(at) => Told {
-            number: 17,
-            place: at,
-        },
-        Verdict::Light(at) => Told {
-            number: 18,
-            place: at,
-        },
-    }
+    let (number, place) = match v {
+        Verdict::Safe => (0, 0),
+        Verdict::Length(at) => (1, at),
+        Verdict::Size(at) => (2, at),
+        Verdict::Row(at) => (3, at),
+        Verdict::Name(at) => (4, at),
+        Verdict::Scope(at) => (5, at),
+        Verdict::Bad(at) => (6, at),
+        Verdict::Entry(at) => (7, at),
+        Verdict::Open(at) => (8, at),
+        Verdict::Counters(at) => (9, at),
+        Verdict::Ceiling(at) => (10, at),
+        Verdict::Start(at) => (11, at),
+        Verdict::Met(at) => (12, at),
+        Verdict::Leak(at) => (13, at),
+        Verdict::Space(at) => (14, at),
+        Verdict::FunctionMailed(at) => (22, at),
+        Verdict::Weights(at) => (16, at),
+        Verdict::Rise(at) => (17, at),
+        Verdict::Light(at) => (18, at),
+    };
+    Told { number, place }
 }
 
 // Nothing was refused.
 pub fn is_safe(v: Verdict) -> bool
     ensures { result ≡ is_safe_of v }
 {
-    told_of(v).number == 0
+    matches!(v, Verdict::Safe)
 }

@@ -3,49 +3,64 @@ use Prim.Native.Nat.{ℕ, ◌+◌, ◌-◌, ◌≤◌, ◌<◌}
 use native.Mathlib.Decide.{ℕ_discrete, dec_lt}
 use native.Mathlib.Omega.{arith}
 use mathlib.Core.Path.{◌≡◌, refl, sym, ◌∙◌, ap}
+use mathlib.Core.Bool.{true, false}
 use mathlib.Core.List.{List}
 use mathlib.Core.Logic.{◌⊎◌, inl, inr, ⊎_elim}
 use lib.Dec.{ltb}
-use lib.ListN.{length, get_or, set, length-set}
+use lib.ListN.{length, get_or, set, take, drop, length-set}
 use lib.Seq.{get_or-set_same, get_or-set_other}
 use borrow.Author.Tests.{ltb-true, ltb-false, lt-ltb}
-use Rattle.lists.proofs.Halving.{Between, Falling}
+use Rattle.std.specs.List.{CopiedTo, SameBelow}
+use Rattle.std.specs.List.Sorted.{IsPartitionedBy, IsPartitionPoint}
+use Rattle.std.proofs.lemmas.List.{length-take, length-drop, get_or-take, get_or-drop, get_or_default}
 use Rattle.ascending.specs.Numbers.{Rising, Has, Placed, Shifted, Room, Added}
 
--- the search, by whether a word is below x
-module _ {from n : ℕ} {words : List ℕ} where
-  pub words_fall : (x : ℕ) → Rising from n words → Falling from n (λ i. ltb (get_or words i 0) x)
-  words_fall x r i j a l h u = lt-ltb (get_or words i 0) x (omega (arith, r.order i j a l h, ltb-true (get_or words j 0) x u))
+-- a part of the words, by itself
+module _ {from n : ℕ} (words : List ℕ) (order : from ≤ n) (held : n ≤ length words) where
+  part_long : length (take (n - from) (drop from words)) ≡ n - from
+  part_long = omega (arith, length-take (n - from) (drop from words), length-drop from words)
 
-  pub between_placed : {low high : ℕ} (x : ℕ) → Between from n (λ i. ltb (get_or words i 0) x) low high → high ≤ low → Placed from n words x low
-  between_placed {low} {high} x b l =
+  part_word : (k d : ℕ) → k < n - from → get_or (take (n - from) (drop from words)) k d ≡ get_or words (from + k) 0
+  part_word k d l =
+      get_or-take (n - from) (drop from words) k d l ∙
+      (get_or-drop from words k d ∙ get_or_default words (from + k) d 0 (omega arith))
+
+  -- the words below x stand before those that are not
+  module _ (x : ℕ) (rising : Rising from n words) where
+    pub parted : IsPartitionedBy (λ y. ltb y x) (take (n - from) (drop from words))
+    parted i j d l h u = elim (ℕ_discrete i j) [
+      | yes e ↦ rw e u
+      | no e ↦
+          let hj : j < n - from = omega (arith, part_long) in
+          let v = ltb-true (get_or words (from + j) 0) x (rw (part_word j d hj) at u) in
+          let w = rising.order (from + i) (from + j) (omega arith) (omega arith) (omega arith) in
+          rw (part_word i d (omega arith)) (lt-ltb (get_or words (from + i) 0) x (omega arith))
+    ]
+
+  pub part_placed : (x e : ℕ) → e ≤ length (take (n - from) (drop from words)) → IsPartitionPoint (λ y. ltb y x ≡ true) (λ y. ltb y x ≡ false) (take (n - from) (drop from words)) e → Placed from n words x (from + e)
+  part_placed x e l point =
+      let long = part_long in
       record {
-        behind = b.since;
-        upto = omega (arith, b.order, b.upto);
-        less = λ i a c. ltb-true (get_or words i 0) x (b.before i a c);
-        more = λ i a c. ltb-false (get_or words i 0) x (b.behind i (omega arith) c);
+        behind = omega arith;
+        upto = omega arith;
+        less = λ i a c.
+            let at : from + (i - from) ≡ i = omega arith in
+            rw at at (ltb-true (get_or words (from + (i - from)) 0) x (rw (part_word (i - from) 0 (omega arith)) at (point.0 (i - from) 0 (omega arith) (omega arith))));
+        more = λ i a c.
+            let at : from + (i - from) ≡ i = omega arith in
+            rw at at (ltb-false (get_or words (from + (i - from)) 0) x (rw (part_word (i - from) 0 (omega arith)) at (point.1 (i - from) 0 (omega arith) (omega arith))));
       }
 
--- the words move up one by one
-pub shifted_none : (n : ℕ) (words : List ℕ) → Shifted n n words words
-shifted_none n words = record { long = refl; below = λ i l. refl; moved = λ i a b. absurd (omega arith) }
-
-pub shifted_next : {k n : ℕ} {old words : List ℕ} (u : ℕ) → Shifted k n old words → k ≤ n → n < length old → u + 1 ≡ k → Shifted u n old (set words k (get_or words u 0))
-shifted_next {k} {n} {old} {words} u s l room e =
+-- the words at..n are copied one place further up
+pub shifted_copy : {at n : ℕ} {old new : List ℕ} → length new ≡ length old → at ≤ n → CopiedTo old new at (at + 1) (n - at) → SameBelow old new (at + 1) → Shifted at n old new
+shifted_copy {at} {n} {old} {new} long order copied same =
     record {
-      long = length-set words k (get_or words u 0) ∙ s.long;
-      below = λ i b. get_or-set_other words k i (get_or words u 0) 0 (λ z. omega arith) ∙ s.below i (omega arith);
-      moved = λ i a b. elim (ℕ_discrete i u) [
-        | yes z ↦
-            let y : i + 1 ≡ k = omega arith in
-            ap (λ j. get_or (set words k (get_or words u 0)) j 0) y ∙
-            (get_or-set_same words k (get_or words u 0) 0 (omega (arith, s.long)) ∙ (s.below u (omega arith) ∙ ap (λ j. get_or old j 0) (sym z)))
-        | no z ↦ get_or-set_other words k (i + 1) (get_or words u 0) 0 (λ y. omega arith) ∙ s.moved i (omega arith) b
-      ];
+      long = long;
+      below = λ i l. same i 0 (omega arith);
+      moved = λ i a b.
+          let from : at + (i + 1 - (at + 1)) ≡ i = omega arith in
+          rw from at (copied (i + 1) 0 (omega arith) (omega arith));
     }
-
-pub shifted_at : {k n : ℕ} {old words : List ℕ} (a : ℕ) → Shifted k n old words → k ≡ a → Shifted a n old words
-shifted_at a s e = rw e at s
 
 -- nothing is put
 pub added_none : {New : ℕ → Type 0} {most from n : ℕ} {words : List ℕ} → Rising from n words → n ≤ most + 1 → (n ≤ most → (x : ℕ) → New x → Has from n words x) → Added New most from n words n words

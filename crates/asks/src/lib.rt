@@ -38,14 +38,12 @@ fn passes(ws: &[u16], s: Sizes, flow: &[u64], r: usize, f: usize) -> bool
         (parameters (program ws.now s) f) }
 {
     let n = num(ws, s, r + 2);
-    let mut i = 0;
-    while i < n {
+    for i in 0..n {
         let argument = num(ws, s, r + 3 + i);
         let parameter = num(ws, s, f + 2 + i);
         if !includes(ws, s, flow, argument, parameter) {
             return false;
         }
-        i += 1;
     }
     true
 }
@@ -132,14 +130,13 @@ pub fn asked(ws: &[u16], s: Sizes, starts: &[u16], flow: &[u64], mail: &[u64], r
     ensures { Asked (program ws.now s) (tables ws.now s) r result × (result ≤ 2) }
 {
     let name = num(ws, s, r + 1);
-    let mut j = word(starts, name);
+    let from = word(starts, name);
     let to = word(starts, name + 1);
     let mut worst = 0;
-    while j < to {
+    for j in from..to {
         let x = flow_value(ws, s, j);
         let code = asks(ws, s, flow, mail, r, x);
         worst = worse(worst, code);
-        j += 1;
     }
     worst
 }

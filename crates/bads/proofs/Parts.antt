@@ -1,5 +1,5 @@
 -- The reader of bads (src/lib.rt): each way out of the code gives what the model's grammar gives. e is what is expected; the match has told which.
-use Prim.Native.Nat.{ℕ, zero, suc, ◌+◌, ◌-◌, ◌≤◌, ◌<◌}
+use Prim.Native.Nat.{ℕ, zero, suc, ◌-◌, ◌≤◌, ◌<◌}
 use native.Mathlib.Omega.{arith}
 use mathlib.Core.Path.{◌≡◌, refl, sym, ◌∙◌, ap}
 use mathlib.Core.Bool.{true, false, ◌&&◌}
@@ -15,7 +15,7 @@ use Rattle.model.specs.Letters.{head_count}
 use Rattle.model.specs.Bads.{Part, bad, minimum, further, item, letter_arity_of, subject_step, detail_step, bad_step}
 use Rattle.bads.specs.declared.Expected.{Expected}
 use Rattle.bads.specs.declared.Expected.TheVariants.{Bads, Subject, Minimum, Detail, Further}
-use Rattle.bads.specs.declared.Step.TheVariants.{Wrong, Next}
+use Rattle.std.proofs.Common.{Some, None}
 use Rattle.bads.specs.Reading.{row_step}
 use Rattle.bads.specs.Stacks.{stack, stacks, item_step, no_more}
 
@@ -35,23 +35,23 @@ module _ (p : Program) (t n : ℕ) where
     abbrev behind_class : Option (List Part)
     behind_class = row_step (bad_step p) (stack (Subject k)) t n
 
-    pub subject_head : t ≡ 41 → is_head_of (tag p n) ≡ true → stacks (Next (Minimum 0 k)) ≡ behind_class
+    pub subject_head : t ≡ 41 → is_head_of (tag p n) ≡ true → stacks (Some (Minimum 0 k)) ≡ behind_class
     unfolding stack stacks row_step bad_step subject_step fits
     subject_head e h = rw (e, h)
 
-    pub subject_no_head : t ≡ 41 → is_head_of (tag p n) ≡ false → stacks Wrong ≡ behind_class
+    pub subject_no_head : t ≡ 41 → is_head_of (tag p n) ≡ false → stacks None ≡ behind_class
     unfolding stack stacks row_step bad_step subject_step fits
     subject_no_head e h = rw (e, h)
 
-    pub subject_letter : t ≡ 42 → ltb n (head_count p) ≡ true → (a : ℕ) → a ≡ letter_arity_of p n → stacks (Next (Minimum a k)) ≡ behind_class
+    pub subject_letter : t ≡ 42 → ltb n (head_count p) ≡ true → (a : ℕ) → a ≡ letter_arity_of p n → stacks (Some (Minimum a k)) ≡ behind_class
     unfolding stack stacks row_step bad_step subject_step fits
     subject_letter e h a z = rw (e, h, z)
 
-    pub subject_no_letter : t ≡ 42 → ltb n (head_count p) ≡ false → stacks Wrong ≡ behind_class
+    pub subject_no_letter : t ≡ 42 → ltb n (head_count p) ≡ false → stacks None ≡ behind_class
     unfolding stack stacks row_step bad_step subject_step fits
     subject_no_letter e h = rw (e, h)
 
-    pub no_subject : (t ≡ 41 → ⊥) → (t ≡ 42 → ⊥) → stacks Wrong ≡ behind_class
+    pub no_subject : (t ≡ 41 → ⊥) → (t ≡ 42 → ⊥) → stacks None ≡ behind_class
     unfolding stack stacks row_step bad_step subject_step fits
     no_subject a b = ap (map (λ more. more ++ further ∷ replicate k bad)) (sym none_fits)
       where
@@ -63,15 +63,15 @@ module _ (p : Program) (t n : ℕ) where
     abbrev behind_letter : Option (List Part)
     behind_letter = row_step (bad_step p) (stack (Detail a k)) t n
 
-    pub minimum_fits : a ≡ 0 → t ≡ 43 → 1 ≤ n → stacks (Next (Further k)) ≡ behind_letter
+    pub minimum_fits : a ≡ 0 → t ≡ 43 → 1 ≤ n → stacks (Some (Further k)) ≡ behind_letter
     unfolding stack stacks row_step bad_step detail_step fits
     minimum_fits z e h = rw (z, e, le-leb 1 n h)
 
-    pub minimum_zero : a ≡ 0 → t ≡ 43 → n < 1 → stacks Wrong ≡ behind_letter
+    pub minimum_zero : a ≡ 0 → t ≡ 43 → n < 1 → stacks None ≡ behind_letter
     unfolding stack stacks row_step bad_step detail_step fits
     minimum_zero z e h = rw (z, e, lt-leb 1 n h)
 
-    pub no_minimum : a ≡ 0 → (t ≡ 43 → ⊥) → stacks Wrong ≡ behind_letter
+    pub no_minimum : a ≡ 0 → (t ≡ 43 → ⊥) → stacks None ≡ behind_letter
     unfolding stack stacks row_step bad_step detail_step fits
     no_minimum z h = rw (z, ne_eqb t 43 h)
 
@@ -79,30 +79,30 @@ module _ (p : Program) (t n : ℕ) where
     more : (a ≡ 0 → ⊥) → a ≡ suc (a - 1)
     more h = omega arith
 
-    pub does_head_fit : (a ≡ 0 → ⊥) → t ≡ 45 → ltb n (head_count p) ≡ true → stacks (Next (Detail (a - 1) k)) ≡ behind_letter
+    pub does_head_fit : (a ≡ 0 → ⊥) → t ≡ 45 → ltb n (head_count p) ≡ true → stacks (Some (Detail (a - 1) k)) ≡ behind_letter
     unfolding stack stacks row_step bad_step detail_step fits
     does_head_fit z e h = one_less (a - 1) (more z)
       where
-        one_less : (b : ℕ) → a ≡ suc b → stacks (Next (Detail b k)) ≡ behind_letter
+        one_less : (b : ℕ) → a ≡ suc b → stacks (Some (Detail b k)) ≡ behind_letter
         one_less b y = rw (y, e, h)
 
-    pub head_high : (a ≡ 0 → ⊥) → t ≡ 45 → ltb n (head_count p) ≡ false → stacks Wrong ≡ behind_letter
+    pub head_high : (a ≡ 0 → ⊥) → t ≡ 45 → ltb n (head_count p) ≡ false → stacks None ≡ behind_letter
     unfolding stack stacks row_step bad_step detail_step fits
     head_high z e h = rw (more z, e, h)
 
-    pub no_head : (a ≡ 0 → ⊥) → (t ≡ 45 → ⊥) → stacks Wrong ≡ behind_letter
+    pub no_head : (a ≡ 0 → ⊥) → (t ≡ 45 → ⊥) → stacks None ≡ behind_letter
     unfolding stack stacks row_step bad_step detail_step fits
     no_head z h = rw (more z, ne_eqb t 45 h)
 
-  pub item_class : (k : ℕ) → t ≡ 40 → is_class_of p n ≡ true → stacks (Next (Subject k)) ≡ item_step p k t n
+  pub item_class : (k : ℕ) → t ≡ 40 → is_class_of p n ≡ true → stacks (Some (Subject k)) ≡ item_step p k t n
   unfolding item_step stacks stack fits
   item_class k e h = rw (e, h)
 
-  pub item_no_class : (k : ℕ) → t ≡ 40 → is_class_of p n ≡ false → stacks Wrong ≡ item_step p k t n
+  pub item_no_class : (k : ℕ) → t ≡ 40 → is_class_of p n ≡ false → stacks None ≡ item_step p k t n
   unfolding item_step stacks fits
   item_no_class k e h = rw (e, h)
 
-  pub no_item : (k : ℕ) → (t ≡ 40 → ⊥) → stacks Wrong ≡ item_step p k t n
+  pub no_item : (k : ℕ) → (t ≡ 40 → ⊥) → stacks None ≡ item_step p k t n
   unfolding item_step stacks fits
   no_item k h = rw (ne_eqb t 40 h)
 
@@ -121,7 +121,7 @@ module _ (p : Program) (t n : ℕ) where
     abbrev after : Option (List Part)
     after = row_step (bad_step p) (stack e) t n
 
-    pub bads_over : e ≡ Bads k → k ≡ 0 → stacks Wrong ≡ after
+    pub bads_over : e ≡ Bads k → k ≡ 0 → stacks None ≡ after
     unfolding stack stacks row_step
     bads_over told z = rw (told, z)
 
@@ -149,11 +149,11 @@ module _ (p : Program) (t n : ℕ) where
           alone : detail_step p 0 t n ≡ bad_step p (minimum a) t n
           alone = rw (ne_eqb t 45 h, bad_step)
 
-    pub bad_ends : e ≡ Further k → t ≡ 44 → n ≡ 0 → stacks (Next (Bads k)) ≡ after
+    pub bad_ends : e ≡ Further k → t ≡ 44 → n ≡ 0 → stacks (Some (Bads k)) ≡ after
     unfolding stack stacks row_step bad_step fits
     bad_ends told et z = rw (told, et, z)
 
-    pub end_number : e ≡ Further k → t ≡ 44 → (n ≡ 0 → ⊥) → stacks Wrong ≡ after
+    pub end_number : e ≡ Further k → t ≡ 44 → (n ≡ 0 → ⊥) → stacks None ≡ after
     unfolding stack stacks row_step bad_step fits
     end_number told et h = rw (told, et, ne_eqb n 0 h)
 

@@ -1,5 +1,6 @@
 -- What the reader of bads expects, as the model's stack of parts.
-use Rattle.std.specs.Prelude.{ℕ, Bool, true, false, ◌&&◌, List, [], ◌∷◌, ◌++◌, replicate, eqb}
+use Rattle.std.specs.Prelude as rust
+use Rattle.std.specs.Prelude.{Some, None, ℕ, Bool, true, false, ◌&&◌, List, [], ◌∷◌, ◌++◌, replicate, eqb}
 use Rattle.std.proofs.Math.Option.{Option, some, none, map}
 use Rattle.model.specs.Reader.{fits}
 use Rattle.model.specs.Rows.{Program}
@@ -7,8 +8,6 @@ use Rattle.model.specs.Heads.{is_class_of}
 use Rattle.model.specs.Bads.{Part, bad, subject, minimum, detail, further, item}
 use Rattle.bads.specs.declared.Expected.{Expected}
 use Rattle.bads.specs.declared.Expected.TheVariants.{Bads, Subject, Minimum, Detail, Further}
-use Rattle.bads.specs.declared.Step.{Step}
-use Rattle.bads.specs.declared.Step.TheVariants.{Wrong, Next}
 
 unfoldable pub stack : Expected → List Part
 stack (Bads k) = replicate k bad
@@ -17,9 +16,10 @@ stack (Minimum heads k) = minimum heads ∷ further ∷ replicate k bad
 stack (Detail heads k) = detail heads ∷ further ∷ replicate k bad
 stack (Further k) = further ∷ replicate k bad
 
-unfoldable pub stacks : Step → Option (List Part)
-stacks Wrong = none
-stacks (Next e) = some (stack e)
+-- what a row makes of it, if it fits
+unfoldable pub stacks : rust.Option Expected → Option (List Part)
+stacks None = none
+stacks (Some e) = some (stack e)
 
 -- the first row of an item, behind which k bads begin
 unfoldable pub item_step : Program → ℕ → ℕ → ℕ → Option (List Part)

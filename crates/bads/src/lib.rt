@@ -5,7 +5,7 @@ ghost use Rattle.std.specs.Prelude.{◌≡◌, ◌+◌, ◌≤◌, ltb};
 ghost use Rattle.model.specs.Limits.{max_constructors};
 ghost use Rattle.model.specs.Rows.{program};
 ghost use Rattle.model.specs.Bads.{letter_arity_of, bad_step, bad_check_of};
-ghost use Rattle.model.specs.Verify.{answer};
+ghost use Rattle.model.specs.Verify.{outcome};
 ghost use Rattle.program.specs.Rows.{Whole};
 ghost use Rattle.evidence.specs.Whole.{PartsWhole};
 ghost use Rattle.bads.specs.Reading.{row_step};
@@ -34,13 +34,6 @@ pub enum Expected {
     Further(usize),
 }
 
-// What a row makes of it.
-#[derive(Clone, Copy)]
-pub enum Step {
-    Wrong,
-    Next(Expected),
-}
-
 // A head, and the number of a letter: of a constructor, or one of those behind them.
 fn is_number(s: Sizes, n: usize) -> bool
     requires { s.constructors ≤ max_constructors }
@@ -57,71 +50,69 @@ pub fn letter_arity(ws: &[u16], s: Sizes, k: usize) -> usize
     if k < s.constructors { num(ws, s, k) } else { 0 }
 }
 
-// The head or the letter that an item counts; k bads begin behind the item.
-fn subject(ws: &[u16], s: Sizes, k: usize, t: usize, n: usize) -> Step
+// The head or the letter that an item counts; k bads begin behind the item. None where the row fits nothing, here
+// and below.
+fn subject(ws: &[u16], s: Sizes, k: usize, t: usize, n: usize) -> Option<Expected>
     requires { Whole ws.now s }
     ensures { stacks result ≡ row_step (bad_step (program ws.now s)) (stack (Subject k)) t n }
 {
     match t {
         TAG_HEAD => {
             if is_head(ws, s, n) {
-                return Step::Next(Expected::Minimum(0, k));
+                Some(Expected::Minimum(0, k))
+            } else {
+                None
             }
-            Step::Wrong
         }
         TAG_LETTER => {
             if is_number(s, n) {
-                return Step::Next(Expected::Minimum(letter_arity(ws, s, n), k));
+                Some(Expected::Minimum(letter_arity(ws, s, n), k))
+            } else {
+                None
             }
-            Step::Wrong
         }
-        _ => Step::Wrong,
+        _ => None,
     }
 }
 
 // One of `heads` heads, or, where there are none, the minimum; k bads begin behind the item.
-fn detail(ws: &[u16], s: Sizes, heads: usize, k: usize, t: usize, n: usize) -> Step
+fn detail(ws: &[u16], s: Sizes, heads: usize, k: usize, t: usize, n: usize) -> Option<Expected>
     requires { Whole ws.now s }
     ensures { stacks result ≡ row_step (bad_step (program ws.now s)) (stack (Detail heads k)) t n }
 {
     if heads == 0 {
-        if t == TAG_MINIMUM {
-            if 1 <= n {
-                return Step::Next(Expected::Further(k));
-            }
+        if t == TAG_MINIMUM && 1 <= n {
+            return Some(Expected::Further(k));
         }
-        return Step::Wrong;
+        return None;
     }
-    if t == TAG_ARGUMENT {
-        if is_number(s, n) {
-            return Step::Next(Expected::Detail(heads - 1, k));
-        }
+    if t == TAG_ARGUMENT && is_number(s, n) {
+        return Some(Expected::Detail(heads - 1, k));
     }
-    Step::Wrong
+    None
 }
 
 // The class that an item begins with; k bads begin behind it.
-fn item(ws: &[u16], s: Sizes, k: usize, t: usize, n: usize) -> Step
+fn item(ws: &[u16], s: Sizes, k: usize, t: usize, n: usize) -> Option<Expected>
     requires { Whole ws.now s }
     ensures { stacks result ≡ item_step (program ws.now s) k t n }
 {
-    if t == TAG_CLASS {
-        if is_class(ws, s, n) {
-            return Step::Next(Expected::Subject(k));
-        }
+    if t == TAG_CLASS && is_class(ws, s, n) {
+        Some(Expected::Subject(k))
+    } else {
+        None
     }
-    Step::Wrong
 }
 
 // One row, with its tag and number.
-fn read_row(ws: &[u16], s: Sizes, expected: Expected, t: usize, n: usize) -> Step
+fn read_row(ws: &[u16], s: Sizes, expected: Expected, t: usize, n: usize) -> Option<Expected>
     requires { Whole ws.now s }
     ensures { stacks result ≡ row_step (bad_step (program ws.now s)) (stack expected) t n }
 {
     match expected {
         Expected::Bads(k) => {
             if k == 0 {
-                return Step::Wrong;
+                return None;
             }
             item(ws, s, k - 1, t, n)
         }
@@ -138,9 +129,9 @@ fn read_row(ws: &[u16], s: Sizes, expected: Expected, t: usize, n: usize) -> Ste
                 return item(ws, s, k, t, n);
             }
             if n == 0 {
-                return Step::Next(Expected::Bads(k));
+                return Some(Expected::Bads(k));
             }
-            Step::Wrong
+            None
         }
     }
 }
@@ -159,31 +150,24 @@ fn is_done(expected: Expected) -> bool
 }
 
 // The verdict of refusal 6.
-pub fn bad_check(ws: &[u16], s: Sizes) -> Verdict
+pub fn bad_check(ws: &[u16], s: Sizes) -> Result<(), Verdict>
     requires { PartsWhole ws.now s }
-    ensures { result ≡ answer (bad_check_of ws.now s (program ws.now s)) }
+    ensures { result ≡ outcome (bad_check_of ws.now s (program ws.now s)) }
 {
     let tags = 6 + 2 * s.rows;
     let numbers = tags + s.badrows;
     let mut expected = Expected::Bads(s.bads);
-    let mut r = 0;
-    while r < s.badrows {
+    for r in 0..s.badrows {
         let t = column(ws, s.badrows, tags, r);
         let n = column(ws, s.badrows, numbers, r);
-        match read_row(ws, s, expected, t, n) {
-            Step::Wrong => {
-                let at = tags + r;
-                return Verdict::Bad(at);
-            }
-            Step::Next(next) => {
-                expected = next;
-            }
-        }
-        r += 1;
+        let Some(next) = read_row(ws, s, expected, t, n) else {
+            return Err(Verdict::Bad(tags + r));
+        };
+        expected = next;
     }
     if is_done(expected) {
-        return Verdict::Safe;
+        Ok(())
+    } else {
+        Err(Verdict::Bad(tags + s.badrows))
     }
-    let at = tags + r;
-    Verdict::Bad(at)
 }

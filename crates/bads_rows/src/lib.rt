@@ -32,6 +32,7 @@ pub fn past_heads(ws: &[u16], s: Sizes, r: usize) -> usize
     requires { Whole ws.now s }
     ensures { result ≡ past_heads_of (bad_rows ws.now s) r }
 {
+    // The first row that is no head ends this, and past the last row stands none: a `for` has no end to count to.
     let mut i = r;
     loop {
         if bad_tag(ws, s, i) != TAG_ARGUMENT {
@@ -57,6 +58,7 @@ pub fn next_bad(ws: &[u16], s: Sizes, r: usize) -> usize
     requires bad_stands { BadStands (program ws.now s) (bad_rows ws.now s) r }
     ensures { result ≡ bad_end (program ws.now s) (bad_rows ws.now s) r }
 {
+    // A walk from item to item, which are of several lengths: no index is counted.
     let mut i = next_item(ws, s, r);
     loop {
         if bad_tag(ws, s, i) != TAG_CLASS {

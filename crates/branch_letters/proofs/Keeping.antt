@@ -3,7 +3,7 @@ use Prim.Native.Nat.{ℕ, ◌+◌, ◌*◌, ◌/◌, ◌%◌, ◌≤◌, ◌<◌
 use native.Mathlib.Decide.{ℕ_discrete, dec_lt}
 use native.Mathlib.Nat.{mul-le-mul_right}
 use native.Mathlib.Omega.{arith}
-use mathlib.Core.Path.{◌≡◌, refl, sym, ◌∙◌, ap}
+use mathlib.Core.Path.{◌≡◌, sym, ◌∙◌, ap}
 use mathlib.Core.Bool.{true}
 use mathlib.Core.List.{List, Memᴰ}
 use mathlib.Core.Logic.{◌↔◌, ◌⊎◌, inl, inr, ⊎_elim}
@@ -169,42 +169,31 @@ module _ (p : Program) (t : Tables) where
       let put' : Filled u v (read_set p t x * letter_width_of p t) (letter_width_of p t) (λ j. get_or found j 0) = rw (e, f) at put in
       rw (k, g, h) (sets_kept found u v c q x sets r low class is put', reads_kept found u v c q x sets r low class is put')
 
-  -- nothing is kept for the states before x
-  pub record Forgotten (u₀ : List ℕ) (x : ℕ) (letters : List ℕ) : Type 0 where
-    pub long : length letters ≡ length u₀
-    pub sets : LetterSets p t letters
-    pub owners : OwnersRoom p t letters
-    pub none : (k : ℕ) → k < x → get_or letters (owner_at p t k) 0 ≡ 0
-
-  pub forgotten_start : (letters : List ℕ) → LetterSets p t letters → OwnersRoom p t letters → Forgotten letters 0 letters
-  forgotten_start letters h r = record { long = refl; sets = h; owners = r; none = λ k l. absurd (omega arith) }
-
-  pub forgotten_next : (u₀ u u' : List ℕ) (x at : ℕ) → Forgotten u₀ x u → x < t.states.size → at ≡ owner_at p t x → u' ≡ set u at 0 → Forgotten u₀ (x + 1) u'
+  -- nothing is kept for any state once 0 is put for the owner of each
+  pub forgotten : (u v : List ℕ) (at : ℕ) → LetterSets p t u → OwnersRoom p t u → at ≡ owner_at p t 0 → Filled u v at t.states.size (λ j. 0) → LetterSets p t v × Reads p t v
   unfolding owner_at read_set
-  forgotten_next u₀ u u' x at f low e g = rw (g, e) (record {
-    long = length-set u (owner_at p t x) 0 ∙ f.long;
-    sets = record {
-      room = λ n l. let z = (f.sets.room n l).room in record { room = omega (arith, length-set u (owner_at p t x) 0) };
-      digit = λ i h y a b l. apart (digit_set p i h) y (let z = digit_low i h a b in omega arith) l ∙ f.sets.digit i h y a b l;
+  forgotten u v at sets r e f = (
+    record {
+      room = λ n l. let z = (sets.room n l).room in record { room = omega (arith, f.long) };
+      digit = λ i h y a b l. same (digit_set p i h) y (let z = digit_low i h a b in omega arith) l ∙ sets.digit i h y a b l;
       allowed = λ j y a l.
-          let same = apart (allowed_set p j) y (let z = entry_low j a in omega arith) l in
-          let (to, from) = f.sets.allowed j y a l in
-          (λ h. to (sym same ∙ h), λ h. same ∙ from h);
-    };
-    owners = record { room = omega (arith, f.owners.room, length-set u (owner_at p t x) 0) };
-    none = λ k l. elim (ℕ_discrete k x) [
-      | yes z ↦ ap (λ j. get_or (set u (owner_at p t x) 0) (owner_at p t j) 0) z ∙ get_or-set_same u (owner_at p t x) 0 0 (omega (arith, f.owners.room))
-      | no z ↦ get_or-set_other u (owner_at p t x) (owner_at p t k) 0 0 (λ y. z (omega arith)) ∙ f.none k (omega arith)
-    ];
-  })
+          let e = same (allowed_set p j) y (let z = entry_low j a in omega arith) l in
+          let (to, from) = sets.allowed j y a l in
+          (λ h. to (sym e ∙ h), λ h. e ∙ from h);
+    },
+    record {
+      room = omega (arith, r.room, f.long);
+      has = λ k q y l a o. absurd (let z = none k l in omega arith);
+    },
+  )
     where
-      apart : (n y : ℕ) → n < allowed_set p t.mail.size + t.states.size → y < letter_count_of p t → member (set u (owner_at p t x) 0) (letter_width_of p t) n y ≡ member u (letter_width_of p t) n y
-      apart n y h l =
+      same : (n y : ℕ) → n < allowed_set p t.mail.size + t.states.size → y < letter_count_of p t → member v (letter_width_of p t) n y ≡ member u (letter_width_of p t) n y
+      same n y h l =
           let z = before n (allowed_set p t.mail.size + t.states.size) (letter_width_of p t) (y / 64) h (word_inside y l) in
-          member_same (set u (owner_at p t x) 0) u (letter_width_of p t) n y (get_or-set_other u (owner_at p t x) (n * letter_width_of p t + y / 64) 0 0 (λ q. omega arith))
+          member_same v u (letter_width_of p t) n y (f.below (n * letter_width_of p t + y / 64) (omega arith))
 
-  pub forgotten_all : (u₀ letters : List ℕ) (x : ℕ) → x ≡ t.states.size → Forgotten u₀ x letters → LetterSets p t letters × Reads p t letters
-  forgotten_all u₀ letters x e f = (f.sets, record { room = f.owners.room; has = λ k q y l a o. absurd (let z = f.none k (omega arith) in omega arith) })
+      none : (k : ℕ) → k < t.states.size → get_or v (owner_at p t k) 0 ≡ 0
+      none k l = let z : owner_at p t k ≡ at + k = omega arith in rw z (f.done k l)
 
 -- what is kept, as a part of what branches read
 module _ {ws : List ℕ} {s : Sizes} {afters : List ℕ} {w : ℕ} {fitting names letter_at_of letters : List ℕ} where

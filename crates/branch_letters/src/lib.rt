@@ -112,18 +112,15 @@ fn put_words(found: &[u64], words: usize, p: usize, letters: &mut [u64])
     ensures { Filled letters.old letters.new p words
         (λ j. get_or found.now j 0) }
 {
-    for z in 0..words {
-        let i = p + z;
-        letters[i] = found[z];
-    }
+    letters[p..p + words].copy_from_slice(&found[..words]);
 }
 
-// Puts one word.
-fn put_word(letters: &mut [u64], at: usize, word: u64)
-    requires { at < length letters.old }
-    ensures { letters.new ≡ set letters.old at word }
+// Puts 0 for n words, from word p on.
+fn clear_words(letters: &mut [u64], p: usize, n: usize)
+    requires { p + n ≤ length letters.old }
+    ensures { Filled letters.old letters.new p n (λ j. 0) }
 {
-    letters[at] = word;
+    letters[p..p + n].fill(0);
 }
 
 // Keeps the letters found for state x: those of its class that the branch reads whose pattern stands at row q.
@@ -149,7 +146,7 @@ pub fn keep_letters(
     let set = read_set(s, x);
     let at = owner_at(ws, s, letters, words, x);
     put_words(found, words, set * words, letters);
-    put_word(letters, at, (q + 1) as u64);
+    letters[at] = (q + 1) as u64;
 }
 
 // Says of each state that nothing is kept for it.
@@ -160,8 +157,6 @@ pub fn forget_letters(ws: &[u16], s: Sizes, letter_at: &[u16], letters: &mut [u6
     ensures reads { Reads (program ws.now s) (tables ws.now s) letters.new }
 {
     let words = letter_width(ws, s, letter_at);
-    for x in 0..s.states {
-        let at = owner_at(ws, s, letters, words, x);
-        put_word(letters, at, 0);
-    }
+    let at = read_set(s, s.states) * words;
+    clear_words(letters, at, s.states);
 }

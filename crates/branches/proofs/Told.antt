@@ -11,12 +11,12 @@ use Rattle.model.specs.Index.{implies}
 use Rattle.model.specs.Words.{Columns}
 use Rattle.model.specs.Rows.{Program}
 use Rattle.model.specs.Heads.{branch_body_of}
-use Rattle.model.specs.Tables.{Tables, each, some_of, State, onward, has_state}
+use Rattle.model.specs.Tables.{Tables, some_of, State, onward, has_state}
 use Rattle.model.specs.Closed.{may_take}
 use Rattle.model.proofs.Logic.{true_false, test, or_false_left, or_false_right, and_none}
 use Rattle.bits.specs.Bits.{odd, bit}
 use Rattle.bits.proofs.Bits.{bit_suc}
-use Rattle.matching.specs.Patterns.{code, values_code}
+use Rattle.matching.specs.Patterns.{values_code}
 use Rattle.matching.proofs.Coding.{code_some, code_most}
 use Rattle.branches.specs.Taken.{branch_code, code_closed, codes_closed, lacking, code_bits, lacks, taken_bits, are_bodies_closed, BitsTold}
 use Rattle.branches.proofs.Codes.{codes_each}

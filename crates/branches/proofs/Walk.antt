@@ -4,13 +4,13 @@ use native.Mathlib.Omega.{arith}
 use mathlib.Core.Path.{◌≡◌, refl, sym, ◌∙◌, ap}
 use mathlib.Core.Bool.{Bool, true, false, ◌&&◌, ◌||◌}
 use mathlib.Core.List.{List, [], ◌∷◌, ◌++◌}
-use lib.Dec.{eqb, ltb}
+use lib.Dec.{ltb}
 use lib.ListN.{get_or}
 use borrow.Author.Tests.{eq-eqb, ne_eqb}
 use Rattle.model.specs.declared.Sizes.{Sizes}
 use Rattle.model.specs.Index.{implies}
 use Rattle.model.specs.Words.{Columns, columns}
-use Rattle.model.specs.Rows.{Program, size, expression, pattern, branch, branch_items, past_items}
+use Rattle.model.specs.Rows.{Program, size, pattern, branch, branch_items, past_items}
 use Rattle.model.specs.Limits.{max_depth, max_branches}
 use Rattle.model.specs.Heads.{branch_body_of, branch_rows}
 use Rattle.model.specs.Tables.{Tables, tables, entries, State, onward, state_index_of, has_state}
@@ -157,13 +157,13 @@ module _ {p : Program} {t : Tables} {sets : List ℕ} {n q : ℕ} where
             sym (k.to_come l a of ∙ (ap (bits_left (branch_code p t l a) bits weight) b.rows ∙ left_lacks (branch_code p t l a) bits weight row _ (omega arith)));
       }
 
-      pub taking_next : c < 2 → (bits' row' : ℕ) → bits' ≡ bits + c * weight → row' ≡ past_items p branch row → Taking p t sets n q count row' (left - 1) bits' (weight * 2)
-      taking_next less bits' row' eb er =
+      pub taking_next : c < 2 → (bits' row' left' : ℕ) → bits' ≡ bits + c * weight → row' ≡ past_items p branch row → left' ≡ left - 1 → Taking p t sets n q count row' left' bits' (weight * 2)
+      taking_next less bits' row' left' eb er el =
           let x = k.steps in
           let y = k.power in
           let w = (code_weight c less more).1 in
           record {
-            run = rw er b.run;
+            run = rw (er, el) b.run;
             exponent = suc k.exponent;
             steps = omega arith;
             few = k.few;
@@ -172,7 +172,7 @@ module _ {p : Program} {t : Tables} {sets : List ℕ} {n q : ℕ} where
             to_come = λ l a of.
                 let e = here l a of in
                 k.to_come l a of ∙ (ap (bits_left (branch_code p t l a) bits weight) b.rows ∙ (left_next (branch_code p t l a) bits weight row _ (λ u. omega arith)
-                ∙ rw (← e, er, eb)));
+                ∙ rw (← e, er, eb, el)));
           }
 
 -- what is asked of the expressions of the branches that are left
@@ -194,5 +194,5 @@ module _ {p : Program} {t : Tables} {s : State} {count q bits : ℕ} where
       pub bodies_fail : there ≡ false → false ≡ are_bodies_closed p t s bits (branch_rows p count q)
       bodies_fail e = sym (turn ∙ rw e)
 
-      pub bodies_next : there ≡ true → (row' : ℕ) → row' ≡ past_items p branch row → Bodies p t s count q bits row' (left - 1) (more / 2)
-      bodies_next e row' er = record { run = rw er b.run; to_come = turn ∙ rw (e, er) }
+      pub bodies_next : there ≡ true → (row' left' : ℕ) → row' ≡ past_items p branch row → left' ≡ left - 1 → Bodies p t s count q bits row' left' (more / 2)
+      bodies_next e row' left' er el = record { run = rw (er, el) b.run; to_come = turn ∙ rw (e, er, el) }

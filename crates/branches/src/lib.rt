@@ -40,10 +40,9 @@ pub fn taken_bits(
         sets.now n q count result }
 {
     let mut row = q;
-    let mut left = count;
     let mut bits = 0;
     let mut weight = 1;
-    while left > 0 {
+    for _ in 0..count {
         let code = values_code(ws, s, flow, may, held, sets, n, row);
         if code >= 2 {
             return LACKS;
@@ -52,7 +51,6 @@ pub fn taken_bits(
         weight = weight * 2;
         let expression = word(afters, row);
         row = word(afters, expression);
-        left -= 1;
     }
     bits
 }
@@ -90,16 +88,14 @@ pub fn bodies_closed(
         (state_at (tables ws.now s) i) bits (branch_rows (program ws.now s) count q) }
 {
     let mut row = q;
-    let mut left = count;
     let mut more = bits;
-    while left > 0 {
+    for _ in 0..count {
         let expression = word(afters, row);
         if !body_closed(ws, s, at, i, more, expression) {
             return false;
         }
         more = more / 2;
         row = word(afters, expression);
-        left -= 1;
     }
     true
 }

@@ -30,6 +30,7 @@ fn fill_ceiling(
     ensures ceiling_filled { CeilingFilled n (part_entries ws.now part) count k e limits.old
         limits.new }
 {
+    // Where the ceiling ends is not known before its last entry is read: a `for` has no end to count to.
     let mut i = e;
     loop {
         let x = entry_counter(ws, part, i);
@@ -64,7 +65,8 @@ pub fn fill_bounds(
     }
 }
 
-// The limits of all ceilings, and where each begins.
+// The limits of all ceilings, and where each begins. (Its twin for lines is `weights::fill_weights`:
+// docs/ARCHITECTURE.md names both, and what they share is `fill_bounds`.)
 pub fn fill_limits(ws: &[u16], s: Sizes, n: usize, limits: &mut [u16], starts: &mut [u16])
     requires whole { Whole ws.now s × InForm ws.now s n }
     requires bounds_room { BoundsRoom n s.ceilings limits.old starts.old }

@@ -1,5 +1,5 @@
 -- The candidates for a step are all ceilings that cover the counts after it; of them those cover that allow what the named counters have.
-use Prim.Native.Nat.{ℕ, ◌+◌, ◌-◌, ◌*◌, ◌≤◌, ◌<◌}
+use Prim.Native.Nat.{ℕ, ◌+◌, ◌-◌, ◌≤◌, ◌<◌}
 use native.Mathlib.Decide.{ℕ_discrete}
 use native.Mathlib.Omega.{arith}
 use mathlib.Core.Path.{◌≡◌, refl, sym, ◌∙◌, ap, subst}
@@ -8,14 +8,13 @@ use mathlib.Core.Logic.{◌⊎◌, inl, inr, ⊎_elim}
 use mathlib.Core.List.{List}
 use lib.Dec.{leb, ltb, eqb}
 use lib.ListN.{get_or}
-use borrow.Author.Tests.{eq-eqb, ne_eqb, eqb-true, leb-true, le-leb, lt-ltb, le-ltb, ltb-true, not-true, not-false}
+use borrow.Author.Tests.{eq-eqb, ne_eqb, eqb-true, leb-true, le-leb, lt-ltb, le-ltb, ltb-true, not-false}
 use Rattle.model.specs.Limits.{omega_limit}
 use Rattle.model.specs.Index.{all}
 use Rattle.model.specs.Markings.{Marking, readable, usable, fire}
 use Rattle.model.specs.Ceilings.{allowed, highest, under}
-use Rattle.model.proofs.Logic.{test, true_false, and_left, and_right, and_intro, or_cases, or_left, or_right, not_passes, not_fails, not_not}
+use Rattle.model.proofs.Logic.{test, true_false, and_left, and_right, and_intro, or_cases, or_left, or_right, not_passes, not_fails}
 use Rattle.model.proofs.Index.{all_intro, all_elim}
-use Rattle.bits.specs.Bits.{member}
 use Rattle.masks.specs.declared.Mask.{Mask}
 use Rattle.masks.specs.Masks.{has}
 use Rattle.steps.specs.declared.Step.{Step}
@@ -221,21 +220,6 @@ moved_both limits ceilings states k i to left more r apart low is both j l =
     both j ∙ rw (ne_eqb to i apart, lt-ltb to states low, is j l)
 
 -- by the code's values
-pub named_is : (σ : Step) (b j y : ℕ) → b ≡ j → y ≡ named σ j → y ≡ named σ b
-named_is σ b j y e h = rw e h
-
-pub named_other : (σ : Step) (b : ℕ) → b < 3 → (b ≡ 0 → ⊥) → (b ≡ 1 → ⊥) → σ.other ≡ named σ b
-unfolding named
-named_other σ b h z o = let e : b ≡ 2 = omega arith in rw e
-
-pub named_to : (σ : Step) (b : ℕ) → b ≡ 0 → σ.to ≡ named σ b
-unfolding named
-named_to σ b e = rw e
-
-pub named_from : (σ : Step) (b : ℕ) → b ≡ 1 → σ.from ≡ named σ b
-unfolding named
-named_from σ b e = rw e
-
 module _ (limits : List ℕ) (ceilings k : ℕ) where
   pub passes_is : (k' : ℕ) (σ : Step) (y h count l : ℕ) (b : Bool) → σ.kind ≤ 3 → h ≡ highest (held limits ceilings k) y → count ≡ fire (rule_of_step σ) (λ _. h) y → l ≡ held limits ceilings k' y → b ≡ allowed l count → b ≡ passes limits ceilings k k' σ y
   unfolding passes
@@ -418,9 +402,3 @@ module _ (limits : List ℕ) (ceilings n k : ℕ) (σ : Step) where
       (λ z. a.more j (omega arith) in-to z u.leaves (takes_none σ σ.to u.quiet))
       (λ two z. (b two).more j (omega arith) h z (u.not_from two) (takes_none σ σ.other u.quiet))
       t y inside
-
-pub surely_some : (a b s some : Bool) → a ≡ s → a ≡ true → b ≡ not some → not b ≡ (s && some)
-surely_some a b s some e t n = rw (n, ← e, t) (not_not some)
-
-pub surely_none : (a s some : Bool) → a ≡ s → a ≡ false → false ≡ (s && some)
-surely_none a s some e f = rw (← e, f)

@@ -212,7 +212,7 @@ pub fn is_sure(step: Step) -> bool
 pub fn surely_covered(step: Step, m: Mask) -> bool
     ensures { result ≡ (sure step && any 0 256 (has m)) }
 {
-    if is_sure(step) { !is_none(m) } else { false }
+    is_sure(step) && !is_none(m)
 }
 
 // The step can be used at the highest counts of ceiling k.
@@ -235,13 +235,7 @@ pub fn named(step: Step, b: usize) -> usize
     requires { b < 3 }
     ensures { result ≡ named step b }
 {
-    if b == 0 {
-        return step.to;
-    }
-    if b == 1 {
-        return step.from;
-    }
-    step.other
+    [step.to, step.from, step.other][b]
 }
 
 // Ceiling k2 allows what counter y has after the step from the highest counts of ceiling k.

@@ -1,11 +1,9 @@
 -- A limit that allows a count, and the highest count under it.
 use Prim.Native.Nat.{ℕ, ◌+◌}
-use mathlib.Core.Path.{◌≡◌, refl, sym, ◌∙◌, ap}
-use mathlib.Core.Bool.{Bool, true, false, ◌||◌}
+use mathlib.Core.Path.{◌≡◌, sym, ◌∙◌, ap}
 use borrow.Author.Tests.{eq-eqb, ne_eqb}
 use Rattle.model.specs.Limits.{omega_limit}
 use Rattle.model.specs.Ceilings.{CeilingLimits, highest}
-use Rattle.model.proofs.Logic.{true_false}
 
 pub highest_omega : (b : CeilingLimits) (x l : ℕ) → l ≡ b x → l ≡ omega_limit → omega_limit + 1 ≡ highest b x
 unfolding highest

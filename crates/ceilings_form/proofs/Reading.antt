@@ -12,12 +12,12 @@ use Rattle.model.specs.Limits.{present}
 use Rattle.model.specs.declared.Sizes.{Sizes}
 use Rattle.model.specs.Words.{Columns, left, right}
 use Rattle.model.specs.Message.{ceilings_offset}
-use Rattle.model.specs.Reader.{Read, past, wrong, fits, read, complete, first_wrong_of}
+use Rattle.model.specs.Reader.{Read, fits, read, complete, first_wrong_of}
 use Rattle.model.specs.Ceilings.{Ahead, from_counter, ceiling_step, ceilings_ahead}
 use Rattle.model.specs.Demands.{WithinLimits}
 use Rattle.model.proofs.Logic.{test, true_false, and_left, and_right}
 use Rattle.model.proofs.Reader.{read_none, read_end, read_stop, read_go, none_complete, some_complete}
-use Rattle.ceilings_form.specs.declared.entries.Form.TheVariants.{Right, Wrong}
+use Rattle.std.proofs.Common.{Some, None}
 use Rattle.ceilings_form.specs.Parts.{told}
 use Rattle.model.specs.Weights.{bound_step}
 use Rattle.ceilings_form.specs.Bounds.{is_in_bound}
@@ -162,18 +162,18 @@ module _ (n most : ℕ) (entries : Columns) (count : ℕ) where
   at_first = (sym (wrong_whole n most entries count) ∙ ap (wrong_from n most entries 0 0) (sub_none count), zero-le, zero-le)
 
   module _ (e least closed : ℕ) (h : so_far e least closed) where
-    pub passed_all : entries.size ≤ e → count ≤ closed → told Right ≡ whole
+    pub passed_all : entries.size ≤ e → count ≤ closed → told None ≡ whole
     unfolding told
     passed_all a b = sym (h.0 ∙ wrong_none n most entries e least _ (omega (arith, a, h.2)) (omega (arith, b)))
 
-    pub refused_behind : e < entries.size → closed ≡ count → told (Wrong e) ≡ whole
+    pub refused_behind : e < entries.size → closed ≡ count → told (Some e) ≡ whole
     unfolding told
     refused_behind a b = sym (h.0 ∙ wrong_behind n most entries e least _ a (omega (arith, b)))
 
     one_more : closed < count → count - closed ≡ suc (count - (closed + 1))
     one_more b = omega arith
 
-    pub refused_early : entries.size ≤ e → closed < count → told (Wrong entries.size) ≡ whole
+    pub refused_early : entries.size ≤ e → closed < count → told (Some entries.size) ≡ whole
     unfolding told
     refused_early a b =
         let z : e ≡ entries.size = omega (arith, a, h.2) in
@@ -187,14 +187,14 @@ module _ (n most : ℕ) (entries : Columns) (count : ℕ) where
       says : (o : Option (List Ahead)) → bound_step n most (from_counter least) x number ≡ o → said n most entries e least (count - (closed + 1)) ≡ o
       says o g = rw (counter, value) at g
 
-      refused_here : bound_step n most (from_counter least) x number ≡ none → told (Wrong e) ≡ whole
+      refused_here : bound_step n most (from_counter least) x number ≡ none → told (Some e) ≡ whole
       unfolding told
       refused_here g = sym (h.0 ∙ rw (one_more still) (wrong_here n most entries e least (count - (closed + 1)) inside (says none g)))
 
-      pub refused_open : x ≡ n → (number ≡ 0 → ⊥) → told (Wrong e) ≡ whole
+      pub refused_open : x ≡ n → (number ≡ 0 → ⊥) → told (Some e) ≡ whole
       refused_open a b = refused_here (entry_open n most least x number a b)
 
-      pub refused_wrong : (x ≡ n → ⊥) → is_in_bound n most least x number ≡ false → told (Wrong e) ≡ whole
+      pub refused_wrong : (x ≡ n → ⊥) → is_in_bound n most least x number ≡ false → told (Some e) ≡ whole
       refused_wrong a b = refused_here (entry_wrong n most least x number a b)
 
       pub closed_so_far : x ≡ n → number ≡ 0 → (least' closed' : ℕ) → least' ≡ 0 → closed' ≡ closed + 1 → so_far (e + 1) least' closed'

@@ -5,7 +5,7 @@ ghost use Rattle.model.specs.Limits.{present, max_counters};
 ghost use Rattle.model.specs.Words.{left, right};
 ghost use Rattle.model.specs.Reader.{first_wrong_of};
 ghost use Rattle.model.specs.Ceilings.{ceiling_entries, ceilings_ahead, ceiling_check_of};
-ghost use Rattle.model.specs.Verify.{answer};
+ghost use Rattle.model.specs.Verify.{outcome};
 ghost use Rattle.model.specs.Demands.{WithinLimits};
 ghost use Rattle.ceilings_form.specs.Parts.{Whole, PartHeld, part_entries, ceilings_part_of, told};
 ghost use Rattle.model.specs.Weights.{bound_step};
@@ -20,13 +20,6 @@ use program::rows::{cell, column};
 pub struct Part {
     pub at: usize,
     pub size: usize,
-}
-
-// Whether entries are in form: no entry is wrong, or this one is the first.
-#[derive(Clone, Copy)]
-pub enum Form {
-    Right,
-    Wrong(usize),
 }
 
 // The counter number of entry e of a part, and 0 past the last entry.
@@ -52,9 +45,9 @@ fn in_bound(n: usize, most: usize, least: usize, x: usize, number: u16) -> bool
     least <= x && (x < n && (1 <= number && number as usize <= most))
 }
 
-// One pass over the entries of a part with the least counter number allowed and the closing entries so far: `count` of
-// them are wanted, and no number is above `most`.
-pub fn first_wrong(ws: &[u16], part: Part, count: usize, most: usize, n: usize) -> Form
+// The first wrong entry of a part, if one is. One pass with the least counter number allowed and the closing entries so
+// far: `count` of them are wanted, and no number is above `most`.
+pub fn first_wrong(ws: &[u16], part: Part, count: usize, most: usize, n: usize) -> Option<usize>
     requires part_held { PartHeld ws.now part }
     requires n_le_max_counters { n ≤ max_counters }
     ensures { told result ≡
@@ -64,30 +57,31 @@ pub fn first_wrong(ws: &[u16], part: Part, count: usize, most: usize, n: usize) 
     let mut closed: usize = 0;
     for e in 0..part.size {
         if closed == count {
-            return Form::Wrong(e);
+            return Some(e);
         }
         let x = entry_counter(ws, part, e);
         let number = entry_number(ws, part, e);
         if x == n {
             if number != 0 {
-                return Form::Wrong(e);
+                return Some(e);
             }
             closed += 1;
             least = 0;
         } else {
             if !in_bound(n, most, least, x, number) {
-                return Form::Wrong(e);
+                return Some(e);
             }
             least = x + 1;
         }
     }
     if closed < count {
-        return Form::Wrong(part.size);
+        return Some(part.size);
     }
-    Form::Right
+    None
 }
 
-// Where the entries of the ceilings stand.
+// Where the entries of the ceilings stand. (Its twin for lines, `weights_form::weights_part`, differs in both numbers:
+// there is nothing that one function could share.)
 pub fn ceilings_part(s: Sizes) -> Part
     requires { WithinLimits present s }
     ensures { result ≡ ceilings_part_of s }
@@ -107,18 +101,19 @@ pub fn counter_at(ws: &[u16], s: Sizes, e: usize) -> usize
     entry_counter(ws, ceilings_part(s), e)
 }
 
-// Refusal 10: a limit is any number that a word holds.
-pub fn ceiling_check(ws: &[u16], s: Sizes, n: usize) -> Verdict
+// Refusal 10: a limit is any number that a word holds. (What it shares with refusal 16 is `first_wrong`; part, count,
+// most and verdict differ.)
+pub fn ceiling_check(ws: &[u16], s: Sizes, n: usize) -> Result<(), Verdict>
     requires whole { Whole ws.now s }
     requires n_le_max_counters { n ≤ max_counters }
-    ensures { result ≡ answer (ceiling_check_of ws.now s n) }
+    ensures { result ≡ outcome (ceiling_check_of ws.now s n) }
 {
     let part = ceilings_part(s);
     match first_wrong(ws, part, s.ceilings, OMEGA, n) {
-        Form::Right => Verdict::Safe,
-        Form::Wrong(e) => {
+        None => Ok(()),
+        Some(e) => {
             let here = part.at + e;
-            Verdict::Ceiling(here)
+            Err(Verdict::Ceiling(here))
         }
     }
 }

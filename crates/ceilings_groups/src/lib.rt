@@ -90,6 +90,8 @@ struct Sets {
 }
 
 // The three sets of m rules, all of one kind. Made in one loop: what is looked up for one set serves the others.
+// (`open_to_all` makes the first alone, a third of the work; one function for both would go over the rules once for
+// each set.)
 fn sets_to_all(
     limits: &[u16],
     ceilings: usize,

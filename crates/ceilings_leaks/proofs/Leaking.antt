@@ -6,13 +6,14 @@ use mathlib.Core.Path.{◌≡◌, refl, sym, ◌∙◌, ap, subst}
 use mathlib.Core.Logic.{⊎_elim}
 use mathlib.Core.Bool.{Bool, true, false, not, ◌&&◌, ◌||◌}
 use mathlib.Core.List.{List, [], ◌∷◌, Memᴰ}
-use lib.ListN.{length, get_or}
+use Rattle.std.proofs.Common.{Ok, Err}
+use lib.ListN.{get_or}
 use borrow.Author.Tests.{eq-eqb, ne_eqb}
-use Rattle.model.specs.Limits.{omega_limit, present}
+use Rattle.model.specs.Limits.{present}
 use Rattle.model.specs.declared.Sizes.{Sizes}
 use Rattle.model.specs.Demands.{WithinLimits}
 use Rattle.parts.specs.Parts.{LowSizes}
-use Rattle.model.specs.declared.Verdict.TheVariants.{Safe, Leak}
+use Rattle.model.specs.declared.Verdict.TheVariants.{Leak}
 use Rattle.model.specs.Index.{any, first}
 use Rattle.model.specs.Words.{left, right, columns}
 use Rattle.model.specs.Message.{ceilings_offset}
@@ -23,8 +24,9 @@ use Rattle.model.specs.Rules.{Rule, state_rules_of, rules}
 use Rattle.model.specs.Markings.{Marking, usable}
 use Rattle.model.specs.Verdict.{unless}
 use Rattle.model.specs.Ceilings.{Ceilings, ceilings_of, ceiling_entries, highest, under_some, leads_out, leak_check_of}
-use Rattle.model.specs.Verify.{answer}
+use Rattle.model.specs.Verify.{outcome}
 use Rattle.model.proofs.Logic.{test, and_left, and_right, and_intro, and_none, both}
+use Rattle.model.proofs.Outcome.{passes_unless}
 use Rattle.model.proofs.Index.{any_end, any_hit, any_miss, any_elim, any_intro, none_any, first_is, first_hit, first_miss, first_end, first_unique, gather_intro, gather_elim}
 use Rattle.model.proofs.Bounded.Fire.{Shaped, Apart}
 use Rattle.model.proofs.Bounded.Shaped.{rules_shaped}
@@ -293,12 +295,13 @@ module _ (ws : List ℕ) (s : Sizes) (n : ℕ) (limits : List ℕ) where
         let same : listed_rule (kind tg) i tos others j ≡ rule_of_step (step_at i kd tos others j) = rw is (listed_step tg i tos others j) in
         shaped_step n (step_at i kd tos others j) small (subst (λ ρ. Shaped n ρ) same shape)
 
-    pub leak_safe : (k : ℕ) → s.ceilings ≤ k → k ≤ s.ceilings → first 0 s.ceilings leaks ≡ first k s.ceilings leaks → Safe ≡ answer (leak_check_of ws s (ceilings_of ws s n) (rules p t))
-    unfolding leak_check_of answer unless ceilings_of
-    leak_safe k h l so = rw (eq-eqb _ s.ceilings (first_leak ∙ (so ∙ (first_end k s.ceilings leaks h ∙ let z : k ≡ s.ceilings = omega arith in z))))
+    pub leak_safe : (k : ℕ) → s.ceilings ≤ k → k ≤ s.ceilings → first 0 s.ceilings leaks ≡ first k s.ceilings leaks → Ok tt ≡ outcome (leak_check_of ws s (ceilings_of ws s n) (rules p t))
+    unfolding leak_check_of ceilings_of
+    leak_safe k h l so =
+        passes_unless _ _ (eq-eqb _ s.ceilings (first_leak ∙ (so ∙ (first_end k s.ceilings leaks h ∙ let z : k ≡ s.ceilings = omega arith in z))))
 
-    pub leak_refused : (k at entry : ℕ) (starts : List ℕ) → StartsTable n (ceiling_entries ws s) s.ceilings starts → k < s.ceilings → first 0 s.ceilings leaks ≡ first k s.ceilings leaks → leaks k ≡ true → at ≡ ceilings_offset s → entry ≡ get_or starts k 0 → Leak (at + 2 + entry) ≡ answer (leak_check_of ws s (ceilings_of ws s n) (rules p t))
-    unfolding leak_check_of answer unless ceilings_of
+    pub leak_refused : (k at entry : ℕ) (starts : List ℕ) → StartsTable n (ceiling_entries ws s) s.ceilings starts → k < s.ceilings → first 0 s.ceilings leaks ≡ first k s.ceilings leaks → leaks k ≡ true → at ≡ ceilings_offset s → entry ≡ get_or starts k 0 → Err (Leak (at + 2 + entry)) ≡ outcome (leak_check_of ws s (ceilings_of ws s n) (rules p t))
+    unfolding leak_check_of outcome unless ceilings_of
     leak_refused k at entry starts begins h so out e is =
         let found = first_leak ∙ (so ∙ first_hit k s.ceilings leaks h out) in
         let z = is ∙ begins.start k h in
@@ -313,7 +316,7 @@ pub state_none : (ws : List ℕ) (s : Sizes) (n : ℕ) (limits : List ℕ) (k i 
 unfolding by_state
 state_none ws s n limits k i h = h
 
-pub leak_refused_at : (ws : List ℕ) (s : Sizes) (n : ℕ) (limits : List ℕ) → Ready ws s → n ≡ counter_count (program ws s) (tables ws s) → LimitsTable (ceilings_of ws s n) limits → (k k₀ at entry : ℕ) (starts : List ℕ) → StartsTable n (ceiling_entries ws s) s.ceilings starts → k ≡ k₀ → k₀ < s.ceilings → first 0 s.ceilings (leaks ws s n limits) ≡ first k₀ s.ceilings (leaks ws s n limits) → leaks ws s n limits k ≡ true → at ≡ ceilings_offset s → entry ≡ get_or starts k₀ 0 → Leak (at + 2 + entry) ≡ answer (leak_check_of ws s (ceilings_of ws s n) (rules (program ws s) (tables ws s)))
+pub leak_refused_at : (ws : List ℕ) (s : Sizes) (n : ℕ) (limits : List ℕ) → Ready ws s → n ≡ counter_count (program ws s) (tables ws s) → LimitsTable (ceilings_of ws s n) limits → (k k₀ at entry : ℕ) (starts : List ℕ) → StartsTable n (ceiling_entries ws s) s.ceilings starts → k ≡ k₀ → k₀ < s.ceilings → first 0 s.ceilings (leaks ws s n limits) ≡ first k₀ s.ceilings (leaks ws s n limits) → leaks ws s n limits k ≡ true → at ≡ ceilings_offset s → entry ≡ get_or starts k₀ 0 → Err (Leak (at + 2 + entry)) ≡ outcome (leak_check_of ws s (ceilings_of ws s n) (rules (program ws s) (tables ws s)))
 leak_refused_at ws s n limits ready counted table k k₀ at entry starts begins e h so out z is =
     leak_refused ws s n limits ready counted table k₀ at entry starts begins h so (rw (← e) out) z is
 

@@ -7,7 +7,7 @@ ghost use Rattle.model.specs.Rows.{program, tag};
 ghost use Rattle.model.specs.Tables.{tables};
 ghost use Rattle.model.specs.Rules.{rules};
 ghost use Rattle.model.specs.Ceilings.{ceilings_of, leak_check_of};
-ghost use Rattle.model.specs.Verify.{answer};
+ghost use Rattle.model.specs.Verify.{outcome};
 ghost use Rattle.lists.specs.Ready.{Ready};
 ghost use Rattle.system_letters.specs.Letters.{ClassLetters, letter_width_of};
 ghost use Rattle.rules.specs.Derived.{RuleRoom};
@@ -177,7 +177,8 @@ fn rules_under(
 // Refusal 13: the first ceiling that leaks, at its first entry. Loops over the ceilings, over each one's states, over
 // the rules of a state, and over the ceilings that may cover the counts after a rule; left from inside at the first
 // limit exceeded, the first ceiling that covers, the first that leaks. Where rules are derived again, those of letters
-// that lead out of nothing are left out: a state may have a thousand of them under each ceiling.
+// that lead out of nothing are left out: a state may have a thousand of them under each ceiling. (Document 01 has this
+// nest of labelled loops: the states of a ceiling end at an entry that is none, and the candidates are bits of a mask.)
 pub fn leak_check(
     ws: &[u16],
     s: Sizes,
@@ -196,7 +197,7 @@ pub fn leak_check(
     tos: &mut [u16],
     others: &mut [u16],
     near: &mut [u64],
-) -> Verdict
+) -> Result<(), Verdict>
     requires joined_tables { JoinedTables ws.now s narrow.now fitting.now names.now letters.now }
     requires ceilings_ready { CeilingsReady ws.now s n limits.now starts.now holders.now }
     requires groups_upto { GroupsUpto (program ws.now s) (tables ws.now s) limits.now s.ceilings s.states n
@@ -206,7 +207,7 @@ pub fn leak_check(
     requires states_in_bounds { s.states * 12 ≤ length group.now }
     requires rooms { Rooms ws.now s n tos.old others.old near.old }
     ensures { result ≡
-        answer (leak_check_of ws.now s (ceilings_of ws.now s n)
+        outcome (leak_check_of ws.now s (ceilings_of ws.now s n)
         (rules (program ws.now s) (tables ws.now s))) }
 {
     let words = set_words(ws, s, narrow);
@@ -237,9 +238,9 @@ pub fn leak_check(
                 let other = others[j] as usize;
                 let step = Step {
                     from: i,
-                    to: to,
-                    kind: kind,
-                    other: other,
+                    to,
+                    kind,
+                    other,
                 };
                 if !is_usable(limits, s.ceilings, n, k, step) {
                     continue 'rules;
@@ -267,9 +268,9 @@ pub fn leak_check(
                 }
                 // the first ceiling that leaks
                 let place = ceilings_at(s) + 2 + first;
-                return Verdict::Leak(place);
+                return Err(Verdict::Leak(place));
             }
         }
     }
-    Verdict::Safe
+    Ok(())
 }

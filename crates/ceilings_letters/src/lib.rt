@@ -27,7 +27,8 @@ use program::rows::tag;
 use sets::{clear, copy_into, holds, put};
 
 // The letters that ceiling k holds, as a set, where they are asked for. Else nothing is promised of the set, nor ever
-// of bits behind the last letter: no one reads them.
+// of bits behind the last letter: no one reads them. (Whether they are asked for is the same for all ceilings, and the
+// set is room for each: an `Option` of the lent set would be made anew for each ceiling.)
 pub fn held_letters(
     asked: bool,
     s: Sizes,

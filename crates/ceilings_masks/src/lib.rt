@@ -36,15 +36,7 @@ fn in_word(ceilings: usize, i: usize) -> usize
     ensures by_index { (j : ℕ) → j < result → 64 * i + j < ceilings }
     ensures by_index_2 { (j : ℕ) → result ≤ j → j < 64 → ceilings ≤ 64 * i + j }
 {
-    let from = 64 * i;
-    if ceilings <= from {
-        return 0;
-    }
-    if ceilings - from < 64 {
-        ceilings - from
-    } else {
-        64
-    }
+    ceilings.saturating_sub(64 * i).min(64)
 }
 
 // Word i of the ceilings whose limit at counter x is `least` or more.
@@ -58,7 +50,7 @@ fn word_from(limits: &[u16], ceilings: usize, x: usize, least: usize, i: usize) 
     for j in 0..end {
         let k = 64 * i + j;
         if limit(limits, ceilings, k, x) >= least {
-            w = w | (1u64 << j);
+            w |= 1u64 << j;
         }
     }
     w
@@ -74,12 +66,7 @@ fn limits_from(limits: &[u16], ceilings: usize, x: usize, least: usize) -> Mask
     let b = word_from(limits, ceilings, x, least, 1);
     let c = word_from(limits, ceilings, x, least, 2);
     let d = word_from(limits, ceilings, x, least, 3);
-    Mask {
-        a: a,
-        b: b,
-        c: c,
-        d: d,
-    }
+    Mask { a, b, c, d }
 }
 
 // The three sets of number i, one behind the other.
@@ -233,6 +220,7 @@ pub fn compare(
         above: below(256),
         letters: below(256),
     };
+    // Where the ceiling ends is not known before its last entry is read: a `for` has no end to count to.
     let mut i = e;
     loop {
         let x = counter_at(ws, s, i);

@@ -5,12 +5,13 @@ use native.Mathlib.Omega.{arith}
 use mathlib.Core.Path.{◌≡◌, sym, ◌∙◌, ap}
 use mathlib.Core.Bool.{Bool, true, false, ◌&&◌}
 use mathlib.Core.List.{List}
+use Rattle.std.proofs.Common.{Ok, Err}
 use lib.ListN.{length, get_or}
 use lib.Dec.{leb, eqb}
 use borrow.Author.Tests.{le-leb, lt-leb, eq-eqb, ne_eqb}
 use Rattle.model.specs.declared.Sizes.{Sizes}
 use Rattle.model.specs.declared.Verdict.{Verdict}
-use Rattle.model.specs.declared.Verdict.TheVariants.{Safe, Met}
+use Rattle.model.specs.declared.Verdict.TheVariants.{Met}
 use Rattle.model.specs.Index.{any, first}
 use Rattle.model.specs.Words.{Columns, left, right}
 use Rattle.model.specs.Message.{bads_offset}
@@ -21,7 +22,8 @@ use Rattle.model.specs.Bads.{bad_rows, bad_row_of, Subject, past_heads_of, Item,
 use Rattle.model.specs.Counters.{counter_count, counts}
 use Rattle.model.specs.Markings.{Marking, sum_in}
 use Rattle.model.specs.Ceilings.{ceilings_of, highest, bad_allowed, met_check_of}
-use Rattle.model.specs.Verify.{answer}
+use Rattle.model.specs.Verify.{outcome}
+use Rattle.model.proofs.Outcome.{passes_unless, refuses_unless}
 use Rattle.model.proofs.Index.{any_intro, any_elim, any_none, none_any, first_is, first_unique, total_same}
 use Rattle.bits.specs.Bits.{Row}
 use Rattle.ceilings.specs.Table.{held, LimitsTable}
@@ -34,14 +36,12 @@ use Rattle.ceilings_met.specs.Sums.{counts_of, SumsOf, Summed}
 use Rattle.bads_rows.proofs.BadRows.{met_item, met_over}
 use Rattle.ceilings_met.proofs.Sums.{range_sum, between, sums_rise, sums_counts}
 
--- the answer of a search for the first
-pub first_refused : (k j e : ℕ) (v : ℕ → Verdict) → k ≡ j → (j ≡ e → ⊥) → v j ≡ answer (unless (eqb k e) (v k))
-unfolding answer unless
-first_refused k j e v z h = rw (z, ne_eqb j e h)
+-- what a search for the first finds
+pub first_refused : (k j e : ℕ) (v : ℕ → Verdict) → k ≡ j → (j ≡ e → ⊥) → Err (v j) ≡ outcome (unless (eqb k e) (v k))
+first_refused k j e v z h = rw z (refuses_unless _ (v j) (ne_eqb j e h))
 
-pub first_passed : (k e : ℕ) (v : ℕ → Verdict) → k ≡ e → Safe ≡ answer (unless (eqb k e) (v k))
-unfolding answer unless
-first_passed k e v z = rw (eq-eqb k e z)
+pub first_passed : (k e : ℕ) (v : ℕ → Verdict) → k ≡ e → Ok tt ≡ outcome (unless (eqb k e) (v k))
+first_passed k e v z = passes_unless _ _ (eq-eqb k e z)
 
 -- the first that one of the turns before k + 1 passes is the first that turn k passes, of those before the first that one before k does
 first_less : (n k a b : ℕ) (f : ℕ → ℕ → Bool) → a ≡ first 0 n (λ j. any 0 k (f j)) → b ≡ first 0 a (λ j. f j k) → b ≡ first 0 n (λ j. any 0 (k + 1) (f j))
@@ -171,11 +171,11 @@ module _ (ws : List ℕ) (s : Sizes) where
       allowed_next a b e h = first_less s.bads k a b allows e (h ∙ ap (first 0 a) (λ i j. met_same j i))
 
     -- the answer
-    pub met_refused : (j r at : ℕ) → j ≡ first_allowed s.ceilings → (j ≡ s.bads → ⊥) → r ≡ bad_row_of (program ws s) rows j → at ≡ bads_offset s + 2 → Met (at + r) ≡ answer (met_check_of s (program ws s) (tables ws s) (ceilings_of ws s n) rows)
+    pub met_refused : (j r at : ℕ) → j ≡ first_allowed s.ceilings → (j ≡ s.bads → ⊥) → r ≡ bad_row_of (program ws s) rows j → at ≡ bads_offset s + 2 → Err (Met (at + r)) ≡ outcome (met_check_of s (program ws s) (tables ws s) (ceilings_of ws s n) rows)
     unfolding met_check_of bad_met bad_allowed ceilings_of
     met_refused j r at e h w z = rw (z, w) (first_refused (first_allowed s.ceilings) j s.bads (λ i. Met (bads_offset s + 2 + bad_row_of (program ws s) rows i)) (sym e) h)
 
-    pub met_safe : (j : ℕ) → j ≡ first_allowed s.ceilings → j ≡ s.bads → Safe ≡ answer (met_check_of s (program ws s) (tables ws s) (ceilings_of ws s n) rows)
+    pub met_safe : (j : ℕ) → j ≡ first_allowed s.ceilings → j ≡ s.bads → Ok tt ≡ outcome (met_check_of s (program ws s) (tables ws s) (ceilings_of ws s n) rows)
     unfolding met_check_of bad_met bad_allowed ceilings_of
     met_safe j e h = first_passed (first_allowed s.ceilings) s.bads (λ i. Met (bads_offset s + 2 + bad_row_of (program ws s) rows i)) (sym e ∙ h)
 

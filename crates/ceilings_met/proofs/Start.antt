@@ -6,19 +6,20 @@ use mathlib.Core.Path.{◌≡◌, refl, sym, ◌∙◌, ap}
 use mathlib.Core.Bool.{Bool, true, false}
 use mathlib.Core.Logic.{inr, ⊎_elim}
 use mathlib.Core.List.{List}
+use Rattle.std.proofs.Common.{Ok, Err}
 use borrow.Author.Tests.{eq-eqb, ne_eqb}
 use Rattle.model.specs.declared.Sizes.{Sizes}
-use Rattle.model.specs.declared.Verdict.TheVariants.{Safe, Start}
+use Rattle.model.specs.declared.Verdict.TheVariants.{Start}
 use Rattle.model.specs.Index.{any}
-use Rattle.model.specs.Verdict.{unless}
 use Rattle.model.specs.Message.{ceilings_offset}
 use Rattle.model.specs.Rows.{Program, program}
 use Rattle.model.specs.Tables.{Tables, tables, state_index_of}
 use Rattle.model.specs.Closed.{start_state}
 use Rattle.model.specs.Markings.{initial}
 use Rattle.model.specs.Ceilings.{CeilingLimits, ceilings_of, under, under_some, start_check_of}
-use Rattle.model.specs.Verify.{answer}
+use Rattle.model.specs.Verify.{outcome}
 use Rattle.model.proofs.Logic.{test}
+use Rattle.model.proofs.Outcome.{passes_unless, refuses_unless}
 use Rattle.model.proofs.Index.{any_hit, any_miss}
 use Rattle.model.proofs.Bounded.Under.{under_iff}
 use Rattle.ceilings.specs.Table.{held, LimitsTable}
@@ -51,21 +52,13 @@ module _ (ws : List ℕ) (s : Sizes) (n : ℕ) where
   pub covers_start : ℕ → Bool
   covers_start k = under n ((ceilings_of ws s n).limit k) (initial (program ws s) (tables ws s))
 
-  answer_safe : (b : Bool) → b ≡ true → Safe ≡ answer (unless b (Start (ceilings_offset s)))
-  unfolding unless answer
-  answer_safe b h = rw h
-
-  answer_start : (b : Bool) → b ≡ false → Start (ceilings_offset s) ≡ answer (unless b (Start (ceilings_offset s)))
-  unfolding unless answer
-  answer_start b h = rw h
-
-  pub start_safe : any 0 s.ceilings covers_start ≡ true → Safe ≡ answer (start_check_of s (program ws s) (tables ws s) (ceilings_of ws s n))
+  pub start_safe : any 0 s.ceilings covers_start ≡ true → Ok tt ≡ outcome (start_check_of s (program ws s) (tables ws s) (ceilings_of ws s n))
   unfolding start_check_of under_some covers_start ceilings_of
-  start_safe h = answer_safe _ h
+  start_safe h = passes_unless _ _ h
 
-  pub start_refused : any 0 s.ceilings covers_start ≡ false → Start (ceilings_offset s) ≡ answer (start_check_of s (program ws s) (tables ws s) (ceilings_of ws s n))
+  pub start_refused : any 0 s.ceilings covers_start ≡ false → Err (Start (ceilings_offset s)) ≡ outcome (start_check_of s (program ws s) (tables ws s) (ceilings_of ws s n))
   unfolding start_check_of under_some covers_start ceilings_of
-  start_refused h = answer_start _ h
+  start_refused h = refuses_unless _ _ h
 
   module _ (limits : List ℕ) (table : LimitsTable (ceilings_of ws s n) limits) (x₀ : ℕ) (at-start : x₀ ≡ state_index_of (tables ws s) (start_state (program ws s))) (inside : x₀ < n) (k l : ℕ) (below : k < s.ceilings) (value : l ≡ held limits s.ceilings k x₀) where
     same : l ≡ (ceilings_of ws s n).limit k x₀

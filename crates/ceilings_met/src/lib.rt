@@ -10,7 +10,7 @@ ghost use Rattle.model.specs.Closed.{start_state};
 ghost use Rattle.model.specs.Bads.{bad_rows, met};
 ghost use Rattle.model.specs.Markings.{sum_in};
 ghost use Rattle.model.specs.Ceilings.{highest, ceilings_of, met_check_of, start_check_of};
-ghost use Rattle.model.specs.Verify.{answer};
+ghost use Rattle.model.specs.Verify.{outcome};
 ghost use Rattle.bads_rows.specs.Items.{BadsInForm, subject_from, items_at};
 ghost use Rattle.ceilings_met.specs.Met.{Ready, bad_met};
 ghost use Rattle.ceilings_met.specs.Sums.{counts_of, SumsOf, Summed};
@@ -75,6 +75,7 @@ fn meets(ws: &[u16], s: Sizes, froms: &[u16], tos: &[u16], sums: &[Sum], r: usiz
         (sum_in (program ws.now s) (tables ws.now s) (counts_of sums.now))
         (items_at (bad_rows ws.now s) r) }
 {
+    // A walk from item to item, which are of several lengths: no index is counted.
     let mut i = r;
     loop {
         if bad_tag(ws, s, i) != TAG_CLASS {
@@ -116,12 +117,12 @@ pub fn met_check(
     froms: &[u16],
     tos: &[u16],
     sums: &mut [Sum],
-) -> Verdict
+) -> Result<(), Verdict>
     requires ready { Ready ws.now s n limits.now froms.now tos.now }
     requires bads_in_form { BadsInForm ws.now s }
     requires n_in_bounds { n < length sums.old }
     ensures { result ≡
-        answer (met_check_of s (program ws.now s) (tables ws.now s)
+        outcome (met_check_of s (program ws.now s) (tables ws.now s)
         (ceilings_of ws.now s n) (bad_rows ws.now s)) }
 {
     let mut least = s.bads;
@@ -130,28 +131,28 @@ pub fn met_check(
         least = first_met(ws, s, froms, tos, sums, least);
     }
     if least == s.bads {
-        return Verdict::Safe;
+        return Ok(());
     }
     let at = 4 + 2 * s.rows + 2;
     let here = at + bad_row(ws, s, least);
-    Verdict::Met(here)
+    Err(Verdict::Met(here))
 }
 
 // Refusal 11: some ceiling allows 1 at counter x0, that of the start; all other counts are 0.
-pub fn start_check(ws: &[u16], s: Sizes, n: usize, limits: &[u16], x0: usize) -> Verdict
+pub fn start_check(ws: &[u16], s: Sizes, n: usize, limits: &[u16], x0: usize) -> Result<(), Verdict>
     requires whole { Whole ws.now s }
     requires n_le_max_counters { n ≤ max_counters }
     requires limits_table { LimitsTable (ceilings_of ws.now s n) limits.now }
     requires x0_value { x0 ≡ state_index_of (tables ws.now s) (start_state (program ws.now s)) }
     requires x0_lt_n { x0 < n }
     ensures { result ≡
-        answer (start_check_of s (program ws.now s) (tables ws.now s)
+        outcome (start_check_of s (program ws.now s) (tables ws.now s)
         (ceilings_of ws.now s n)) }
 {
     for k in 0..s.ceilings {
         if 1 <= limit(limits, s.ceilings, k, x0) {
-            return Verdict::Safe;
+            return Ok(());
         }
     }
-    Verdict::Start(ceilings_at(s))
+    Err(Verdict::Start(ceilings_at(s)))
 }

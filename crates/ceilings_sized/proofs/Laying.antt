@@ -8,14 +8,14 @@ use Rattle.rooms.specs.Cleared.{Cleared}
 use Rattle.rooms.specs.Rooms.{limit_room}
 use Rattle.model.specs.declared.Sizes.{Sizes}
 use Rattle.model.specs.Rows.{program}
-use Rattle.model.specs.Limits.{present, max_rows, max_counters, max_ceilings}
+use Rattle.model.specs.Limits.{present, max_counters, max_ceilings}
 use Rattle.model.specs.Tables.{tables}
 use Rattle.model.specs.Counters.{counter_count}
 use Rattle.model.specs.Demands.{WithinLimits}
 use Rattle.closure_sized.proofs.Opening.{product_most}
 use Rattle.rules.specs.Derived.{RuleRoom}
 use Rattle.ceilings.specs.Table.{BoundsRoom}
-use Rattle.stages.specs.Scratch.{MaskRoom}
+use Rattle.stages.specs.Scratch.{MaskRoom, ListsFit, LimitsFit}
 use Rattle.stages.proofs.Laying.{rule_room, bounds_room}
 
 -- no message has more limits
@@ -31,17 +31,20 @@ mask_room j l n holders group near g h a b c =
       beside = let q = c.room in omega arith;
     }
 
--- cleared tables of these sizes are all that the stage asks for where there are no more than m counters
-module _ (ws : List ℕ) (s : Sizes) (n m cells most triples pairs list : ℕ) (limits ceiling-at sums holders group near tos others : List ℕ) where
-  pub limits_lent : WithinLimits present s → n ≡ counter_count (program ws s) (tables ws s) → n ≤ m → n * s.ceilings ≤ cells → (m < most) × (m * 12 ≤ triples) × (m * 8 ≤ pairs) → (max_rows < list) × (16 * m ≤ list) × (max_counters ≤ list) × (list ≤ 65536) → Cleared cells limits → Cleared 258 ceiling-at → Cleared most sums → Cleared triples holders → Cleared triples group → Cleared pairs near → Cleared list tos → Cleared list others → (BoundsRoom n s.ceilings limits ceiling-at × (n < length sums)) × (MaskRoom n holders group near × (RuleRoom ws s tos others × (length tos ≤ 65536)))
-  limits_lent l e h k f g a b c d u v t o =
+-- cleared tables of these sizes are all that the stage asks for
+module _ (ws : List ℕ) (s : Sizes) (n cells counts triples pairs list : ℕ) (limits ceiling-at sums holders group near tos others : List ℕ) where
+  pub limits_lent : WithinLimits present s → n ≡ counter_count (program ws s) (tables ws s) → LimitsFit s n cells counts triples pairs → ListsFit n list → Cleared cells limits → Cleared 258 ceiling-at → Cleared counts sums → Cleared triples holders → Cleared triples group → Cleared pairs near → Cleared list tos → Cleared list others → (BoundsRoom n s.ceilings limits ceiling-at × (n < length sums)) × (MaskRoom n holders group near × (RuleRoom ws s tos others × (length tos ≤ 65536)))
+  limits_lent l e f g a b c d u v t o =
       let rows = l.rows.1 in
       let count = l.ceilings in
+      let above = g.values in
+      let most = g.most in
+      let summed = f.summed in
       let q = c.room in
       let r = t.room in (
-        (bounds_room _ _ _ _ _ _ k (omega arith) a b, omega arith),
+        (bounds_room _ _ _ _ _ _ f.limited (omega arith) a b, omega arith),
         (
-          mask_room triples pairs n holders group near (omega arith) (omega arith) d u v,
-          (rule_room ws s n list tos others e (omega arith) (omega arith) (omega arith) t o, omega arith),
+          mask_room triples pairs n holders group near f.held f.beside d u v,
+          (rule_room ws s n list tos others e (omega arith) g.letters g.counters t o, omega arith),
         ),
       )

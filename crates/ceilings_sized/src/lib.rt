@@ -2,21 +2,24 @@
 #![tactic(auto)]
 
 ghost use Rattle.std.specs.Prelude.{◌≡◌, ◌*◌, ◌≤◌, length};
-ghost use Rattle.model.specs.Verify.{answer};
+ghost use Rattle.model.specs.Verify.{outcome};
 ghost use Rattle.rule_tables.specs.Joined.{JoinedTables};
 ghost use Rattle.system_space.specs.Space.{words_after};
 ghost use Rattle.stages.specs.Order.{below_ceilings};
-ghost use Rattle.stages.specs.Scratch.{Numbered};
+ghost use Rattle.stages.specs.Scratch.{Numbered, ListsFit, LimitsFit};
 
 use ceilings_stage::ceilings_on;
 use model::{Sizes, Verdict};
-use rooms::{
-    limit_words, mask_pairs, mask_triples, row_words16, row_words32, words16_258, words16_2048,
-    words16_16384, words32_66, words32_258, words64_256, words64_384, words64_1024, words64_1536,
-};
+use rooms::{LIMIT_ROOM, MASK_PAIRS, MASK_TRIPLES, ROW_ROOM, words16, words32, words64};
 
-// Refusals 11 to 14 of few counters and limits.
-fn few_limits(
+// Refusals 11 to 14 over limits, counts, sets of ceilings and lists of rules of these lengths.
+fn limits_over<
+    const LIMITS: usize,
+    const SUMS: usize,
+    const TRIPLES: usize,
+    const PAIRS: usize,
+    const LIST: usize,
+>(
     ws: &[u16],
     s: Sizes,
     narrow: &[u16],
@@ -25,110 +28,22 @@ fn few_limits(
     letters: &[u64],
     n: usize,
     lent: &mut [u32],
-) -> Verdict
+) -> Result<(), Verdict>
     requires joined_tables { JoinedTables ws.now s narrow.now fitting.now names.now letters.now }
     requires numbered { Numbered ws.now s n }
-    requires n_bound { (n ≤ 32) × (n * s.ceilings ≤ 2048) }
-    ensures value { result ≡ answer (below_ceilings ws.now s n (length lent.old)) }
+    requires limits_fit { LimitsFit s n LIMITS SUMS TRIPLES PAIRS }
+    requires lists_fit { ListsFit n LIST }
+    ensures value { result ≡ outcome (below_ceilings ws.now s n (length lent.old)) }
     ensures lent_after { lent.new ≡ words_after result ws.now s lent.old }
 {
-    let mut limits = words16_2048();
-    let mut ceiling_at = words16_258();
-    let mut sums = words32_66();
-    let mut holders = words64_384();
-    let mut group = words64_384();
-    let mut near = words64_256();
-    let mut tos = row_words16();
-    let mut others = row_words16();
-    ceilings_on(
-        ws,
-        s,
-        narrow,
-        fitting,
-        names,
-        letters,
-        n,
-        &mut limits,
-        &mut ceiling_at,
-        &mut sums,
-        &mut holders,
-        &mut group,
-        &mut near,
-        &mut tos,
-        &mut others,
-        lent,
-    )
-}
-
-// Refusals 11 to 14 of more.
-fn more_limits(
-    ws: &[u16],
-    s: Sizes,
-    narrow: &[u16],
-    fitting: &[u64],
-    names: &[u64],
-    letters: &[u64],
-    n: usize,
-    lent: &mut [u32],
-) -> Verdict
-    requires joined_tables { JoinedTables ws.now s narrow.now fitting.now names.now letters.now }
-    requires numbered { Numbered ws.now s n }
-    requires n_bound { (n ≤ 128) × (n * s.ceilings ≤ 16384) }
-    ensures value { result ≡ answer (below_ceilings ws.now s n (length lent.old)) }
-    ensures lent_after { lent.new ≡ words_after result ws.now s lent.old }
-{
-    let mut limits = words16_16384();
-    let mut ceiling_at = words16_258();
-    let mut sums = words32_258();
-    let mut holders = words64_1536();
-    let mut group = words64_1536();
-    let mut near = words64_1024();
-    let mut tos = words16_2048();
-    let mut others = words16_2048();
-    ceilings_on(
-        ws,
-        s,
-        narrow,
-        fitting,
-        names,
-        letters,
-        n,
-        &mut limits,
-        &mut ceiling_at,
-        &mut sums,
-        &mut holders,
-        &mut group,
-        &mut near,
-        &mut tos,
-        &mut others,
-        lent,
-    )
-}
-
-// Refusals 11 to 14 of any number.
-fn all_limits(
-    ws: &[u16],
-    s: Sizes,
-    narrow: &[u16],
-    fitting: &[u64],
-    names: &[u64],
-    letters: &[u64],
-    n: usize,
-    lent: &mut [u32],
-) -> Verdict
-    requires joined_tables { JoinedTables ws.now s narrow.now fitting.now names.now letters.now }
-    requires numbered { Numbered ws.now s n }
-    ensures value { result ≡ answer (below_ceilings ws.now s n (length lent.old)) }
-    ensures lent_after { lent.new ≡ words_after result ws.now s lent.old }
-{
-    let mut limits = limit_words();
-    let mut ceiling_at = words16_258();
-    let mut sums = row_words32();
-    let mut holders = mask_triples();
-    let mut group = mask_triples();
-    let mut near = mask_pairs();
-    let mut tos = words16_16384();
-    let mut others = words16_16384();
+    let mut limits = words16::<LIMITS>();
+    let mut ceiling_at = words16::<258>();
+    let mut sums = words32::<SUMS>();
+    let mut holders = words64::<TRIPLES>();
+    let mut group = words64::<TRIPLES>();
+    let mut near = words64::<PAIRS>();
+    let mut tos = words16::<LIST>();
+    let mut others = words16::<LIST>();
     ceilings_on(
         ws,
         s,
@@ -161,26 +76,32 @@ pub fn ceilings_verdict(
     letters: &[u64],
     n: usize,
     lent: &mut [u32],
-) -> Verdict
+) -> Result<(), Verdict>
     requires le_most { 1 ≤ most }
     requires joined_tables { JoinedTables ws.now s narrow.now fitting.now names.now letters.now }
     requires numbered { Numbered ws.now s n }
-    ensures value { result ≡ answer (below_ceilings ws.now s n (length lent.old)) }
+    ensures value { result ≡ outcome (below_ceilings ws.now s n (length lent.old)) }
     ensures lent_after { lent.new ≡ words_after result ws.now s lent.old }
 {
     if most >= 512 {
-        return all_limits(ws, s, narrow, fitting, names, letters, n, lent);
+        return limits_over::<LIMIT_ROOM, ROW_ROOM, MASK_TRIPLES, MASK_PAIRS, 16384>(
+            ws, s, narrow, fitting, names, letters, n, lent,
+        );
     }
     if n <= most {
         let cells = n * s.ceilings;
         if most <= 32 {
             if cells <= 2048 {
-                return few_limits(ws, s, narrow, fitting, names, letters, n, lent);
+                return limits_over::<2048, 66, 384, 256, ROW_ROOM>(
+                    ws, s, narrow, fitting, names, letters, n, lent,
+                );
             }
         }
         if most <= 128 {
             if cells <= 16384 {
-                return more_limits(ws, s, narrow, fitting, names, letters, n, lent);
+                return limits_over::<16384, 258, 1536, 1024, 2048>(
+                    ws, s, narrow, fitting, names, letters, n, lent,
+                );
             }
         }
     }

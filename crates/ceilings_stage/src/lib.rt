@@ -2,7 +2,7 @@
 #![tactic(auto)]
 
 ghost use Rattle.std.specs.Prelude.{◌≡◌, ◌≤◌, ◌<◌, length};
-ghost use Rattle.model.specs.Verify.{answer};
+ghost use Rattle.model.specs.Verify.{outcome};
 ghost use Rattle.rules.specs.Derived.{RuleRoom};
 ghost use Rattle.rule_tables.specs.Joined.{JoinedTables};
 ghost use Rattle.system_space.specs.Space.{words_after};
@@ -10,7 +10,6 @@ ghost use Rattle.stages.specs.Order.{below_ceilings};
 ghost use Rattle.ceilings.specs.Table.{BoundsRoom};
 ghost use Rattle.stages.specs.Scratch.{Numbered, MaskRoom};
 
-use answers::is_safe;
 use ceilings::fill_limits;
 use leaks_stage::leaks_on;
 use model::{Sizes, Verdict};
@@ -37,34 +36,23 @@ pub fn ceilings_on(
     tos: &mut [u16],
     others: &mut [u16],
     lent: &mut [u32],
-) -> Verdict
+) -> Result<(), Verdict>
     requires joined_tables { JoinedTables ws.now s narrow.now fitting.now names.now letters.now }
     requires numbered { Numbered ws.now s n }
     requires bounds_room { BoundsRoom n s.ceilings limits.old ceiling_at.old × (n < length sums.old) }
     requires mask_room { MaskRoom n holders.old group.old near.old }
     requires rule_room { RuleRoom ws.now s tos.old others.old × (length tos.old ≤ 65536) }
-    ensures value { result ≡ answer (below_ceilings ws.now s n (length lent.old)) }
+    ensures value { result ≡ outcome (below_ceilings ws.now s n (length lent.old)) }
     ensures lent_after { lent.new ≡ words_after result ws.now s lent.old }
 {
     fill_limits(ws, s, n, limits, ceiling_at);
-    let begins = start_verdict(ws, s, narrow, n, limits);
-    if !is_safe(begins) {
-        return begins;
-    }
-    let met = met_verdict(ws, s, &narrow[LETTER_AT..], letters, n, limits, sums);
-    if !is_safe(met) {
-        return met;
-    }
+    start_verdict(ws, s, narrow, n, limits)?;
+    met_verdict(ws, s, &narrow[LETTER_AT..], letters, n, limits, sums)?;
     let mut at = row_words16();
-    let leaks = leaks_on(
+    let totals = leaks_on(
         ws, s, narrow, fitting, names, letters, n, limits, ceiling_at, holders, group, near,
         &mut at, tos, others,
-    );
-    let held = leaks.verdict;
-    if !is_safe(held) {
-        return held;
-    }
-    let totals = leaks.totals;
+    )?;
     space_verdict(
         ws, s, narrow, fitting, names, letters, totals, &mut at, tos, others, lent,
     )

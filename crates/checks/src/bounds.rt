@@ -1,7 +1,7 @@
 // The bounds of a message, which are its ceilings, or lines of weights in their place: the checks that follow the form
 // of either.
 ghost use Rattle.std.specs.Prelude.{◌≡◌, length};
-ghost use Rattle.model.specs.Verify.{answer};
+ghost use Rattle.model.specs.Verify.{outcome};
 ghost use Rattle.rule_tables.specs.Joined.{JoinedTables};
 ghost use Rattle.system_space.specs.Space.{words_after};
 ghost use Rattle.stages.specs.Order.{below_bounds};
@@ -21,10 +21,10 @@ pub fn bounds_verdict(
     letters: &[u64],
     n: usize,
     lent: &mut [u32],
-) -> Verdict
+) -> Result<(), Verdict>
     requires joined_tables { JoinedTables ws.now s narrow.now fitting.now names.now letters.now }
     requires formed { Formed ws.now s n }
-    ensures value { result ≡ answer (below_bounds ws.now s n (length lent.old)) }
+    ensures value { result ≡ outcome (below_bounds ws.now s n (length lent.old)) }
     ensures lent_after { lent.new ≡ words_after result ws.now s lent.old }
 {
     if s.lines == 0 {

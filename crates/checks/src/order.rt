@@ -2,61 +2,47 @@
 // are whole.
 ghost use Rattle.std.specs.Prelude.{◌≡◌, length};
 ghost use Rattle.model.specs.Limits.{present};
-ghost use Rattle.model.specs.Verify.{message_check, answer};
+ghost use Rattle.model.specs.Verify.{message_check, outcome};
 ghost use Rattle.evidence.specs.Whole.{PartsWhole};
 ghost use Rattle.system_space.specs.Space.{words_after};
 ghost use Rattle.matching_names.specs.Names.{Unfitted};
 ghost use Rattle.stages.specs.Order.{taken};
 
 use crate::system::system_verdict;
-use answers::is_safe;
 use bads::bad_check;
 use closure_sized::open_verdict;
 use evidence::entries::entry_check;
 use grammar::row_check;
 use layout::ends::fill_ends;
 use model::{Sizes, Verdict};
-use rooms::{row_words16, rule_words16, words16_512};
+use rooms::{row_words16, rule_words16, words16};
 use rule_tables::join_tables;
 use scopes::names::name_check;
 use scopes::scope::scope_check;
 
 // Refusals 3 to 8, 22, 9 and all behind, one after the other; after none the listing is written.
-pub fn words_verdict(ws: &[u16], s: Sizes, fitting: &mut [u64], lent: &mut [u32]) -> Verdict
+pub fn words_verdict(
+    ws: &[u16],
+    s: Sizes,
+    fitting: &mut [u64],
+    lent: &mut [u32],
+) -> Result<(), Verdict>
     requires parts_whole { PartsWhole ws.now s }
     requires unfitted { Unfitted s.names s.rows fitting.old }
-    ensures value { result ≡ answer (message_check present (taken ws.now s) (length lent.old)) }
+    ensures value { result ≡ outcome (message_check present (taken ws.now s) (length lent.old)) }
     ensures lent_after { lent.new ≡ words_after result ws.now s lent.old }
 {
-    let rows = row_check(ws, s);
-    if !is_safe(rows) {
-        return rows;
-    }
-    let mut binders = words16_512();
-    let unique = name_check(ws, s, &mut binders);
-    if !is_safe(unique) {
-        return unique;
-    }
+    row_check(ws, s)?;
+    let mut binders = words16::<512>();
+    name_check(ws, s, &mut binders)?;
     let mut narrow = rule_words16();
     fill_ends(ws, s, &mut narrow);
-    let scopes = scope_check(ws, s, &narrow, &binders);
-    if !is_safe(scopes) {
-        return scopes;
-    }
-    let bads = bad_check(ws, s);
-    if !is_safe(bads) {
-        return bads;
-    }
-    let entries = entry_check(ws, s);
-    if !is_safe(entries) {
-        return entries;
-    }
+    scope_check(ws, s, &narrow, &binders)?;
+    bad_check(ws, s)?;
+    entry_check(ws, s)?;
     let mut starts = row_words16();
     let mut branches = row_words16();
-    let open = open_verdict(64, ws, s, &narrow, &mut starts, fitting, &mut branches);
-    if !is_safe(open) {
-        return open;
-    }
+    open_verdict(64, ws, s, &narrow, &mut starts, fitting, &mut branches)?;
     join_tables(s, &starts, &branches, &mut narrow);
     system_verdict(ws, s, &mut narrow, fitting, lent)
 }

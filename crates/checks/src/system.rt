@@ -5,7 +5,7 @@ ghost use Rattle.model.specs.Limits.{present, max_counters};
 ghost use Rattle.model.specs.Demands.{WithinLimits};
 ghost use Rattle.model.specs.Rows.{program};
 ghost use Rattle.model.specs.Tables.{tables};
-ghost use Rattle.model.specs.Verify.{answer};
+ghost use Rattle.model.specs.Verify.{outcome};
 ghost use Rattle.lists.specs.Ready.{Ready};
 ghost use Rattle.values.specs.Values.{Empty};
 ghost use Rattle.system_letters.specs.Letters.{ClassLetters, letter_width_of};
@@ -18,14 +18,13 @@ ghost use Rattle.stages.specs.Order.{from_22, from_11};
 ghost use Rattle.stages.specs.Scratch.{ClosedTables, Lettered};
 
 use crate::bounds::bounds_verdict;
-use answers::is_safe;
 use kept_letters::fill_reads;
 use letter_codes::fill_codes;
 use letter_sets::fill_letters;
 use mailed::counters_verdict;
 use matching_names::name_width;
 use model::{MAX_ARITY, MAX_COUNTERS, OTHER_HEADS, Sizes, Verdict};
-use rooms::{letter_codes, letter_sets, words64_130, words64_256, words64_1024};
+use rooms::{LETTER_SETS, letter_codes, words64};
 use rule_tables::LETTER_AT;
 use stages::form_verdict;
 use system_letters::{fill_names, letter_width};
@@ -65,12 +64,12 @@ fn lettered_verdict(
     n: usize,
     letters: &mut [u64],
     lent: &mut [u32],
-) -> Verdict
+) -> Result<(), Verdict>
     requires lettered { Lettered ws.now s narrow.now fitting.now names.now codes.now n }
     requires empty { Empty (letter_width_of (program ws.now s) (tables ws.now s)) letters.old }
     requires letter_room { LetterRoom (program ws.now s) (tables ws.now s) letters.old }
     requires owners_room { OwnersRoom (program ws.now s) (tables ws.now s) letters.old }
-    ensures value { result ≡ answer (from_11 ws.now s (length lent.old)) }
+    ensures value { result ≡ outcome (from_11 ws.now s (length lent.old)) }
     ensures lent_after { lent.new ≡ words_after result ws.now s lent.old }
 {
     let letter_at = &narrow[LETTER_AT..];
@@ -80,8 +79,8 @@ fn lettered_verdict(
     bounds_verdict(ws, s, narrow, fitting, names, letters, n, lent)
 }
 
-// Refusals behind 10 or 16 of few letters.
-fn few_letters(
+// Refusals behind 10 or 16 over so many words for sets of letters.
+fn letters_over<const WORDS: usize>(
     ws: &[u16],
     s: Sizes,
     narrow: &[u16],
@@ -90,52 +89,13 @@ fn few_letters(
     codes: &[u64],
     n: usize,
     lent: &mut [u32],
-) -> Verdict
+) -> Result<(), Verdict>
     requires lettered { Lettered ws.now s narrow.now fitting.now names.now codes.now n }
-    requires states_bound { owner_at (program ws.now s) (tables ws.now s) s.states ≤ 256 }
-    ensures value { result ≡ answer (from_11 ws.now s (length lent.old)) }
+    requires words_bound { (owner_at (program ws.now s) (tables ws.now s) s.states ≤ WORDS) × (WORDS ≤ 65536) }
+    ensures value { result ≡ outcome (from_11 ws.now s (length lent.old)) }
     ensures lent_after { lent.new ≡ words_after result ws.now s lent.old }
 {
-    let mut letters = words64_256();
-    lettered_verdict(ws, s, narrow, fitting, names, codes, n, &mut letters, lent)
-}
-
-// Refusals behind 10 or 16 of more.
-fn more_letters(
-    ws: &[u16],
-    s: Sizes,
-    narrow: &[u16],
-    fitting: &[u64],
-    names: &[u64],
-    codes: &[u64],
-    n: usize,
-    lent: &mut [u32],
-) -> Verdict
-    requires lettered { Lettered ws.now s narrow.now fitting.now names.now codes.now n }
-    requires states_bound { owner_at (program ws.now s) (tables ws.now s) s.states ≤ 1024 }
-    ensures value { result ≡ answer (from_11 ws.now s (length lent.old)) }
-    ensures lent_after { lent.new ≡ words_after result ws.now s lent.old }
-{
-    let mut letters = words64_1024();
-    lettered_verdict(ws, s, narrow, fitting, names, codes, n, &mut letters, lent)
-}
-
-// Refusals behind 10 or 16 of any number.
-fn all_letters(
-    ws: &[u16],
-    s: Sizes,
-    narrow: &[u16],
-    fitting: &[u64],
-    names: &[u64],
-    codes: &[u64],
-    n: usize,
-    lent: &mut [u32],
-) -> Verdict
-    requires { Lettered ws.now s narrow.now fitting.now names.now codes.now n }
-    ensures value { result ≡ answer (from_11 ws.now s (length lent.old)) }
-    ensures lent_after { lent.new ≡ words_after result ws.now s lent.old }
-{
-    let mut letters = letter_sets();
+    let mut letters = words64::<WORDS>();
     lettered_verdict(ws, s, narrow, fitting, names, codes, n, &mut letters, lent)
 }
 
@@ -151,22 +111,22 @@ fn sets_verdict(
     codes: &[u64],
     n: usize,
     lent: &mut [u32],
-) -> Verdict
+) -> Result<(), Verdict>
     requires le_most { 1 ≤ most }
     requires lettered { Lettered ws.now s narrow.now fitting.now names.now codes.now n }
-    ensures value { result ≡ answer (from_11 ws.now s (length lent.old)) }
+    ensures value { result ≡ outcome (from_11 ws.now s (length lent.old)) }
     ensures lent_after { lent.new ≡ words_after result ws.now s lent.old }
 {
     if most >= 4096 {
-        return all_letters(ws, s, narrow, fitting, names, codes, n, lent);
+        return letters_over::<LETTER_SETS>(ws, s, narrow, fitting, names, codes, n, lent);
     }
     let words = letter_words(ws, s, &narrow[LETTER_AT..]);
     if words <= most {
         if most <= 256 {
-            return few_letters(ws, s, narrow, fitting, names, codes, n, lent);
+            return letters_over::<256>(ws, s, narrow, fitting, names, codes, n, lent);
         }
         if most <= 1024 {
-            return more_letters(ws, s, narrow, fitting, names, codes, n, lent);
+            return letters_over::<1024>(ws, s, narrow, fitting, names, codes, n, lent);
         }
     }
     sets_verdict(4 * most, ws, s, narrow, fitting, names, codes, n, lent)
@@ -180,10 +140,10 @@ fn named_verdict(
     fitting: &[u64],
     names: &mut [u64],
     lent: &mut [u32],
-) -> Verdict
+) -> Result<(), Verdict>
     requires closed_tables { ClosedTables ws.now s narrow.old fitting.now }
     requires names_in_bounds { s.names * 2 ≤ length names.old }
-    ensures value { result ≡ answer (from_22 ws.now s (length lent.old)) }
+    ensures value { result ≡ outcome (from_22 ws.now s (length lent.old)) }
     ensures lent_after { lent.new ≡ words_after result ws.now s lent.old }
 {
     fill_names(ws, s, names);
@@ -197,36 +157,26 @@ fn named_verdict(
         &mut codes,
     );
     // 22, then 9
-    let counters = counters_verdict(ws, s, l);
-    if !is_safe(counters) {
-        return counters;
-    }
+    counters_verdict(ws, s, l)?;
     let n = s.states + l;
-    let form = form_verdict(ws, s, n);
-    if !is_safe(form) {
-        return form;
-    }
+    form_verdict(ws, s, n)?;
     sets_verdict(256, ws, s, narrow, fitting, names, &codes, n, lent)
 }
 
-// Refusals 22, 9 and all behind of few names.
-fn few_names(ws: &[u16], s: Sizes, narrow: &mut [u16], fitting: &[u64], lent: &mut [u32]) -> Verdict
+// Refusals 22, 9 and all behind over so many words for heads of names.
+fn names_over<const WORDS: usize>(
+    ws: &[u16],
+    s: Sizes,
+    narrow: &mut [u16],
+    fitting: &[u64],
+    lent: &mut [u32],
+) -> Result<(), Verdict>
     requires closed_tables { ClosedTables ws.now s narrow.old fitting.now }
-    requires names_bound { s.names ≤ 64 }
-    ensures value { result ≡ answer (from_22 ws.now s (length lent.old)) }
+    requires words_bound { (s.names * 2 ≤ WORDS) × (WORDS ≤ 65536) }
+    ensures value { result ≡ outcome (from_22 ws.now s (length lent.old)) }
     ensures lent_after { lent.new ≡ words_after result ws.now s lent.old }
 {
-    let mut names = words64_130();
-    named_verdict(ws, s, narrow, fitting, &mut names, lent)
-}
-
-// Refusals 22, 9 and all behind of any number of names.
-fn all_names(ws: &[u16], s: Sizes, narrow: &mut [u16], fitting: &[u64], lent: &mut [u32]) -> Verdict
-    requires { ClosedTables ws.now s narrow.old fitting.now }
-    ensures value { result ≡ answer (from_22 ws.now s (length lent.old)) }
-    ensures lent_after { lent.new ≡ words_after result ws.now s lent.old }
-{
-    let mut names = words64_1024();
+    let mut names = words64::<WORDS>();
     named_verdict(ws, s, narrow, fitting, &mut names, lent)
 }
 
@@ -237,13 +187,13 @@ pub fn system_verdict(
     narrow: &mut [u16],
     fitting: &[u64],
     lent: &mut [u32],
-) -> Verdict
+) -> Result<(), Verdict>
     requires { ClosedTables ws.now s narrow.old fitting.now }
-    ensures value { result ≡ answer (from_22 ws.now s (length lent.old)) }
+    ensures value { result ≡ outcome (from_22 ws.now s (length lent.old)) }
     ensures lent_after { lent.new ≡ words_after result ws.now s lent.old }
 {
     if s.names <= 64 {
-        return few_names(ws, s, narrow, fitting, lent);
+        return names_over::<130>(ws, s, narrow, fitting, lent);
     }
-    all_names(ws, s, narrow, fitting, lent)
+    names_over::<1024>(ws, s, narrow, fitting, lent)
 }

@@ -2,18 +2,20 @@
 use Prim.Native.Nat.{ℕ, ◌+◌, ◌*◌, ◌≤◌, ◌<◌}
 use native.Mathlib.Omega.{arith}
 use mathlib.Core.Path.{◌≡◌, refl, sym, ◌∙◌, ap}
-use mathlib.Core.Bool.{Bool, true, false, not, ◌&&◌, ◌||◌}
+use mathlib.Core.Bool.{Bool, true, false, not, ◌&&◌}
 use mathlib.Core.List.{List, [], ◌∷◌}
 use lib.ListN.{length, get_or}
+use Rattle.std.proofs.Common.{Option, Some, None}
 use borrow.Author.Tests.{not-true}
 use Rattle.bits.specs.Bits.{member, Row}
 use Rattle.model.specs.Index.{any}
 use Rattle.model.specs.Rules.{Effect, rule}
 use Rattle.model.proofs.Logic.{test, true_false, and_intro}
 use Rattle.model.proofs.Index.{any_intro}
+use Rattle.rules.specs.Within.{is_asked}
 use Rattle.rules.proofs.Gather.{gather_same, gather_none}
 use Rattle.plain_rules.proofs.Heads.{only_no, only_both, skipped, kept}
-use Rattle.class_rules.specs.Asked.{letter_turn, class_turn, asked_of, LetterRoom}
+use Rattle.class_rules.specs.Asked.{letter_turn, class_turn, asked_of, class_asked, LetterRoom}
 
 -- the turns of the letters
 pub letter_skipped : (states : ℕ) (has : ℕ → Bool) (effect : ℕ → Effect) (to i y : ℕ) (b : Bool) → b ≡ has y → not b ≡ true → letter_turn states has effect to i y ≡ []
@@ -25,22 +27,31 @@ unfolding letter_turn
 letter_kept states has effect to i y x b e n u = kept b _ _ _ e n (λ z. ap (λ k. rule i to (effect k)) (sym u))
 
 -- what the sets hold after `keep_within`
-pub wide_kept : (w : ℕ) (narrow : Bool) (within found : List ℕ) (y : ℕ) → not narrow ≡ true → member found w 0 y ≡ asked_of w narrow within found y
-unfolding asked_of
-wide_kept w narrow within found y n = rw n (kept_so (member found w 0 y))
+pub wide_kept : (w : ℕ) (within : Option (List ℕ)) (found : List ℕ) (y : ℕ) → within ≡ None → member found w 0 y ≡ asked_of w within found y
+unfolding asked_of is_asked
+wide_kept w within found y n = rw n (kept_so (member found w 0 y))
   where
     kept_so : (a : Bool) → a ≡ (a && true)
     kept_so true = refl
     kept_so false = refl
 
-pub narrow_kept : (w : ℕ) (narrow : Bool) (within found : List ℕ) (y : ℕ) (p q r : Bool) → not narrow ≡ false → p ≡ member found w 0 y → q ≡ (p && not (member within w 0 y)) → r ≡ (member found w 0 y && not q) → r ≡ asked_of w narrow within found y
-unfolding asked_of
-narrow_kept w narrow within found y p q r n u v z = rw n (z ∙ (ap (λ x. member found w 0 y && not x) (v ∙ ap (λ x. x && not (member within w 0 y)) u) ∙ both (member found w 0 y) (member within w 0 y)))
+pub narrow_kept : (w : ℕ) (within : Option (List ℕ)) (set found : List ℕ) (y : ℕ) (p q r : Bool) → within ≡ Some set → p ≡ member found w 0 y → q ≡ (p && not (member set w 0 y)) → r ≡ (member found w 0 y && not q) → r ≡ asked_of w within found y
+unfolding asked_of is_asked
+narrow_kept w within set found y p q r n u v z = rw n (z ∙ (ap (λ x. member found w 0 y && not x) (v ∙ ap (λ x. x && not (member set w 0 y)) u) ∙ both (member found w 0 y) (member set w 0 y)))
   where
     both : (a b : Bool) → (a && not (a && not b)) ≡ (a && b)
     both true true = refl
     both true false = refl
     both false b = refl
+
+-- whether a class is asked for
+pub wide_class : (w : ℕ) (within : Option (List ℕ)) (from to : ℕ) → within ≡ None → true ≡ class_asked w within from to
+unfolding class_asked
+wide_class w within from to n = rw n
+
+pub narrow_class : (w : ℕ) (within : Option (List ℕ)) (set : List ℕ) (from to : ℕ) (b : Bool) → within ≡ Some set → b ≡ any from to (member set w 0) → b ≡ class_asked w within from to
+unfolding class_asked
+narrow_class w within set from to b n e = rw n e
 
 module _ (states : ℕ) (letter_at : List ℕ) (w d : ℕ) (inside : get_or letter_at (d + 1) 0 ≤ 64 * w) (effect : ℕ → Effect) (to : ℕ) where
   -- tests that are alike for the letters that a set may have give the same rules

@@ -1,24 +1,25 @@
 -- The verdict, and the bits of the branches where it is safe.
 use Prim.Native.Nat.{ℕ, ◌+◌, ◌≤◌, ◌<◌}
 use native.Mathlib.Omega.{arith}
-use mathlib.Core.Path.{◌≡◌, refl, sym, ◌∙◌, ap}
+use mathlib.Core.Path.{◌≡◌, refl, sym, ◌∙◌}
 use mathlib.Core.Bool.{Bool, true, false}
 use mathlib.Core.List.{List}
+use mathlib.Core.Option.{some, some-ne-none}
+use Rattle.std.proofs.Common.{Result, Ok, Err}
 use lib.ListN.{length, get_or}
-use lib.Dec.{eqb}
-use native.Mathlib.Decide.{ℕ_discrete}
 use borrow.Author.Tests.{eq-eqb, ne_eqb}
 use Rattle.model.specs.declared.Sizes.{Sizes}
 use Rattle.model.specs.declared.Verdict.{Verdict}
-use Rattle.model.specs.declared.Verdict.TheVariants.{Safe, Open}
+use Rattle.model.specs.declared.Verdict.TheVariants.{Open}
 use Rattle.model.specs.Words.{left, right, columns}
 use Rattle.model.specs.Message.{tables_offset}
 use Rattle.model.specs.Rows.{Program, program, num}
 use Rattle.model.specs.Heads.{head_at, cases, receives, branch_rows}
 use Rattle.model.specs.Tables.{Tables, entries, tables, state_at}
-use Rattle.model.specs.Verdict.{◌>>◌, unless, number}
+use Rattle.model.specs.Verdict.{◌>>◌, unless}
 use Rattle.model.specs.Closed.{is_opening_closed, open_check}
-use Rattle.model.specs.Verify.{answer}
+use Rattle.model.specs.Verify.{outcome}
+use Rattle.model.proofs.Outcome.{nothing_found, passes_unless, refuses_unless}
 use Rattle.model.proofs.Heads.{head_case, head_receive}
 use Rattle.model.proofs.Parse.Heads.{known_kind, known_tag}
 use Rattle.positions.specs.Branches.{BranchBits}
@@ -26,44 +27,32 @@ use Rattle.codes.specs.Codes.{Codes}
 use Rattle.codes.proofs.Kept.{codes_none}
 use Rattle.stated.specs.Stated.{BitsOf}
 use Rattle.closure.specs.Lent.{Unsettled}
-use Rattle.closure.specs.Told.{first_open_of, Told, states_verdict}
+use Rattle.closure.specs.Told.{first_open_of, Told, open_state, states_check}
 
--- a refusal is not safe
-pub open_refuses : {A : Type 0} (at : ℕ) → Open at ≡ Safe → A
-unfolding number
-open_refuses at e = let z : ◌≡◌ {A = ℕ} 8 0 = ap number e in absurd (omega arith)
+-- a refusal is not nothing
+pub err_not_ok : {A : Type 0} (v : Verdict) → ◌≡◌ {A = Result Unit Verdict} (Err v) (Ok tt) → A
+unfolding outcome
+err_not_ok v e = absurd (some-ne-none v (nothing_found (some v) (Err v) refl e))
 
--- the states are closed, or state i is not
-module _ (s : Sizes) (i : ℕ) where
-  pub verdict_safe : i ≡ s.states → Safe ≡ states_verdict s i
-  unfolding states_verdict
-  verdict_safe z = let e = eq-eqb i s.states z in rw (e, states_verdict)
+-- state i is the first that lacks something, or none does
+module _ (s : Sizes) (p : Program) (t : Tables) (i : ℕ) (first_is : first_open_of p t ≡ i) where
+  pub state_lacks : i < t.states.size → (v : Verdict) → v ≡ open_state s i → Err v ≡ outcome (states_check s p t)
+  unfolding states_check
+  state_lacks l v e = rw (e, first_is) (refuses_unless _ _ (ne_eqb i t.states.size (λ z. omega arith)))
 
-  pub verdict-open : (b : ℕ) → b ≡ tables_offset s → (i ≡ s.states → ⊥) → Open (b + 3 + s.flows + s.mails + i) ≡ states_verdict s i
-  unfolding states_verdict
-  verdict-open b base z = let e = ne_eqb i s.states z in rw (base, e, states_verdict)
-
-  -- it is safe for no other reason
-  pub safe-all : states_verdict s i ≡ Safe → i ≡ s.states
-  safe-all h = elim (ℕ_discrete i s.states) [ yes z ↦ z | no z ↦ open_refuses _ (verdict-open (tables_offset s) refl z ∙ h) ]
-
--- a state that lacks something is not safe
-pub state-refuses : {A : Type 0} (s : Sizes) (i : ℕ) {v : Verdict} → v ≡ states_verdict s i → i < s.states → v ≡ Safe → A
-state-refuses s i e l z = let all = safe-all s i (sym e ∙ z) in absurd (omega arith)
+  pub none_lacks : i ≡ t.states.size → Ok tt ≡ outcome (states_check s p t)
+  unfolding states_check
+  none_lacks e = rw first_is (passes_unless _ _ (eq-eqb i t.states.size e))
 
 -- an opening entry is missing, or not
 module _ (ws : List ℕ) (s : Sizes) (x : Bool) (opened : x ≡ is_opening_closed (program ws s) (tables ws s)) where
-  pub opening_missing : (b : ℕ) → b ≡ tables_offset s → x ≡ false → Open b ≡ answer (open_check s (program ws s) (tables ws s))
-  unfolding open_check unless ◌>>◌ answer
+  pub opening_missing : (b : ℕ) → b ≡ tables_offset s → x ≡ false → Err (Open b) ≡ outcome (open_check s (program ws s) (tables ws s))
+  unfolding open_check unless ◌>>◌ outcome
   opening_missing b base z = rw (← opened, z, ← base)
 
-  pub opening-there : (i : ℕ) → x ≡ true → i ≡ first_open_of (program ws s) (tables ws s) → states_verdict s i ≡ answer (open_check s (program ws s) (tables ws s))
-  unfolding open_check unless ◌>>◌ answer first_open_of states_verdict tables entries columns
-  opening-there i so found = rw (← opened, so, ← found) (either (eqb i s.states))
-    where
-      either : (b : Bool) → elim b [ true ↦ Safe | false ↦ Open (tables_offset s + 3 + s.flows + s.mails + i) ] ≡ answer (unless b (Open (tables_offset s + 3 + s.flows + s.mails + i)))
-      either true = refl
-      either false = refl
+  pub opening_there : (r : Result Unit Verdict) → x ≡ true → r ≡ outcome (states_check s (program ws s) (tables ws s)) → r ≡ outcome (open_check s (program ws s) (tables ws s))
+  unfolding open_check unless ◌>>◌ states_check open_state first_open_of tables entries columns
+  opening_there r so said = rw (← opened, so) said
 
 -- nothing is settled yet
 pub none-settled : (ws : List ℕ) (s : Sizes) (codes : List ℕ) → Unsettled s codes → Codes (program ws s) (tables ws s) codes
@@ -89,8 +78,8 @@ module _ {p : Program} {t : Tables} where
       let rows : branch_rows p (num p r) (r + 1) ≡ qs = cc in
       rw rows at ((h.at k l).receive_bits (h.low k l) (known_tag p r (receives qs) e (omega arith)))
 
-  pub bits_told : (branches : List ℕ) (i : ℕ) → i ≡ t.states.size → t.states.size ≤ length branches → Told p t branches i → BranchBits p t branches
-  bits_told branches i all room h = record {
+  pub bits_told : (branches : List ℕ) → t.states.size ≤ length branches → Told p t branches t.states.size → BranchBits p t branches
+  bits_told branches room h = record {
     room = room;
     case_bit = λ k n b qs l e. (case_told h k n qs (omega arith) e).bits b;
     case_end = λ k n qs l e. (case_told h k n qs (omega arith) e).end;

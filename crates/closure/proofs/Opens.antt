@@ -2,7 +2,7 @@
 use Prim.Native.Nat.{ℕ, ◌+◌, ◌≤◌, ◌<◌}
 use native.Mathlib.Decide.{ℕ_discrete}
 use native.Mathlib.Omega.{arith}
-use mathlib.Core.Path.{◌≡◌, refl, sym, ◌∙◌}
+use mathlib.Core.Path.{◌≡◌, refl, ◌∙◌}
 use mathlib.Core.Bool.{not}
 use mathlib.Core.List.{List}
 use lib.ListN.{length, set}
@@ -33,8 +33,8 @@ module _ {p : Program} {t : Tables} where
   }
 
   module _ {branches : List ℕ} {i : ℕ} (o : Opens p t branches i) (less : i < t.states.size) (k : ℕ) (st : Stated p t (state_at t i) k) where
-    pub opens_here : k ≡ lacks → (i ≡ first_open_of p t) × (i ≤ t.states.size)
-    opens_here e = (sym (o.to_come ∙ first_hit i t.states.size (λ j. not (state_closed p t (state_at t j))) less (not_passes _ (st.missing e))), o.upto)
+    pub opens_here : k ≡ lacks → first_open_of p t ≡ i
+    opens_here e = o.to_come ∙ first_hit i t.states.size (λ j. not (state_closed p t (state_at t j))) less (not_passes _ (st.missing e))
 
     pub opens_next : (k ≡ lacks → ⊥) → i < length branches → Opens p t (set branches i k) (i + 1)
     opens_next ne room = record {
@@ -52,5 +52,8 @@ module _ {p : Program} {t : Tables} where
       to_come = o.to_come ∙ first_miss i t.states.size (λ j. not (state_closed p t (state_at t j))) less (not_fails _ (st.closed ne));
     }
 
-  pub opens_over : {branches : List ℕ} {i : ℕ} → Opens p t branches i → t.states.size ≤ i → (i ≡ first_open_of p t) × (i ≤ t.states.size)
-  opens_over {i = i} o l = (sym (o.to_come ∙ first_end i t.states.size (λ j. not (state_closed p t (state_at t j))) l), o.upto)
+  pub opens_over : {branches : List ℕ} {i : ℕ} → Opens p t branches i → t.states.size ≤ i → (first_open_of p t ≡ t.states.size) × Told p t branches t.states.size
+  opens_over {i = i} o l =
+      let upto = o.upto in
+      let all : i ≡ t.states.size = omega arith in
+      (o.to_come ∙ (first_end i t.states.size (λ j. not (state_closed p t (state_at t j))) l ∙ all), rw all at o.told)

@@ -1,12 +1,11 @@
 -- What refusal 8 is lent: tables with room, and those of sets with nothing in them.
-use Rattle.std.specs.Prelude.{ℕ, ◌+◌, ◌≤◌, ◌<◌, ◌≡◌, List, length, get_or}
+use Rattle.std.specs.Prelude.{ℕ, ◌+◌, ◌≤◌, ◌<◌, ◌≡◌, List, length, get_or, Result, Ok}
 use Rattle.model.specs.declared.Sizes.{Sizes}
 use Rattle.model.specs.declared.Verdict.{Verdict}
-use Rattle.model.specs.declared.Verdict.TheVariants.{Safe}
 use Rattle.model.specs.Rows.{program}
 use Rattle.model.specs.Tables.{tables}
 use Rattle.model.specs.Closed.{open_check}
-use Rattle.model.specs.Verify.{answer}
+use Rattle.model.specs.Verify.{outcome}
 use Rattle.lists.specs.Lists.{Starts}
 use Rattle.lists.specs.Ready.{Ready}
 use Rattle.layout.specs.Tables.{Ends}
@@ -49,8 +48,8 @@ pub record Openable (ws : List ℕ) (s : Sizes) (afters starts fitting : List �
   pub states : s.states ≤ room
 
 -- what it answers, and that after none these tables are filled
-pub record Opened (ws : List ℕ) (s : Sizes) (starts fitting branches : List ℕ) (v : Verdict) : Type 0 where
-  pub says : v ≡ answer (open_check s (program ws s) (tables ws s))
-  pub begins : v ≡ Safe → Starts (tables ws s).flow s.names starts
-  pub fits : v ≡ Safe → FittingSets (program ws s) (tables ws s) fitting
-  pub bits : v ≡ Safe → BranchBits (program ws s) (tables ws s) branches
+pub record Opened (ws : List ℕ) (s : Sizes) (starts fitting branches : List ℕ) (r : Result Unit Verdict) : Type 0 where
+  pub says : r ≡ outcome (open_check s (program ws s) (tables ws s))
+  pub begins : r ≡ Ok tt → Starts (tables ws s).flow s.names starts
+  pub fits : r ≡ Ok tt → FittingSets (program ws s) (tables ws s) fitting
+  pub bits : r ≡ Ok tt → BranchBits (program ws s) (tables ws s) branches

@@ -1,9 +1,10 @@
 -- The bits of all states so far, and the verdict.
-use Rattle.std.specs.Prelude.{ℕ, ◌+◌, ◌<◌, ◌≡◌, true, false, not, List, eqb, get_or}
+use Rattle.std.specs.Prelude.{ℕ, ◌+◌, ◌<◌, ◌≡◌, not, List, eqb, get_or}
 use Rattle.model.specs.declared.Sizes.{Sizes}
 use Rattle.model.specs.declared.Verdict.{Verdict}
-use Rattle.model.specs.declared.Verdict.TheVariants.{Safe, Open}
+use Rattle.model.specs.declared.Verdict.TheVariants.{Open}
 use Rattle.model.specs.Index.{first}
+use Rattle.model.specs.Verdict.{Check, unless}
 use Rattle.model.specs.Message.{tables_offset}
 use Rattle.model.specs.Rows.{Program}
 use Rattle.model.specs.Tables.{Tables, state_at}
@@ -21,6 +22,8 @@ pub record Told (p : Program) (t : Tables) (branches : List ℕ) (i : ℕ) : Typ
   pub low : (k : ℕ) → k < i → get_or branches k 0 ≡ lacks → ⊥
 
 -- 8, where the opening entries are there: "the first state that lacks something, its first column's word"
-unfoldable pub states_verdict : Sizes → ℕ → Verdict
-states_verdict s i =
-    elim (eqb i s.states) [ true ↦ Safe | false ↦ Open (tables_offset s + 3 + s.flows + s.mails + i) ]
+unfoldable pub open_state : Sizes → ℕ → Verdict
+open_state s i = Open (tables_offset s + 3 + s.flows + s.mails + i)
+
+unfoldable pub states_check : Sizes → Program → Tables → Check
+states_check s p t = unless (eqb (first_open_of p t) t.states.size) (open_state s (first_open_of p t))

@@ -1,16 +1,17 @@
 // Refusal 8: the states one after the other.
 #![tactic(auto)]
 
-ghost use Rattle.std.specs.Prelude.{◌≡◌, ◌≤◌, ◌<◌, length};
+ghost use Rattle.std.specs.Prelude.{◌≡◌, ◌≤◌, ◌<◌, Ok, length};
 ghost use Rattle.model.specs.Limits.{present};
 ghost use Rattle.model.specs.Rows.{program};
 ghost use Rattle.model.specs.Tables.{tables, state_at};
 ghost use Rattle.model.specs.Demands.{WithinLimits};
+ghost use Rattle.model.specs.Verify.{outcome};
 ghost use Rattle.branches.specs.Taken.{LayoutReady};
 ghost use Rattle.settled.specs.Settled.{ClosureReady};
 ghost use Rattle.codes.specs.Codes.{Codes};
 ghost use Rattle.stated.specs.Stated.{Stated};
-ghost use Rattle.closure.specs.Told.{first_open_of, Told, states_verdict};
+ghost use Rattle.closure.specs.Told.{Told, open_state, states_check};
 ghost use Rattle.closure.specs.Lent.{Indexed, Cleared, OpenScratch, Openable, Opened};
 
 use branches::LACKS;
@@ -77,8 +78,18 @@ fn settled_bits(
     state_bits(ws, s, afters, starts, flow, mail, may, held, at, i, r, k)
 }
 
-// The first state that lacks something, S where none does; the branches of the states before it have their bits.
-fn first_open(
+// The refusal of state i, which lacks something.
+fn open_state(s: Sizes, i: usize) -> Verdict
+    requires within_limits { WithinLimits present s }
+    requires i_lt_states { i < s.states }
+    ensures { result ≡ open_state s i }
+{
+    let place = tables_at(s) + 3 + s.flows + s.mails + i;
+    Verdict::Open(place)
+}
+
+// The refusal of the first state that lacks something; where none does, the branches of all states have their bits.
+fn states_check(
     ws: &[u16],
     s: Sizes,
     afters: &[u16],
@@ -90,34 +101,22 @@ fn first_open(
     codes: &mut [u32],
     at: &mut [u16],
     branches: &mut [u16],
-) -> usize
+) -> Result<(), Verdict>
     requires closure_ready { ClosureReady ws.now s afters.now starts.now flow.now mail.now may.now held.now }
     requires states_in_bounds { (s.states ≤ length branches.old)
         × Codes (program ws.now s) (tables ws.now s) codes.old }
-    ensures value { (result ≡ first_open_of (program ws.now s) (tables ws.now s)) × (result ≤ s.states) }
-    ensures told { Told (program ws.now s) (tables ws.now s) branches.new result }
+    ensures says { result ≡ outcome (states_check s (program ws.now s) (tables ws.now s)) }
+    ensures told { result ≡ Ok tt → Told (program ws.now s) (tables ws.now s) branches.new s.states }
 {
-    let mut i = 0;
-    while i < s.states {
+    for i in 0..s.states {
         guess_class(ws, s, at, i);
         let bits = settled_bits(ws, s, afters, starts, flow, mail, may, held, codes, at, i);
         if bits == LACKS {
-            return i;
+            return Err(open_state(s, i));
         }
         branches[i] = bits as u16;
-        i += 1;
     }
-    i
-}
-
-// The verdict where the opening entries are there, and state i lacks something.
-fn state_verdict(s: Sizes, i: usize) -> Verdict
-    requires within_limits { WithinLimits present s }
-    requires i_lt_states { i < s.states }
-    ensures { result ≡ states_verdict s i }
-{
-    let place = tables_at(s) + 3 + s.flows + s.mails + i;
-    Verdict::Open(place)
+    Ok(())
 }
 
 // Refusal 8. Where it is none, `starts` has where the values of each name begin, `fitting` the names with values that
@@ -137,21 +136,18 @@ pub fn open_check(
     held: &mut [u64],
     codes: &mut [u32],
     branches: &mut [u16],
-) -> Verdict
+) -> Result<(), Verdict>
     requires openable { Openable ws.now s afters.now starts.old fitting.old (length branches.old) }
     requires open_scratch { OpenScratch s flow.old mail.old firsts.old nexts.old may.old held.old codes.old }
     ensures { Opened ws.now s starts.new fitting.new branches.new result }
 {
     if !opening_closed(ws, s, afters) {
-        return Verdict::Open(tables_at(s));
+        return Err(Verdict::Open(tables_at(s)));
     }
     fill_tables(ws, s, afters, starts, flow, mail, firsts, nexts, may, held);
-    let i = first_open(
+    states_check(
         ws, s, afters, starts, flow, mail, may, held, codes, nexts, branches,
-    );
-    if i < s.states {
-        return state_verdict(s, i);
-    }
+    )?;
     fill_fitting(ws, s, may, fitting);
-    Verdict::Safe
+    Ok(())
 }

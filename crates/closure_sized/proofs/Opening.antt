@@ -1,5 +1,5 @@
 -- Cleared tables hold empty sets, with room for a message of these sizes.
-use Prim.Native.Nat.{ℕ, ◌+◌, ◌*◌, ◌/◌, ◌%◌, ◌≤◌, ◌<◌}
+use Prim.Native.Nat.{ℕ, ◌+◌, ◌*◌, ◌/◌, ◌%◌, ◌^◌, ◌≤◌, ◌<◌}
 use native.Mathlib.Nat.{mul-le-mul_left, mul-le-mul_right}
 use native.Mathlib.Omega.{arith}
 use mathlib.Core.Path.{ap, ◌∙◌}
@@ -22,6 +22,10 @@ empty_sets n w t h = record { none = λ k v. ap (λ x. bit x (v % 64)) (h.zero (
 pub product_most : (a b x y : ℕ) → a ≤ x → b ≤ y → a * b ≤ x * y
 product_most a b x y h k = omega (arith, mul-le-mul_right b h, mul-le-mul_left x k)
 
+-- so many words of so many bytes are few
+pub words_fit : (n b : ℕ) → n < 2 ^ 32 → b ≤ 8 → n * b < 9223372036854775808
+words_fit n b l m = let z = product_most n b (2 ^ 32) 8 (omega arith) m in omega arith
+
 -- so many sets of no more than so many words have room
 pub sets_fit : (k w K W n : ℕ) (t : List ℕ) → Cleared n t → k ≤ K → w ≤ W → K * W ≤ n → Room w k t
 sets_fit k w K W n t h a b c =
@@ -32,25 +36,30 @@ pub width_most : (r R : ℕ) → r ≤ R → width r ≤ width R
 unfolding width
 width_most r R h = omega arith
 
--- what refusal 8 asks of cleared tables: room for a message of no more than R rows and N names
-pub lends : (s : Sizes) (R N a b d e : ℕ) (flow mail firsts nexts may held codes : List ℕ) → WithinLimits present s → s.rows ≤ R → s.names ≤ N → Cleared a flow → Cleared a mail → Cleared b firsts → Cleared d nexts → Cleared e may → Cleared e held → Cleared d codes → (N + 1) * width R ≤ a → max_constructors ≤ b → R * width R ≤ e → R ≤ d → OpenScratch s flow mail firsts nexts may held codes
-lends s R N a b d e flow mail firsts nexts may held codes limits r n l m f x y z o am bc er rd =
-    let w = width_most s.rows R r in record {
-      indexed = record {
-        constructors = let q = f.room in omega (arith, limits.constructors);
-        rows = let q = x.room in omega arith;
-      };
-      cleared = record {
-        flow_empty = empty_sets a _ flow l;
-        flow_room = sets_fit s.names _ (N + 1) (width R) a flow l (omega arith) w am;
-        mail_empty = empty_sets a _ mail m;
-        mail_room = sets_fit (s.names + 1) _ (N + 1) (width R) a mail m (omega arith) w am;
-        patterns = record {
-          may_room = sets_fit s.rows _ R (width R) e may y r w er;
-          held_room = sets_fit s.rows _ R (width R) e held z r w er;
-          may_empty = empty_sets e _ may y;
-          held_empty = empty_sets e _ held z;
-        };
-      };
-      unsettled = record { room = let q = o.room in omega arith; none = o.zero };
-    }
+-- the sets of a message of no more than so many rows and names fit where those of the most do
+pub sets_most : (s : Sizes) (R N : ℕ) → s.rows ≤ R → s.names ≤ N → ((s.names + 1) * width s.rows ≤ (N + 1) * width R) × (s.rows * width s.rows ≤ R * width R)
+sets_most s R N r n =
+    let w = width_most s.rows R r in
+    (product_most (s.names + 1) (width s.rows) (N + 1) (width R) (omega arith) w, product_most s.rows (width s.rows) R (width R) r w)
+
+-- what refusal 8 asks of cleared tables: room for the sets and words of the message
+pub lends : (s : Sizes) (a b d e : ℕ) (flow mail firsts nexts may held codes : List ℕ) → WithinLimits present s → Cleared a flow → Cleared a mail → Cleared b firsts → Cleared d nexts → Cleared e may → Cleared e held → Cleared d codes → (s.names + 1) * width s.rows ≤ a → max_constructors ≤ b → s.rows * width s.rows ≤ e → s.rows ≤ d → OpenScratch s flow mail firsts nexts may held codes
+lends s a b d e flow mail firsts nexts may held codes limits l m f x y z o am bc er rd = record {
+  indexed = record {
+    constructors = let q = f.room in omega (arith, limits.constructors);
+    rows = let q = x.room in omega arith;
+  };
+  cleared = record {
+    flow_empty = empty_sets a _ flow l;
+    flow_room = sets_fit s.names _ (s.names + 1) (width s.rows) a flow l (omega arith) (omega arith) am;
+    mail_empty = empty_sets a _ mail m;
+    mail_room = sets_fit (s.names + 1) _ (s.names + 1) (width s.rows) a mail m (omega arith) (omega arith) am;
+    patterns = record {
+      may_room = sets_fit s.rows _ s.rows (width s.rows) e may y (omega arith) (omega arith) er;
+      held_room = sets_fit s.rows _ s.rows (width s.rows) e held z (omega arith) (omega arith) er;
+      may_empty = empty_sets e _ may y;
+      held_empty = empty_sets e _ held z;
+    };
+  };
+  unsettled = record { room = let q = o.room in omega arith; none = o.zero };
+}

@@ -12,22 +12,13 @@ use verifier::verify;
 // Lent word i, before the verifier runs.
 const FIRST_MARK: u32 = 2779054080;
 
-// Room for the words lent.
-pub fn blank_words() -> [u32; 16384]
-    ensures { 16384 ≡ length result }
-{
-    [0; 16384]
-}
-
 // Each word tells its place.
 fn fill_marks(words: &mut [u32])
     requires { length words.old ≤ 16384 }
     ensures { words.new ≡ marks (length words.old) }
 {
-    let mut i = 0;
-    while i < words.len() {
-        words[i] = FIRST_MARK + i as u32;
-        i += 1;
+    for (i, word) in words.iter_mut().enumerate() {
+        *word = FIRST_MARK + i as u32;
     }
 }
 
@@ -40,7 +31,9 @@ fn put_hex(out: &mut [u8], at: usize, n: u64) -> usize
     put_digits(out, at, 16, 16, n)
 }
 
-// Two numbers and two digests on a line.
+// Two numbers and two digests on a line. `write!` would not do: the clause `out_after` tells the bytes in `out`, and
+// std's clauses for a slice as a writer tell only how much room is left.
+#[tactic(auto, using(text::proofs::Digits::pair_most, crate::proofs::Lining::length_hex))]
 fn put_result(out: &mut [u8], number: u64, place: u64, lent: u64, part: u64) -> usize
     requires { 76 ≤ length out.old }
     ensures out_after { out.new ≡ put_at 0 (result_line number place lent part) out.old }

@@ -6,40 +6,25 @@
 mod cases;
 mod digest;
 
-ghost use Rattle.std.specs.Prelude.{◌≡◌, ◌+◌, ◌<◌, ◌≤◌, length};
+ghost use Rattle.std.specs.Prelude.{◌+◌, ◌≤◌, length};
 
-use cases::{blank_words, put_case};
+use cases::put_case;
 use input::read_full;
 use std::io;
 use std::io::{Read, Write};
-
-fn wide(byte: u8) -> usize
-    ensures { result < 256 }
-{
-    byte as usize
-}
 
 // Four bytes as a number, the lowest first.
 fn number_at(bytes: &[u8], at: usize) -> usize
     requires { at + 4 ≤ length bytes.now }
 {
-    let low = wide(bytes[at]) + 256 * wide(bytes[at + 1]);
-    let high = wide(bytes[at + 2]) + 256 * wide(bytes[at + 3]);
-    low + 65536 * high
-}
-
-// Room for the longest message of a case.
-fn message_room() -> [u8; 65536]
-    ensures { 65536 ≡ length result }
-{
-    [0; 65536]
+    u32::from_le_bytes([bytes[at], bytes[at + 1], bytes[at + 2], bytes[at + 3]]) as usize
 }
 
 // Prints the line of a case.
 fn tell_case<W: Write>(message: &[u8], words: usize, out: &mut W) -> io::Result<()>
     requires { words ≤ 16384 }
 {
-    let mut lent = blank_words();
+    let mut lent = [0u32; 16384];
     let mut line = [0u8; 128];
     let n = put_case(message, &mut lent[..words], &mut line);
     out.write_all(&line[..n])
@@ -60,7 +45,7 @@ fn run_case<R: Read, W: Write>(reader: &mut R, out: &mut W) -> io::Result<bool> 
     if size > 65536 {
         return Ok(false);
     }
-    let mut message = message_room();
+    let mut message = [0u8; 65536];
     let came = read_full(reader, &mut message[..size])?;
     if came < size {
         return Ok(false);

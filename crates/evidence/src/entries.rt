@@ -2,14 +2,13 @@
 ghost use Rattle.std.specs.Prelude.{◌≡◌};
 ghost use Rattle.model.specs.Rows.{program};
 ghost use Rattle.model.specs.Tables.{tables, entry_check_of};
-ghost use Rattle.model.specs.Verify.{answer};
+ghost use Rattle.model.specs.Verify.{outcome};
 ghost use Rattle.program.specs.Rows.{Whole};
 ghost use Rattle.lists.specs.Lists.{listed, thirds, Held};
 ghost use Rattle.evidence.specs.Whole.{PartsWhole};
-ghost use Rattle.evidence.specs.Ranges.{legal, ascends, in_place, misplaced, checked};
+ghost use Rattle.evidence.specs.Ranges.{legal, ascends, in_place, checked};
 
 use crate::ranges::{is_head, is_return, is_value};
-use answers::is_safe;
 use lists::{Span, flow, left, mail, right, states, third};
 use model::{Sizes, Verdict};
 use program::rows::is_class;
@@ -69,50 +68,27 @@ fn in_place(ws: &[u16], s: Sizes, table: Table, list: Span, i: usize) -> bool
     in_range(ws, s, table, a, b, d) && ascends(ws, list, i)
 }
 
-// The first entry that is not; the list's size where there is none.
-fn first_misplaced(ws: &[u16], s: Sizes, table: Table, list: Span) -> usize
+// Refusal 7 of one list, placed at the first column of the first entry that is not.
+fn list_check(ws: &[u16], s: Sizes, table: Table, list: Span) -> Result<(), Verdict>
     requires whole { Whole ws.now s }
     requires held { Held ws.now list }
-    ensures { result ≡ misplaced (program ws.now s) table (listed ws.now list)
-        (thirds ws.now list) 0 }
-{
-    let mut i = 0;
-    while i < list.size {
-        if !in_place(ws, s, table, list, i) {
-            return i;
-        }
-        i += 1;
-    }
-    i
-}
-
-// Refusal 7 of one list, placed at the entry's first column.
-fn list_check(ws: &[u16], s: Sizes, table: Table, list: Span) -> Verdict
-    requires whole { Whole ws.now s }
-    requires held { Held ws.now list }
-    ensures { result ≡ answer (checked (program ws.now s) table (listed ws.now list)
+    ensures { result ≡ outcome (checked (program ws.now s) table (listed ws.now list)
         (thirds ws.now list) list.lefts) }
 {
-    let i = first_misplaced(ws, s, table, list);
-    if i < list.size {
-        let at = list.lefts + i;
-        return Verdict::Entry(at);
+    for i in 0..list.size {
+        if !in_place(ws, s, table, list, i) {
+            return Err(Verdict::Entry(list.lefts + i));
+        }
     }
-    Verdict::Safe
+    Ok(())
 }
 
 // The verdict of refusal 7: the flow list, the mail list, the states.
-pub fn entry_check(ws: &[u16], s: Sizes) -> Verdict
+pub fn entry_check(ws: &[u16], s: Sizes) -> Result<(), Verdict>
     requires { PartsWhole ws.now s }
-    ensures { result ≡ answer (entry_check_of s (program ws.now s) (tables ws.now s)) }
+    ensures { result ≡ outcome (entry_check_of s (program ws.now s) (tables ws.now s)) }
 {
-    let flows = list_check(ws, s, Table::Flow, flow(s));
-    if !is_safe(flows) {
-        return flows;
-    }
-    let mails = list_check(ws, s, Table::Mail, mail(s));
-    if !is_safe(mails) {
-        return mails;
-    }
+    list_check(ws, s, Table::Flow, flow(s))?;
+    list_check(ws, s, Table::Mail, mail(s))?;
     list_check(ws, s, Table::States, states(s))
 }

@@ -4,7 +4,7 @@
 ghost use Rattle.std.specs.Prelude.{◌≡◌, [], ◌∷◌, ◌+◌, ◌≤◌, ◌<◌, replicate};
 ghost use Rattle.model.specs.Rows.{program, tag, kind, global, expression, branches, body_form_of, branch_items, lead};
 ghost use Rattle.model.specs.Rows.{is_branch_count_of, declarations, whole, row_check_of};
-ghost use Rattle.model.specs.Verify.{answer};
+ghost use Rattle.model.specs.Verify.{outcome};
 ghost use Rattle.program.specs.Rows.{Whole, reading, from};
 
 use model::{
@@ -12,7 +12,7 @@ use model::{
     TAG_FUNCTION, TAG_GIVE, TAG_GLOBAL, TAG_MADE, TAG_OPERAND, TAG_PARAMETER, TAG_PATTERN_HELD,
     TAG_PATTERN_NAME, TAG_RECEIVE, TAG_SELF, TAG_SEND, TAG_SPAWN, Verdict,
 };
-use program::readers::{Next, call_parts, constructors, counted, made, names, pattern};
+use program::readers::{WrongRow, call_parts, constructors, counted, made, names, pattern};
 use program::rows::{is_row, num, tag};
 
 // A case and a receive have 1 to 16 branches.
@@ -24,7 +24,7 @@ fn is_branch_count(n: usize) -> bool
 
 // An expression, by the tag of its head.
 #[cycle(body_form_branches_case_branches_expression_lead)]
-fn expression(ws: &[u16], s: Sizes, r: usize) -> Next
+fn expression(ws: &[u16], s: Sizes, r: usize) -> Result<usize, WrongRow>
     requires whole { Whole ws.now s }
     requires r_le_rows { r ≤ s.rows }
     ensures { reading result ≡ from (program ws.now s) (expression ∷ []) r }
@@ -33,41 +33,39 @@ fn expression(ws: &[u16], s: Sizes, r: usize) -> Next
     let next = r + 1;
     match tag(ws, s, r) {
         TAG_GIVE => if n < s.names {
-            Next::Past(next)
+            Ok(next)
         } else {
-            Next::Wrong(r)
+            Err(WrongRow(r))
         },
         TAG_BUILD..=TAG_SELF => {
             if n >= s.names {
-                return Next::Wrong(r);
+                return Err(WrongRow(r));
             }
-            match lead(ws, s, r) {
-                Next::Past(q) => expression(ws, s, q),
-                Next::Wrong(q) => Next::Wrong(q),
-            }
+            let rest = lead(ws, s, r)?;
+            expression(ws, s, rest)
         }
         TAG_CASE => if n < s.names {
             case_branches(ws, s, next)
         } else {
-            Next::Wrong(r)
+            Err(WrongRow(r))
         },
         TAG_RECEIVE => if is_branch_count(n) {
             branches(ws, s, next, n)
         } else {
-            Next::Wrong(r)
+            Err(WrongRow(r))
         },
         // constructors, functions, parts of expressions and patterns: none begins an expression
         TAG_CONSTRUCTOR
         | TAG_GLOBAL
         | TAG_MADE..=TAG_BRANCHES
-        | TAG_PATTERN_NAME..=TAG_PATTERN_HELD => Next::Wrong(r),
-        _ => Next::Wrong(r),
+        | TAG_PATTERN_NAME..=TAG_PATTERN_HELD => Err(WrongRow(r)),
+        _ => Err(WrongRow(r)),
     }
 }
 
 // What stands between the head at row r, which binds a name, and the rest.
 #[cycle(body_form_branches_case_branches_expression_lead)]
-fn lead(ws: &[u16], s: Sizes, r: usize) -> Next
+fn lead(ws: &[u16], s: Sizes, r: usize) -> Result<usize, WrongRow>
     requires whole { Whole ws.now s }
     requires r_lt_rows { r < s.rows }
     ensures { reading result ≡
@@ -80,123 +78,96 @@ fn lead(ws: &[u16], s: Sizes, r: usize) -> Next
         TAG_CALL => call_parts(ws, s, next),
         TAG_SEND => names(ws, s, next, 2, TAG_OPERAND),
         TAG_SPAWN => names(ws, s, next, 1, TAG_OPERAND),
-        _ => Next::Past(next),
+        _ => Ok(next),
     }
 }
 
 // A body form: (22, parameter count), a row (23, name bound) each, and an expression.
 #[cycle(body_form_branches_case_branches_expression_lead)]
-fn body_form(ws: &[u16], s: Sizes, r: usize) -> Next
+fn body_form(ws: &[u16], s: Sizes, r: usize) -> Result<usize, WrongRow>
     requires whole { Whole ws.now s }
     requires r_le_rows { r ≤ s.rows }
     ensures { reading result ≡ from (program ws.now s) body_form_of r }
 {
-    match counted(ws, s, r, TAG_PARAMETER) {
-        Next::Past(q) => expression(ws, s, q),
-        Next::Wrong(q) => Next::Wrong(q),
-    }
+    let body = counted(ws, s, r, TAG_PARAMETER)?;
+    expression(ws, s, body)
 }
 
 // (25, branch count), and the branches of a case.
 #[cycle(body_form_branches_case_branches_expression_lead)]
-fn case_branches(ws: &[u16], s: Sizes, r: usize) -> Next
+fn case_branches(ws: &[u16], s: Sizes, r: usize) -> Result<usize, WrongRow>
     requires whole { Whole ws.now s }
     requires r_le_rows { r ≤ s.rows }
     ensures { reading result ≡ from (program ws.now s) (branches ∷ []) r }
 {
     let n = num(ws, s, r);
     if tag(ws, s, r) != TAG_BRANCHES {
-        return Next::Wrong(r);
+        return Err(WrongRow(r));
     }
     if is_branch_count(n) {
         branches(ws, s, r + 1, n)
     } else {
-        Next::Wrong(r)
+        Err(WrongRow(r))
     }
 }
 
 // n branches: a pattern and an expression each.
 #[cycle(body_form_branches_case_branches_expression_lead)]
-fn branches(ws: &[u16], s: Sizes, r: usize, n: usize) -> Next
+fn branches(ws: &[u16], s: Sizes, r: usize, n: usize) -> Result<usize, WrongRow>
     requires whole { Whole ws.now s }
     requires r_le_rows { r ≤ s.rows }
     ensures { reading result ≡ from (program ws.now s) (branch_items n) r }
 {
-    let mut left = n;
     let mut q = r;
-    while left > 0 {
-        let body = match pattern(ws, s, q, MAX_DEPTH) {
-            Next::Past(e) => e,
-            Next::Wrong(e) => return Next::Wrong(e),
-        };
-        q = match expression(ws, s, body) {
-            Next::Past(e) => e,
-            Next::Wrong(e) => return Next::Wrong(e),
-        };
-        left -= 1;
+    for _ in 0..n {
+        let body = pattern(ws, s, q, MAX_DEPTH)?;
+        q = expression(ws, s, body)?;
     }
-    Next::Past(q)
+    Ok(q)
 }
 
 // The functions that hold everywhere: (11, name bound), then a body form, each.
-fn globals(ws: &[u16], s: Sizes, r: usize) -> Next
+fn globals(ws: &[u16], s: Sizes, r: usize) -> Result<usize, WrongRow>
     requires whole { Whole ws.now s }
     requires r_le_rows { r ≤ s.rows }
     ensures { reading result ≡ from (program ws.now s) (replicate s.functions global) r }
 {
-    let mut left = s.functions;
     let mut q = r;
-    while left > 0 {
+    for _ in 0..s.functions {
         if !is_row(ws, s, q, TAG_GLOBAL, s.names) {
-            return Next::Wrong(q);
+            return Err(WrongRow(q));
         }
-        q = match body_form(ws, s, q + 1) {
-            Next::Past(e) => e,
-            Next::Wrong(e) => return Next::Wrong(e),
-        };
-        left -= 1;
+        q = body_form(ws, s, q + 1)?;
     }
-    Next::Past(q)
+    Ok(q)
 }
 
 // Constructors and functions: what stands before the start expression.
-fn declarations(ws: &[u16], s: Sizes) -> Next
+fn declarations(ws: &[u16], s: Sizes) -> Result<usize, WrongRow>
     requires { Whole ws.now s }
     ensures { reading result ≡ from (program ws.now s) (declarations (program ws.now s)) 0 }
 {
-    match constructors(ws, s) {
-        Next::Past(q) => globals(ws, s, q),
-        Next::Wrong(q) => Next::Wrong(q),
-    }
+    let functions = constructors(ws, s)?;
+    globals(ws, s, functions)
 }
 
 // The whole program.
-fn whole(ws: &[u16], s: Sizes) -> Next
+fn whole(ws: &[u16], s: Sizes) -> Result<usize, WrongRow>
     requires { Whole ws.now s }
     ensures { reading result ≡ from (program ws.now s) (whole (program ws.now s)) 0 }
 {
-    match declarations(ws, s) {
-        Next::Past(q) => expression(ws, s, q),
-        Next::Wrong(q) => Next::Wrong(q),
-    }
+    let start = declarations(ws, s)?;
+    expression(ws, s, start)
 }
 
 // Refusal 3: the first row that does not fit, the first behind the start expression, or the end.
-pub fn row_check(ws: &[u16], s: Sizes) -> Verdict
+pub fn row_check(ws: &[u16], s: Sizes) -> Result<(), Verdict>
     requires { Whole ws.now s }
-    ensures { result ≡ answer (row_check_of (program ws.now s)) }
+    ensures { result ≡ outcome (row_check_of (program ws.now s)) }
 {
     match whole(ws, s) {
-        Next::Past(r) => {
-            if r == s.rows {
-                return Verdict::Safe;
-            }
-            let place = 4 + r;
-            Verdict::Row(place)
-        }
-        Next::Wrong(r) => {
-            let place = 4 + r;
-            Verdict::Row(place)
-        }
+        Ok(r) if r == s.rows => Ok(()),
+        Ok(r) => Err(Verdict::Row(4 + r)),
+        Err(WrongRow(r)) => Err(Verdict::Row(4 + r)),
     }
 }

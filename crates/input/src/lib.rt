@@ -8,7 +8,8 @@ ghost use Rattle.std.specs.Io.KnownBytes.{Consumes, IsAtEnd};
 use std::io;
 use std::io::Read;
 
-// Reads until the buffer is full or the input ends, and gives how many bytes it put at the buffer's start.
+// Reads until the buffer is full or the input ends, and gives how many bytes it put at the buffer's start. The loop
+// counts no index: `read_exact` tells no count where the input ends early, which the clauses `bytes` and `end` do.
 pub fn read_full<R: Read>(reader: &mut R, buf: &mut [u8]) -> io::Result<usize>
     ensures bound { ReadsAtMost result buf.new }
     ensures bytes { IfOk result (λ n. Consumes (R.remaining reader.old) (R.remaining reader.new)

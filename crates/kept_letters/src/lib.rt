@@ -20,13 +20,6 @@ use positions::branch_body;
 use program::rows::{num, tag};
 use system_letters::LETTER_WORDS;
 
-// The state before x, 0 where there is none.
-fn before(x: usize) -> usize
-    ensures { result ≡ x - 1 }
-{
-    if x == 0 { 0 } else { x - 1 }
-}
-
 // Keeps the letters of class c that the branch with its pattern at row q reads for state x, if that is of class c.
 fn keep_branch(
     ws: &[u16],
@@ -55,7 +48,7 @@ fn keep_branch(
     let mut part = [0u64; LETTER_WORDS];
     let mut found = [0u64; LETTER_WORDS];
     // The state before may be the same body with the return before, for which the same letters are kept.
-    let earlier = before(x);
+    let earlier = x.saturating_sub(1);
     branch_letters(
         ws, s, afters, w, fitting, names, letter_at, letters, c, q, earlier, &mut part, &mut found,
     );

@@ -16,7 +16,8 @@ use lists::word;
 use model::Sizes;
 use rule_tables::{rules_of, rules_within_of};
 
-// Whether the rules of all states so far are kept, and up to where in the lists.
+// Whether the rules of all states so far are kept, and up to where in the lists. No `Option` of the place: the clauses
+// of `none_kept` and `keep`, and `KeptRules`, name both fields, and say of `used` what holds where none are kept.
 #[derive(Clone, Copy)]
 pub struct Kept {
     pub all: bool,

@@ -316,10 +316,9 @@ module _ (ws : List ℕ) (s : Sizes) where
   ]
 
 -- one step by a table, and none
-pub hop_turn : (n q v : ℕ) (table : List ℕ) → 0 < n → v ≡ get_or table q 0 → hop table n q ≡ hop table (n - 1) v
+pub hop_turn : (n m q v : ℕ) (table : List ℕ) → n ≡ suc m → v ≡ get_or table q 0 → hop table n q ≡ hop table m v
 unfolding hop
-hop_turn zero q v table a e = absurd (omega arith)
-hop_turn (suc n) q v table a e = let z : suc n - 1 ≡ n = omega arith in rw (z, e) refl
+hop_turn n m q v table a e = rw (a, e) refl
 
 pub hop_end : (table : List ℕ) (n q : ℕ) → n ≤ 0 → hop table n q ≡ q
 unfolding hop

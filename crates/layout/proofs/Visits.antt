@@ -7,7 +7,7 @@ use mathlib.Core.List.{List, [], ◌∷◌, ◌++◌}
 use mathlib.Core.Logic.{⊎_elim}
 use mathlib.Core.Option.{some, none, map, some-ne-none, none-ne-some}
 use lib.Dec.{leb, eqb}
-use borrow.Author.Tests.{eqb-true, eq-eqb, le-leb, ltb-true}
+use borrow.Author.Tests.{eqb-true, ltb-true}
 use Rattle.model.specs.Reader.{past, fits, first_wrong_of}
 use Rattle.model.specs.Rows.{Program, size, tag, num, kind, is_head_of, Item, constructor, global, header, parameter, expression, made, operand, arguments, branches, pattern, is_name, whole, past_items, row_check_of, step, expression_step, pattern_step}
 use Rattle.model.specs.Scopes.{binds, uses}

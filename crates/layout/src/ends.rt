@@ -16,11 +16,9 @@ use program::rows::{num, tag};
 fn hops(afters: &[u16], q: usize, n: usize) -> usize
     ensures { result ≡ hop afters.now n q }
 {
-    let mut left = n;
     let mut at = q;
-    while left > 0 {
+    for _ in 0..n {
         at = entry(afters, at);
-        left -= 1;
     }
     at
 }
@@ -90,9 +88,7 @@ pub fn fill_ends(ws: &[u16], s: Sizes, afters: &mut [u16])
     requires rows_in_bounds { s.rows ≤ length afters.old }
     ensures { Ends (program ws.now s) afters.new }
 {
-    let mut r = s.rows;
-    while r > 0 {
-        r -= 1;
+    for r in (0..s.rows).rev() {
         let end = end_row(ws, s, afters, r);
         if end <= s.rows {
             afters[r] = end as u16;

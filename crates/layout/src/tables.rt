@@ -5,9 +5,5 @@ ghost use Rattle.std.specs.Prelude.{◌≡◌, get_or};
 pub fn entry(table: &[u16], i: usize) -> usize
     ensures { result ≡ get_or table.now i 0 }
 {
-    if i < table.len() {
-        table[i] as usize
-    } else {
-        0
-    }
+    table.get(i).map_or(0, |&x| x as usize)
 }

@@ -2,12 +2,12 @@
 // test.
 #![tactic(auto)]
 
-ghost use Rattle.std.specs.Prelude.{◌≡◌, ◌*◌, ◌≤◌, ◌<◌, min, length};
+ghost use Rattle.std.specs.Prelude.{◌≡◌, ◌≤◌, length, IfOk};
 ghost use Rattle.model.specs.Rows.{program};
 ghost use Rattle.model.specs.Tables.{tables};
 ghost use Rattle.model.specs.Rules.{rules};
 ghost use Rattle.model.specs.Ceilings.{ceilings_of, leak_check_of};
-ghost use Rattle.model.specs.Verify.{answer};
+ghost use Rattle.model.specs.Verify.{judged, outcome};
 ghost use Rattle.lists.specs.Ready.{Ready};
 ghost use Rattle.system_letters.specs.Letters.{ClassLetters};
 ghost use Rattle.rules.specs.Derived.{RuleRoom};
@@ -18,24 +18,10 @@ ghost use Rattle.stages.specs.Scratch.{Limited, MaskRoom, RulesFit};
 use ceilings_leaks::{fill_groups, leak_check};
 use ceilings_masks::fill_holders;
 use model::{MAX_BRANCHES, MAX_COUNTERS, Sizes, Verdict};
-use rooms::words16_258;
+use rooms::words16;
 use rule_tables::LETTER_AT;
 use system_letters::letter_count;
 use system_totals::Totals;
-
-// The verdict, and the totals of the rules, which are counted on the way.
-#[derive(Clone, Copy)]
-pub struct Leaks {
-    pub verdict: Verdict,
-    pub totals: Totals,
-}
-
-// The lesser of two numbers.
-fn lesser(a: usize, b: usize) -> usize
-    ensures { result ≡ min a b }
-{
-    if a < b { a } else { b }
-}
 
 // So many of `room` words are more than the rules of any one state need: in these the rules of all states are kept.
 fn spare_words(ws: &[u16], s: Sizes, letter_at: &[u16], room: usize) -> usize
@@ -48,10 +34,10 @@ fn spare_words(ws: &[u16], s: Sizes, letter_at: &[u16], room: usize) -> usize
     let for_letters = room - by_letter;
     let for_values = room - s.rows - 1;
     let for_counters = room - MAX_COUNTERS;
-    lesser(for_letters, lesser(for_values, for_counters))
+    for_letters.min(for_values).min(for_counters)
 }
 
-// Refusal 13, and the totals, over lent sets of ceilings and lists of rules.
+// Refusal 13, or the totals of the rules, which are counted on the way, over lent sets of ceilings and lists of rules.
 pub fn leaks_on(
     ws: &[u16],
     s: Sizes,
@@ -68,20 +54,20 @@ pub fn leaks_on(
     at: &mut [u16],
     tos: &mut [u16],
     others: &mut [u16],
-) -> Leaks
+) -> Result<Totals, Verdict>
     requires joined_tables { JoinedTables ws.now s narrow.now fitting.now names.now letters.now }
     requires limited { Limited ws.now s n limits.now ceiling_at.now }
     requires mask_room { MaskRoom n holders.old group.old near.old }
     requires rule_room { RuleRoom ws.now s tos.old others.old × (length tos.old ≤ 65536) }
-    ensures verdict_value { result.verdict ≡
-        answer (leak_check_of ws.now s (ceilings_of ws.now s n)
+    ensures value { judged result ≡
+        outcome (leak_check_of ws.now s (ceilings_of ws.now s n)
         (rules (program ws.now s) (tables ws.now s))) }
-    ensures totalled { Totalled (program ws.now s) (tables ws.now s) result.totals }
+    ensures totalled { IfOk result (Totalled (program ws.now s) (tables ws.now s)) }
 {
     fill_holders(limits, s.ceilings, n, holders);
     let letter_at = &narrow[LETTER_AT..];
     let spare = spare_words(ws, s, letter_at, tos.len());
-    let mut first_at = words16_258();
+    let mut first_at = words16::<258>();
     let gathered = fill_groups(
         ws,
         s,
@@ -101,10 +87,9 @@ pub fn leaks_on(
         group,
     );
     let kept = gathered.kept;
-    let verdict = leak_check(
+    leak_check(
         ws, s, narrow, fitting, names, letters, n, limits, ceiling_at, holders, group, kept,
         &first_at, at, tos, others, near,
-    );
-    let totals = gathered.totals;
-    Leaks { verdict, totals }
+    )?;
+    Ok(gathered.totals)
 }

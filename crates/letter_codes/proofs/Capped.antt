@@ -5,8 +5,9 @@ use native.Mathlib.Omega.{arith}
 use mathlib.Core.Path.{◌≡◌, refl, sym, ◌∙◌}
 use mathlib.Core.List.{List}
 use borrow.Author.Tests.{le-leb, lt-leb}
+use Rattle.std.proofs.Common.{Ok, Err}
 use Rattle.model.specs.declared.Sizes.{Sizes}
-use Rattle.model.specs.declared.Verdict.TheVariants.{Safe, Counters}
+use Rattle.model.specs.declared.Verdict.TheVariants.{Counters}
 use Rattle.model.specs.Limits.{present, max_counters}
 use Rattle.model.specs.Message.{tables_offset}
 use Rattle.model.specs.Words.{columns}
@@ -14,7 +15,7 @@ use Rattle.model.specs.Rows.{Program}
 use Rattle.model.specs.Tables.{Tables, tables, entries}
 use Rattle.model.specs.Counters.{letter_count_of, counter_count, counter_check_of}
 use Rattle.model.specs.Verdict.{unless}
-use Rattle.model.specs.Verify.{answer}
+use Rattle.model.specs.Verify.{outcome}
 use Rattle.model.proofs.Numbering.Within.{within_exactly}
 use Rattle.letter_codes.specs.Codes.{capped}
 
@@ -49,14 +50,14 @@ states_told ws s = refl
 
 -- the answer of refusal 9
 module _ (s : Sizes) (p : Program) (t : Tables) (n : ℕ) (states : t.states.size ≡ s.states) (e : n ≡ capped max_counters (letter_count_of p t)) where
-  pub counters_safe : s.states + n ≤ max_counters → Safe ≡ answer (counter_check_of present s p t)
-  unfolding counter_check_of unless answer counter_count
+  pub counters_safe : s.states + n ≤ max_counters → Ok tt ≡ outcome (counter_check_of present s p t)
+  unfolding counter_check_of unless outcome counter_count
   counters_safe l =
       let z = capped_exact max_counters (letter_count_of p t) n e (omega arith) in
       rw (within_exactly p t max_counters, le-leb (t.states.size + letter_count_of p t) max_counters (omega arith))
 
-  pub counters_many : (at : ℕ) → max_counters < s.states + n → at ≡ tables_offset s → Counters (at + 2) ≡ answer (counter_check_of present s p t)
-  unfolding counter_check_of unless answer counter_count
+  pub counters_many : (at : ℕ) → max_counters < s.states + n → at ≡ tables_offset s → Err (Counters (at + 2)) ≡ outcome (counter_check_of present s p t)
+  unfolding counter_check_of unless outcome counter_count
   counters_many at l f =
       rw (within_exactly p t max_counters, lt-leb (t.states.size + letter_count_of p t) max_counters over, f)
     where

@@ -10,6 +10,7 @@ use lib.ListN.{length, get_or, set, length-set}
 use lib.Seq.{get_or-set_same, get_or-set_other}
 use Rattle.model.specs.declared.Sizes.{Sizes}
 use Rattle.model.specs.Limits.{max_mails}
+use Rattle.model.specs.Index.{first}
 use Rattle.model.specs.Words.{left, right, columns}
 use Rattle.model.specs.Rows.{Program, program, size}
 use Rattle.model.specs.Tables.{Tables, tables, entries}
@@ -17,9 +18,10 @@ use Rattle.model.specs.Keys.{below}
 use Rattle.model.specs.Counters.{letter_count_of}
 use Rattle.model.proofs.Keys.{below_iff}
 use Rattle.lists.specs.declared.Span.{Span}
-use Rattle.lists.specs.Lists.{key_at, Ascending, mail_span, listed, range_from}
+use Rattle.lists.specs.Lists.{key_at, span_at, mail_span, listed, range_from, reaches}
 use Rattle.lists.specs.Ready.{Ready}
 use Rattle.lists.proofs.Facts.{mail_listed, mail_rises}
+use Rattle.lists.proofs.Reaching.{reached, behind_place}
 use Rattle.lists.proofs.Rising.{place_before, place_upto, begins_before, begins_within, begins_behind}
 use Rattle.system_letters.specs.Letters.{letter_at_of, letters_before, ClassLetters}
 use Rattle.system_letters.proofs.Tables.{letter_class_low}
@@ -156,14 +158,20 @@ module _ {ws : List ℕ} {s : Sizes} (h : Ready ws s) where
         below l = omega (arith, d.grows)
 
   -- the entries of a class, as the code finds them
-  pub end_told : (l : Span) (a to : ℕ) → l ≡ mail_span s → to ≡ range_from (listed ws l) a → to ≡ range_from t.mail a
-  end_told l a to e same = same ∙ rw (e, mail_listed ws s)
-
-  pub entry_next : (l : Span) (c e : ℕ) → l ≡ mail_span s → e ≡ range_from t.mail c → e ≤ range_from (listed ws l) (c + 1)
+  entry_next : (l : Span) (c e : ℕ) → l ≡ mail_span s → e ≡ range_from t.mail c → e ≤ range_from (listed ws l) (c + 1)
   entry_next l c e same at = rw (same, mail_listed ws s) (start_next t.mail (mail_rises h) c e at)
 
-  pub mail_ascends : (l : Span) → l ≡ mail_span s → Ascending (listed ws l) []
-  mail_ascends l e = rw (e, mail_listed ws s) (mail_rises h)
+  pub entry_within : (l : Span) (c e : ℕ) → l ≡ mail_span s → e ≡ range_from t.mail c → e ≤ l.size
+  unfolding range_from mail_span span_at tables entries columns
+  entry_within l c e is at =
+      let z : l.size ≡ s.mails = rw is in
+      omega (arith, place_upto t.mail [] (c ∷ 0 ∷ 0 ∷ []))
+
+  pub end_told : (l : Span) (c e to : ℕ) → l ≡ mail_span s → e ≡ range_from t.mail c → to ≡ first e l.size (reaches (listed ws l) (c + 1)) → to ≡ range_from t.mail (c + 1)
+  unfolding listed columns
+  end_told l c e to is at found =
+      (reached (listed ws l) (c + 1) e to (entry_within l c e is at) (behind_place (listed ws l) (c + 1) e (entry_next l c e is at)) found).0 ∙
+      rw (is, mail_listed ws s)
 
   pub class_entries : (c e to : ℕ) → e ≡ range_from t.mail c → to ≡ range_from t.mail (c + 1) → (e ≤ to) × (to ≤ s.mails)
   unfolding range_from tables entries columns

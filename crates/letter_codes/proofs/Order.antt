@@ -13,8 +13,7 @@ use Rattle.model.specs.declared.Sizes.{Sizes}
 use Rattle.model.specs.Limits.{max_arity}
 use Rattle.model.specs.Index.{gather}
 use Rattle.model.specs.Rows.{Program, program, tag, num, arity}
-use Rattle.model.specs.Heads.{is_function}
-use Rattle.model.specs.Letters.{Letter, head, head_count, row_shape, row_head_of}
+use Rattle.model.specs.Letters.{Letter, head_count, row_head_of}
 use Rattle.model.specs.Tables.{Tables, tables}
 use Rattle.model.specs.Closed.{argument}
 use Rattle.model.specs.Counters.{name_heads, heads_each, any_argument, letters_allowed}

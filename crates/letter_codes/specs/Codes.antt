@@ -1,12 +1,11 @@
 -- The letters that mail allows, as numbers.
-use Rattle.std.specs.Prelude.{ℕ, ◌+◌, ◌≤◌, ◌<◌, ◌≡◌, true, false, List, [], length, get_or, leb}
+use Rattle.std.specs.Prelude.{ℕ, ◌+◌, ◌≤◌, ◌<◌, ◌≡◌, true, false, List, length, get_or, leb}
 use Rattle.model.specs.declared.Sizes.{Sizes}
 use Rattle.model.specs.Limits.{max_counters}
-use Rattle.model.specs.Words.{Columns, right}
+use Rattle.model.specs.Words.{right}
 use Rattle.model.specs.Rows.{Program}
 use Rattle.model.specs.Tables.{Tables}
 use Rattle.model.specs.Counters.{letter_count_of}
-use Rattle.lists.specs.Lists.{Ascending, range_from}
 use Rattle.system_letters.specs.Letters.{letter_at_of}
 use Rattle.ascending.specs.Numbers.{Room}
 use Rattle.value_letters.specs.Letters.{letter_code, Allowed}
@@ -32,11 +31,6 @@ pub record EntriesRoom (s : Sizes) (from to most n : ℕ) (codes : List ℕ) : T
   pub order : from ≤ to
   pub upto : to ≤ s.mails
   pub room : Room most n n codes
-
--- the entries ascend, and entry j is not behind the first of those that begin with a or more
-pub record NotBehind (c : Columns) (a j : ℕ) : Type 0 where
-  pub ascending : Ascending c []
-  pub upto : j ≤ range_from c a
 
 -- room for where the letters of each class begin, and for the numbers of one letter more than the most
 pub record CodesRoom (s : Sizes) (most : ℕ) (letter_at_of codes : List ℕ) : Type 0 where

@@ -6,15 +6,14 @@ ghost use Rattle.model.specs.Limits.{present, max_counters};
 ghost use Rattle.model.specs.Rows.{program};
 ghost use Rattle.model.specs.Tables.{tables};
 ghost use Rattle.model.specs.Counters.{letter_count_of, counter_check_of};
-ghost use Rattle.model.specs.Verify.{answer};
-ghost use Rattle.lists.specs.Lists.{listed, Held, range_from};
+ghost use Rattle.model.specs.Verify.{outcome};
 ghost use Rattle.lists.specs.Ready.{Ready};
 ghost use Rattle.system_letters.specs.Letters.{ClassLetters};
 ghost use Rattle.ascending.specs.Numbers.{Added};
 ghost use Rattle.value_letters.specs.Letters.{HeadsKnown};
-ghost use Rattle.letter_codes.specs.Codes.{Coded, capped, AllowedIn, NotBehind, EntriesRoom, CodesRoom};
+ghost use Rattle.letter_codes.specs.Codes.{Coded, capped, AllowedIn, EntriesRoom, CodesRoom};
 
-use lists::{Span, left, mail, right};
+use lists::{mail, reach, right};
 use model::{MAX_COUNTERS, Sizes, Verdict};
 use parts::tables_at;
 use value_letters::add_value;
@@ -45,22 +44,6 @@ fn add_entries(
     m
 }
 
-// Where the entries that begin with a stand, from entry j on, before which none does.
-fn start_from(ws: &[u16], l: Span, a: usize, j: usize) -> usize
-    requires held { Held ws.now l }
-    requires not_behind { NotBehind (listed ws.now l) a j }
-    ensures { result ≡ range_from (listed ws.now l) a }
-{
-    let mut e = j;
-    while e < l.size {
-        if left(ws, l, e) >= a {
-            return e;
-        }
-        e += 1;
-    }
-    e
-}
-
 // The letters that mail allows, as numbers, class by class, each once and ascending; and where each class begins. Gives
 // how many there are, or one more than the most where there are more; the tables then say nothing.
 pub fn fill_codes(
@@ -84,7 +67,7 @@ pub fn fill_codes(
     let mut n = 0;
     for c in 0..s.rows + 1 {
         letter_at[c] = n as u16;
-        let to = start_from(ws, list, c + 1, e);
+        let to = reach(ws, list, c + 1, e);
         n = add_entries(ws, s, names, e, to, most, n, codes);
         e = to;
     }
@@ -93,14 +76,14 @@ pub fn fill_codes(
 }
 
 // Refusal 9: more counters than the limit, by the number n of letters, capped at it.
-pub fn counter_check(ws: &[u16], s: Sizes, n: usize) -> Verdict
+pub fn counter_check(ws: &[u16], s: Sizes, n: usize) -> Result<(), Verdict>
     requires ready { Ready ws.now s }
     requires n_value { n ≡ capped max_counters (letter_count_of (program ws.now s) (tables ws.now s)) }
-    ensures { result ≡ answer (counter_check_of present s (program ws.now s) (tables ws.now s)) }
+    ensures { result ≡ outcome (counter_check_of present s (program ws.now s) (tables ws.now s)) }
 {
     if s.states + n <= MAX_COUNTERS {
-        Verdict::Safe
+        Ok(())
     } else {
-        Verdict::Counters(tables_at(s) + 2)
+        Err(Verdict::Counters(tables_at(s) + 2))
     }
 }

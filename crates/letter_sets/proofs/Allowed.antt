@@ -14,8 +14,7 @@ use Rattle.bits.specs.Bits.{member}
 use Rattle.model.specs.declared.Sizes.{Sizes}
 use Rattle.model.specs.Index.{all, gather}
 use Rattle.model.specs.Rows.{Program, program, tag, num, arity}
-use Rattle.model.specs.Letters.{Letter, head, head_count, row_shape, row_head_of}
-use Rattle.model.specs.Heads.{is_function}
+use Rattle.model.specs.Letters.{Letter, head, head_count, row_head_of}
 use Rattle.model.specs.Tables.{Tables, tables}
 use Rattle.model.specs.Closed.{argument}
 use Rattle.model.specs.Counters.{any_argument, name_heads, heads_each, choices, letters_allowed, letter_keys, letter_count_of}
@@ -24,10 +23,8 @@ use Rattle.model.proofs.Index.{all_elim, all_intro}
 use Rattle.model.proofs.Keys.{getD_there}
 use Rattle.model.proofs.Numbering.Choices.{chosen_in, chosen_gather, gather_chosen, head_of_name, built_head, letters_built, letters_plain, LetterOf, letter_from}
 use Rattle.model.proofs.Numbering.Letters.{key_from}
-use Rattle.model.proofs.Numbering.Counters.{tag_inside, plain_head}
-use Rattle.model.proofs.Parse.Lengths.{built_below}
+use Rattle.model.proofs.Numbering.Counters.{plain_head}
 use Rattle.lists.specs.Ready.{Ready}
-use Rattle.lists.proofs.Facts.{rows_fit}
 use Rattle.system_letters.specs.Letters.{letter_at_of}
 use Rattle.system_letters.proofs.Tables.{head_low, built_low}
 use Rattle.letter_codes.specs.Codes.{Coded}

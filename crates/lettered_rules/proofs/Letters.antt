@@ -5,6 +5,7 @@ use mathlib.Core.Path.{◌≡◌, sym, ◌∙◌, ap, subst}
 use mathlib.Core.Bool.{Bool, true, false, not}
 use mathlib.Core.List.{List, [], ◌∷◌, Memᴰ}
 use lib.ListN.{length, get_or, drop}
+use Rattle.std.proofs.Common.{Option}
 use Rattle.bits.specs.Bits.{member, Row}
 use Rattle.model.specs.declared.Sizes.{Sizes}
 use Rattle.model.specs.Index.{only}
@@ -23,6 +24,7 @@ use Rattle.model.proofs.ByCounter.{OneOf, by_counter}
 use Rattle.lists.specs.Ready.{Ready}
 use Rattle.values.proofs.Members.{each_at}
 use Rattle.system_letters.specs.Letters.{class_at, letter_at_of, letters_before, ClassLetters, letter_width_of, Found}
+use Rattle.rules.specs.Within.{AskedRow}
 use Rattle.rules.specs.Derived.{LetterTables}
 use Rattle.system_letters.proofs.Tables.{head_low}
 use Rattle.system_letters.proofs.Classes.{before_most, before_rises, class_there}
@@ -110,7 +112,7 @@ module _ {ws : List ℕ} {s : Sizes} (h : Ready ws s) where
   set_room u few e = record { room = omega arith }
 
   -- the room for the rules of a class's letters, once the sets are others of the same length
-  pub letter_room : (starts letters within part found tos others : List ℕ) (n d : ℕ) → LetterTables ws s starts letters → ClassRoom ws s starts within part found tos others n d → (w : ℕ) → w ≡ letter_width_of p t → (part' found' : List ℕ) → length part' ≡ length part → length found' ≡ length found → LetterRoom s.states starts found' tos others w n d × (Row within w 0 × Row part' w 0)
+  pub letter_room : (starts letters : List ℕ) (within : Option (List ℕ)) (part found tos others : List ℕ) (n d : ℕ) → LetterTables ws s starts letters → ClassRoom ws s starts within part found tos others n d → (w : ℕ) → w ≡ letter_width_of p t → (part' found' : List ℕ) → length part' ≡ length part → length found' ≡ length found → LetterRoom s.states starts found' tos others w n d × (AskedRow within w × Row part' w 0)
   unfolding program tables entries columns counter_count letter_width_of
   letter_room starts letters within part found tos others n d g r w wide part' found' u v =
       let (a, b) = class_order starts g.class_letters d r.value in
@@ -130,7 +132,7 @@ module _ {ws : List ℕ} {s : Sizes} (h : Ready ws s) where
       )
 
 -- the rules that stand there fit, and no rule more is no more than the letters of the class
-pub before_room : {ws : List ℕ} {s : Sizes} {starts letters within part found tos others : List ℕ} {n d : ℕ} → LetterTables ws s starts letters → ClassRoom ws s starts within part found tos others n d → (n ≤ length tos) × (n + get_or starts d 0 ≤ n + get_or starts (d + 1) 0)
+pub before_room : {ws : List ℕ} {s : Sizes} {starts letters : List ℕ} {within : Option (List ℕ)} {part found tos others : List ℕ} {n d : ℕ} → LetterTables ws s starts letters → ClassRoom ws s starts within part found tos others n d → (n ≤ length tos) × (n + get_or starts d 0 ≤ n + get_or starts (d + 1) 0)
 unfolding program columns
 before_room {d = d} g r =
     let (a, b) = class_order g.ready _ g.class_letters d r.value in

@@ -2,11 +2,12 @@
 use Prim.Native.Nat.{ℕ, ◌+◌, ◌*◌, ◌-◌, ◌≤◌, ◌<◌}
 use native.Mathlib.Omega.{arith}
 use mathlib.Core.Path.{◌≡◌, refl, sym, ◌∙◌, ap}
-use mathlib.Core.Bool.{Bool, true, false, not, ◌||◌}
+use mathlib.Core.Bool.{Bool, true, false, not}
 use mathlib.Core.List.{List, [], ◌∷◌, Memᴰ}
 use lib.ListN.{length, get_or}
+use Rattle.std.proofs.Common.{Option, Some, None}
 use borrow.Author.Tests.{not-true, not-false}
-use Rattle.bits.specs.Bits.{member, Row}
+use Rattle.bits.specs.Bits.{member}
 use Rattle.model.specs.declared.Sizes.{Sizes}
 use Rattle.model.specs.Index.{any}
 use Rattle.model.specs.Words.{columns}
@@ -27,7 +28,8 @@ use Rattle.values.proofs.Names.{class_upto}
 use Rattle.system_letters.specs.Letters.{ClassLetters, letter_width_of, class_at}
 use Rattle.system_letters.proofs.Classes.{class_there}
 use Rattle.lettered_rules.specs.Turns.{letter_rules, sent_turn}
-use Rattle.rules.specs.Within.{letter_passes, only_passing, AskedLetters}
+use Rattle.rules.specs.Within.{letter_passes, only_passing, is_asked, AskedOf, AskedRow}
+use Rattle.class_rules.specs.Asked.{class_asked}
 use Rattle.lettered_rules.proofs.Letters.{class_range, class_order, sent_there}
 
 -- rules none of which passes
@@ -36,9 +38,11 @@ unfolding only_passing
 only_none f [] h = refl
 only_none f (ρ ∷ ρs) h = rw (only_passing, h ρ (Memᴰ.head refl)) (only_none f ρs (λ σ m. h σ (Memᴰ.tail m)))
 
-or_neither : (a b : Bool) → (a || b) ≡ false → (a ≡ false) × (b ≡ false)
-or_neither true b h = true_false refl h
-or_neither false b h = (refl, h)
+-- where a class is not asked for, there is a set that has none of its letters
+none_asked : {A : Type 0} (w : ℕ) (within : Option (List ℕ)) (from to : ℕ) → class_asked w within from to ≡ false → ((set : List ℕ) → within ≡ Some set → any from to (member set w 0) ≡ false → A) → A
+unfolding class_asked
+none_asked w None from to h k = true_false refl h
+none_asked w (Some set) from to h k = k set refl h
 
 module _ {ws : List ℕ} {s : Sizes} (h : Ready ws s) where
   abbrev p : Program
@@ -47,16 +51,16 @@ module _ {ws : List ℕ} {s : Sizes} (h : Ready ws s) where
   abbrev t : Tables
   t = tables ws s
 
-  pub class_asked : (starts : List ℕ) → ClassLetters p t starts → (d : ℕ) → d ≤ s.rows → (w : ℕ) → w ≡ letter_width_of p t → (within : List ℕ) → Row within (letter_width_of p t) 0 → (d + 1 < length starts) × ((get_or starts (d + 1) 0 ≤ 64 * w) × Row within w 0)
+  pub class_wide : (starts : List ℕ) → ClassLetters p t starts → (d : ℕ) → d ≤ s.rows → (w : ℕ) → w ≡ letter_width_of p t → (within : Option (List ℕ)) → AskedRow within (letter_width_of p t) → (d + 1 < length starts) × ((get_or starts (d + 1) 0 ≤ 64 * w) × AskedRow within w)
   unfolding program columns letter_width_of
-  class_asked starts g d low w wide within row =
+  class_wide starts g d low w wide within row =
       (omega (arith, g.room), (rw wide (omega (arith, class_order h starts g d low)), rw wide row))
 
-  module _ (m to d : ℕ) (b : Bool) (e : b ≡ is_class_of p d) (f : ℕ → Bool) (starts : List ℕ) (g : ClassLetters p t starts) (narrow : Bool) (within : List ℕ) (w : ℕ) (asks : Bool) (wide : w ≡ letter_width_of p t) (o : AskedLetters p t narrow within f) (all : each t.flow m (has t.mail d) ≡ true) (n : not b ≡ false) where
+  module _ (m to d : ℕ) (b : Bool) (e : b ≡ is_class_of p d) (f : ℕ → Bool) (starts : List ℕ) (g : ClassLetters p t starts) (within : Option (List ℕ)) (w : ℕ) (asks : Bool) (wide : w ≡ letter_width_of p t) (o : AskedOf p t within f) (all : each t.flow m (has t.mail d) ≡ true) (n : not b ≡ false) where
     -- the counter of a letter of the class that is not asked for does not pass
-    letter_fails : d ≤ size p → not narrow ≡ false → any (get_or starts d 0) (get_or starts (d + 1) 0) (member within w 0) ≡ false → (l : Letter) → Memᴰ l (from_each t.flow m (letters_allowed p t)) → f (letter_index p t d l) ≡ false
-    unfolding counter_count class_at
-    letter_fails class asked none l mem =
+    letter_fails : d ≤ size p → (set : List ℕ) → within ≡ Some set → any (get_or starts d 0) (get_or starts (d + 1) 0) (member set w 0) ≡ false → (l : Letter) → Memᴰ l (from_each t.flow m (letters_allowed p t)) → f (letter_index p t d l) ≡ false
+    unfolding counter_count class_at is_asked
+    letter_fails class set asked none l mem =
         let there = sent_there h d m all l mem in
         let x : ℕ = letter_index p t d l in
         let y : ℕ = x - t.states.size in
@@ -66,18 +70,18 @@ module _ {ws : List ℕ} {s : Sizes} (h : Ready ws s) where
         let whose : class_at p t y ≡ d = ap (λ k. get_or k 0 0) (index_key p t d l there) in
         let inside = class_there p t d y low whose in
         let range = class_range h starts g d class in
-        let absent : member within w 0 y ≡ false = test (member within w 0 y)
-        (λ z. true_false (any_intro (get_or starts d 0) (get_or starts (d + 1) 0) y (member within w 0) (omega (arith, range.0, inside.0)) (omega (arith, range.1, inside.1)) z) none)
+        let absent : member set w 0 y ≡ false = test (member set w 0 y)
+        (λ z. true_false (any_intro (get_or starts d 0) (get_or starts (d + 1) 0) y (member set w 0) (omega (arith, range.0, inside.0)) (omega (arith, range.1, inside.1)) z) none)
         (λ z. z) in
         let same_x : t.states.size + y ≡ x = omega arith in
-        ap f (sym same_x) ∙ (sym (o.has y low) ∙ rw (asked, ← wide) absent)
+        ap f (sym same_x) ∙ (sym (o.has y low) ∙ (ap (λ v. is_asked (letter_width_of p t) v y) asked ∙ (ap (λ k. member set k 0 y) (sym wide) ∙ absent)))
 
-    pub sent_unasked : asks ≡ (not narrow || any (get_or starts d 0) (get_or starts (d + 1) 0) (member within w 0)) → not asks ≡ true → (i : ℕ) → only_passing f (sent_turn p t m to d i) ≡ []
+    pub sent_unasked : asks ≡ class_asked w within (get_or starts d 0) (get_or starts (d + 1) 0) → not asks ≡ true → (i : ℕ) → only_passing f (sent_turn p t m to d i) ≡ []
     unfolding sent_turn letter_rules letter_passes program columns
     sent_unasked is none i =
         let class = sym e ∙ not-false b n in
-        let (asked, absent) = or_neither (not narrow) _ (sym is ∙ not-true asks none) in
+        none_asked w within _ _ (sym is ∙ not-true asks none) (λ set asked absent.
         rw (class, sent_turn)
         (only_none f _
         (each_map (λ ρ. letter_passes f ρ.effect ≡ false) (ascending (from_each t.flow m (letters_allowed p t))) (λ l. rule i to (puts (letter_index p t d l)))
-        (λ l mem. letter_fails (class_upto h d class) asked absent l (ascending_from l (from_each t.flow m (letters_allowed p t)) mem))))
+        (λ l mem. letter_fails (class_upto h d class) set asked absent l (ascending_from l (from_each t.flow m (letters_allowed p t)) mem)))))

@@ -2,7 +2,7 @@
 // of one branch of a receive.
 #![tactic(auto)]
 
-ghost use Rattle.std.specs.Prelude.{◌≡◌, Bool, true, ℕ, ◌+◌, ◌≤◌, get_or};
+ghost use Rattle.std.specs.Prelude.{◌≡◌, Bool, true, ℕ, ◌+◌, ◌≤◌, get_or, option_copied};
 ghost use Rattle.model.specs.Limits.{max_depth};
 ghost use Rattle.model.specs.Rows.{program, send, receive};
 ghost use Rattle.model.specs.Heads.{is_class_of};
@@ -10,7 +10,7 @@ ghost use Rattle.model.specs.Tables.{tables};
 ghost use Rattle.matching.specs.Patterns.{Pattern};
 ghost use Rattle.rules.specs.Added.{Added};
 ghost use Rattle.rules.specs.Derived.{SentTables, SentTo};
-ghost use Rattle.rules.specs.Within.{only_passing, AskedLetters};
+ghost use Rattle.rules.specs.Within.{only_passing, AskedOf};
 ghost use Rattle.branch_letters.specs.Kept.{ReadTables};
 ghost use Rattle.lettered_rules.specs.Turns.{ClassRoom, sent_turn, read_turn};
 
@@ -32,8 +32,7 @@ pub fn sent_rules(
     m: usize,
     d: usize,
     next: u16,
-    narrow: bool,
-    within: &[u64],
+    within: Option<&[u64]>,
     n: usize,
     part: &mut [u64],
     found: &mut [u64],
@@ -41,11 +40,11 @@ pub fn sent_rules(
     others: &mut [u16],
 ) -> usize
     requires sent_tables { SentTables ws.now s flow_at.now letter_at.now letters.now }
-    requires class_room { ClassRoom ws.now s letter_at.now within.now part.old found.old tos.old others.old
-        n d }
+    requires class_room { ClassRoom ws.now s letter_at.now (option_copied within) part.old found.old
+        tos.old others.old n d }
     requires sent_to { is_class_of (program ws.now s) d ≡ true → SentTo ws.now s m d }
     ensures by_index { (f : ℕ → Bool) →
-        AskedLetters (program ws.now s) (tables ws.now s) narrow within.now f →
+        AskedOf (program ws.now s) (tables ws.now s) (option_copied within.entry) f →
         Added send tos.old others.old n tos.new others.new result
         (λ i. only_passing f (sent_turn (program ws.now s) (tables ws.now s) m next d i)) }
     ensures d_bound { result + get_or letter_at.now d 0 ≤ n + get_or letter_at.now (d + 1) 0 }
@@ -54,12 +53,12 @@ pub fn sent_rules(
         return n;
     }
     let words = letter_width(ws, s, letter_at);
-    if !asks_class(narrow, letter_at, within, words, d) {
+    if !asks_class(letter_at, within, words, d) {
         return n;
     }
     sent_letters(ws, s, flow_at, letter_at, letters, m, d, found);
     class_rules(
-        s, letter_at, words, d, next, narrow, within, n, part, found, tos, others,
+        s, letter_at, words, d, next, within, n, part, found, tos, others,
     )
 }
 
@@ -77,8 +76,7 @@ pub fn read_rules(
     c: usize,
     q: usize,
     next: u16,
-    narrow: bool,
-    within: &[u64],
+    within: Option<&[u64]>,
     n: usize,
     part: &mut [u64],
     found: &mut [u64],
@@ -86,11 +84,11 @@ pub fn read_rules(
     others: &mut [u16],
 ) -> usize
     requires read_tables { ReadTables ws.now s afters.now w fitting.now names.now letter_at.now letters.now }
-    requires class_room { ClassRoom ws.now s letter_at.now within.now part.old found.old tos.old others.old
-        n c }
+    requires class_room { ClassRoom ws.now s letter_at.now (option_copied within) part.old found.old
+        tos.old others.old n c }
     requires pattern { Pattern (program ws.now s) max_depth q }
     ensures by_index { (f : ℕ → Bool) →
-        AskedLetters (program ws.now s) (tables ws.now s) narrow within.now f →
+        AskedOf (program ws.now s) (tables ws.now s) (option_copied within.entry) f →
         Added receive tos.old others.old n tos.new others.new result
         (λ i. only_passing f (read_turn (program ws.now s) (tables ws.now s) c q next i)) }
     ensures c_bound { result + get_or letter_at.now c 0 ≤ n + get_or letter_at.now (c + 1) 0 }
@@ -101,6 +99,6 @@ pub fn read_rules(
     );
     let words = letter_width(ws, s, letter_at);
     class_rules(
-        s, letter_at, words, c, next, narrow, within, n, part, found, tos, others,
+        s, letter_at, words, c, next, within, n, part, found, tos, others,
     )
 }

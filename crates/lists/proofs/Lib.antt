@@ -2,3 +2,4 @@ pub mod Halving
 pub mod Rising
 pub mod Facts
 pub mod Told
+pub mod Reaching

@@ -1,7 +1,7 @@
 -- What was read from a span, and where a key has its place in it, are those of the tables' lists.
-use Prim.Native.Nat.{ℕ, ◌+◌}
+use Prim.Native.Nat.{ℕ}
 use mathlib.Core.Path.{◌≡◌, ◌∙◌}
-use mathlib.Core.List.{List, [], ◌∷◌}
+use mathlib.Core.List.{List, []}
 use lib.ListN.{get_or}
 use Rattle.model.specs.declared.Sizes.{Sizes}
 use Rattle.model.specs.Keys.{Key}

@@ -1,5 +1,5 @@
 -- The lists of the tables part as the code reads them: where their columns stand, and where an entry has its place.
-use Rattle.std.specs.Prelude.{ℕ, ◌+◌, ◌*◌, ◌≤◌, ◌<◌, ◌≡◌, Bool, true, false, not, ◌&&◌, List, [], ◌∷◌, length, get_or, take, drop, eqb}
+use Rattle.std.specs.Prelude.{ℕ, ◌+◌, ◌*◌, ◌≤◌, ◌<◌, ◌≡◌, Bool, true, false, not, ◌&&◌, List, [], ◌∷◌, length, get_or, take, drop, eqb, leb}
 use Rattle.model.specs.declared.Sizes.{Sizes}
 use Rattle.model.specs.Index.{first}
 use Rattle.model.specs.Keys.{Key, below}
@@ -61,6 +61,10 @@ is_entry_of c ts a b d i = eqb (left c i) a && (eqb (right c i) b && eqb (get_or
 -- the first entry that is; the size where there is none
 unfoldable pub entry_index : Columns → List ℕ → ℕ → ℕ → ℕ → ℕ
 entry_index c ts a b d = first 0 c.size (is_entry_of c ts a b d)
+
+-- entry i begins with a or a number behind it
+unfoldable pub reaches : Columns → ℕ → ℕ → Bool
+reaches c a i = leb a (left c i)
 
 -- in a list of pairs that ascends those that begin with a stand from here ...
 unfoldable pub range_from : Columns → ℕ → ℕ

@@ -3,13 +3,14 @@
 
 ghost use Rattle.std.specs.Prelude.{◌≡◌, Bool, [], ◌∷◌, ◌+◌, ◌≤◌, ◌<◌, length, get_or};
 ghost use Rattle.model.specs.Limits.{present};
+ghost use Rattle.model.specs.Index.{first};
 ghost use Rattle.model.specs.Words.{left, right};
 ghost use Rattle.model.specs.Keys.{below};
 ghost use Rattle.model.specs.Rows.{program};
 ghost use Rattle.model.specs.Tables.{tables, has, state, state_index_of};
 ghost use Rattle.model.specs.Demands.{WithinLimits};
 ghost use Rattle.lists.specs.Lists.{Ascending, span_at, flow_span, mail_span, state_span, listed, thirds, Held};
-ghost use Rattle.lists.specs.Lists.{key_at, place, is_entry_of, entry_index, range_from, range_to};
+ghost use Rattle.lists.specs.Lists.{key_at, place, is_entry_of, entry_index, range_from, range_to, reaches};
 ghost use Rattle.lists.specs.Lists.{head_from, head_to};
 ghost use Rattle.lists.specs.Ready.{Ready};
 
@@ -17,7 +18,8 @@ use model::Sizes;
 use parts::tables_at;
 use program::rows::column;
 
-// Where a list stands: its size, and the words at which its columns begin; 0 for the third where it has two.
+// Where a list stands: its size, and the words at which its columns begin; 0 for the third where it has two, as
+// `span_at` and `thirds` of specs/ have it.
 #[derive(Clone, Copy)]
 pub struct Span {
     pub size: usize,
@@ -121,6 +123,7 @@ pub fn place(ws: &[u16], l: Span, a: usize, b: usize, d: usize) -> usize
     requires ascending { Ascending (listed ws.now l) (thirds ws.now l) }
     ensures { result ≡ place (listed ws.now l) (thirds ws.now l) (a ∷ b ∷ d ∷ []) }
 {
+    // The entries stand in columns, and no slice has them, so that `partition_point` has nothing to search.
     let mut low = 0;
     let mut high = l.size;
     while low < high {
@@ -132,6 +135,20 @@ pub fn place(ws: &[u16], l: Span, a: usize, b: usize, d: usize) -> usize
         }
     }
     low
+}
+
+// The first entry from i on that begins with a or a number behind it; the list's size where there is none.
+pub fn reach(ws: &[u16], l: Span, a: usize, i: usize) -> usize
+    requires held { Held ws.now l }
+    requires i_le_size { i ≤ l.size }
+    ensures { result ≡ first i l.size (reaches (listed ws.now l) a) }
+{
+    for k in i..l.size {
+        if left(ws, l, k) >= a {
+            return k;
+        }
+    }
+    l.size
 }
 
 // Is entry i made of the numbers (a, b, d)?
@@ -148,7 +165,8 @@ fn is_entry(ws: &[u16], l: Span, a: usize, b: usize, d: usize, i: usize) -> bool
     third(ws, l, i) == d
 }
 
-// The number of the entry (a, b, d) in a list that ascends; the list's size where it is not there.
+// The number of the entry (a, b, d) in a list that ascends; the list's size where it is not there, as `state_index_of`
+// of the model has it, which the functions below give.
 fn find(ws: &[u16], l: Span, a: usize, b: usize, d: usize) -> usize
     requires held { Held ws.now l }
     requires ascending { Ascending (listed ws.now l) (thirds ws.now l) }

@@ -6,12 +6,11 @@ ghost use Rattle.model.specs.Rows.{program};
 ghost use Rattle.model.specs.Limits.{max_counters};
 ghost use Rattle.model.specs.Tables.{tables, mailed_check_of};
 ghost use Rattle.model.specs.Counters.{letter_count_of};
-ghost use Rattle.model.specs.Verify.{answer};
+ghost use Rattle.model.specs.Verify.{outcome};
 ghost use Rattle.lists.specs.Ready.{Ready};
 ghost use Rattle.letter_codes.specs.Codes.{capped};
-ghost use Rattle.mailed.specs.Mailed.{does_mail_function, mails_from, mailed_then_counters};
+ghost use Rattle.mailed.specs.Mailed.{does_mail_function, mailed_then_counters};
 
-use answers::is_safe;
 use letter_codes::counter_check;
 use lists::{mail, mail_value};
 use model::{Sizes, Verdict};
@@ -26,44 +25,26 @@ fn mails_function(ws: &[u16], s: Sizes, i: usize) -> bool
     is_function(tag(ws, s, v))
 }
 
-// The first mail entry whose value is a function; M where there is none. The search ends behind what it has found.
-fn first_mailed(ws: &[u16], s: Sizes) -> usize
+// The verdict of refusal 22, at the first column of the first mail entry whose value is a function.
+fn mailed_check(ws: &[u16], s: Sizes) -> Result<(), Verdict>
     requires { Ready ws.now s }
-    ensures { result ≡ mails_from (program ws.now s) (tables ws.now s) 0 }
+    ensures { result ≡ outcome (mailed_check_of s (program ws.now s) (tables ws.now s)) }
 {
-    let mails = s.mails;
-    let mut found = mails;
-    let mut i = 0;
-    while i < found {
+    for i in 0..s.mails {
         if mails_function(ws, s, i) {
-            found = i;
+            return Err(Verdict::FunctionMailed(mail(s).lefts + i));
         }
-        i += 1;
     }
-    found
-}
-
-// The verdict of refusal 22, at that entry's first column.
-fn mailed_check(ws: &[u16], s: Sizes) -> Verdict
-    requires { Ready ws.now s }
-    ensures { result ≡ answer (mailed_check_of s (program ws.now s) (tables ws.now s)) }
-{
-    let i = first_mailed(ws, s);
-    if i < s.mails {
-        let at = mail(s).lefts + i;
-        return Verdict::FunctionMailed(at);
-    }
-    Verdict::Safe
+    Ok(())
 }
 
 // Refusals 22 and 9 of a message with n letters, or more than the limit of counters; 22 is told first.
-pub fn counters_verdict(ws: &[u16], s: Sizes, n: usize) -> Verdict
+pub fn counters_verdict(ws: &[u16], s: Sizes, n: usize) -> Result<(), Verdict>
     requires ready { Ready ws.now s }
     requires n_value { n ≡ capped max_counters (letter_count_of (program ws.now s) (tables ws.now s)) }
     ensures { result ≡
-        answer (mailed_then_counters s (program ws.now s) (tables ws.now s)) }
+        outcome (mailed_then_counters s (program ws.now s) (tables ws.now s)) }
 {
-    let mailed = mailed_check(ws, s);
-    let counters = counter_check(ws, s, n);
-    if is_safe(mailed) { counters } else { mailed }
+    mailed_check(ws, s)?;
+    counter_check(ws, s, n)
 }

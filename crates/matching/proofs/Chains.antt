@@ -2,16 +2,18 @@
 use Prim.Native.Nat.{ℕ, ◌+◌, ◌≤◌, ◌<◌}
 use native.Mathlib.Decide.{ℕ_discrete}
 use native.Mathlib.Omega.{arith}
-use mathlib.Core.Path.{◌≡◌, refl, sym, ◌∙◌, ap}
-use mathlib.Core.Bool.{true, false, ◌&&◌}
+use mathlib.Core.Path.{◌≡◌, sym, ◌∙◌, ap}
+use mathlib.Core.Bool.{true, false}
 use mathlib.Core.List.{List}
 use lib.Dec.{eqb}
-use lib.ListN.{length, get_or, set, length-set}
+use mathlib.Core.List.{◌++◌}
+use lib.ListN.{length, get_or, set, length-set, replicate}
+use Rattle.std.proofs.Math.ListN.{get_or-append}
+use Rattle.std.proofs.lemmas.List.{get_or-replicate, length-append, length-replicate}
 use lib.Seq.{get_or-set_same, get_or-set_other}
 use borrow.Author.Tests.{eqb-true, eq-eqb, ne_eqb}
 use Rattle.model.specs.declared.Sizes.{Sizes}
 use Rattle.model.specs.Index.{first}
-use Rattle.model.specs.Words.{columns}
 use Rattle.model.specs.Rows.{Program, program, size, tag, num}
 use Rattle.model.proofs.Logic.{and_intro, and_left, and_right}
 use Rattle.model.proofs.Index.{first_end, first_hit, first_miss, first_is}
@@ -30,28 +32,19 @@ pub record Chained (p : Program) (firsts nexts : List ℕ) (x : ℕ) : Type 0 wh
 
 module _ (p : Program) where
   -- every constructor's first build is R to begin with
-  pub record Blank (firsts : List ℕ) (k : ℕ) : Type 0 where
-    pub none_yet : (j : ℕ) → j < k → get_or firsts j 0 ≡ size p
-
-  pub blank_none : (firsts : List ℕ) → Blank firsts 0
-  blank_none firsts = record { none_yet = λ j l. absurd (omega arith) }
-
-  pub blank_next : (firsts : List ℕ) (k x : ℕ) → Blank firsts k → x ≡ size p → k < length firsts → Blank (set firsts k x) (k + 1)
-  blank_next firsts k x b e room = record {
-    none_yet = λ j l. elim (ℕ_discrete j k) [
-      | yes z ↦ ap (λ y. get_or (set firsts k x) y 0) z ∙ (get_or-set_same firsts k x 0 room ∙ e)
-      | no z ↦ get_or-set_other firsts k j x 0 z ∙ b.none_yet j (omega arith)
-    ];
-  }
-
-  pub chained_begin : (firsts nexts : List ℕ) (k x : ℕ) → Blank firsts k → p.constructors ≤ k → x ≡ size p → p.constructors ≤ length firsts → size p ≤ length nexts → Chained p firsts nexts x
-  chained_begin firsts nexts k x b l e room room' = record {
-    first_room = room;
-    next_room = room';
+  blank_begin : (n : ℕ) (rest nexts : List ℕ) → p.constructors ≤ n → size p ≤ length nexts → Chained p (replicate n (size p) ++ rest) nexts (size p)
+  blank_begin n rest nexts l room = record {
+    first_room = simp length-append (simp length-replicate (omega arith));
+    next_room = room;
     upto = omega arith;
-    firsts_at = λ j less. b.none_yet j (omega arith) ∙ (sym e ∙ sym (first_end x (size p) (is_build p j) (omega arith)));
+    firsts_at = λ j less.
+        let inside : j < length (replicate n (size p)) = simp length-replicate (omega arith) in
+        get_or-append (replicate n (size p)) rest 0 j inside ∙ (get_or-replicate n j (size p) 0 (omega arith) ∙ sym (first_end (size p) (size p) (is_build p j) (omega arith)));
     nexts_at = λ v from below. absurd (omega arith);
   }
+
+  pub chained_begin : (front rest nexts : List ℕ) (n x : ℕ) → front ≡ replicate n x → x ≡ size p → p.constructors ≤ n → size p ≤ length nexts → Chained p (front ++ rest) nexts x
+  chained_begin front rest nexts n x filled e l room = rw (filled, e) (blank_begin n rest nexts l room)
 
   build_yes : (k v : ℕ) → tag p v ≡ 2 → num p (v + 1) ≡ k → is_build p k v ≡ true
   unfolding is_build

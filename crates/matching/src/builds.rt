@@ -15,12 +15,8 @@ pub fn fill_builds(ws: &[u16], s: Sizes, firsts: &mut [u16], nexts: &mut [u16])
     ensures { Builds (program ws.now s) firsts.new nexts.new }
 {
     let none = s.rows as u16;
-    for k in 0..s.constructors {
-        firsts[k] = none;
-    }
-    let mut r = s.rows;
-    while r > 0 {
-        r -= 1;
+    firsts[..s.constructors].fill(none);
+    for r in (0..s.rows).rev() {
         if tag(ws, s, r) == TAG_BUILD {
             let made = num(ws, s, r + 1);
             nexts[r] = firsts[made];

@@ -18,7 +18,7 @@ use values::width;
 pub fn worse(a: usize, b: usize) -> usize
     ensures { result ≡ max a b }
 {
-    if a < b { b } else { a }
+    a.max(b)
 }
 
 // The code of the pattern at row q, a name bound or any value, with the values of set k.
@@ -105,8 +105,7 @@ pub fn arguments_code(
     let arity = num(ws, s, made);
     let mut worst = 1;
     let mut sub = q + 1;
-    let mut i = 0;
-    while i < arity {
+    for i in 0..arity {
         let name = num(ws, s, v + 2 + i);
         let code = values_code(ws, s, flow, may, held, flow, name, sub);
         if code == 0 {
@@ -114,7 +113,6 @@ pub fn arguments_code(
         }
         worst = worse(worst, code);
         sub = word(afters, sub);
-        i += 1;
     }
     worst
 }

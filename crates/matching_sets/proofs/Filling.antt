@@ -15,13 +15,13 @@ use Rattle.model.specs.Words.{columns}
 use Rattle.model.specs.Rows.{Program, program, size, tag, num}
 use Rattle.model.specs.Tables.{Tables, tables}
 use Rattle.model.specs.Closed.{is_same_constructor, may_match, names_hold}
-use Rattle.model.proofs.Logic.{and_left, and_right, and_none, and_true, or_none}
+use Rattle.model.proofs.Logic.{and_none, and_true, or_none}
 use Rattle.model.proofs.Index.{first_is}
 use Rattle.model.proofs.Parse.Lengths.{row_within, ColumnsWhole}
 use Rattle.bits.specs.Bits.{member, Put}
 use Rattle.values.specs.Values.{width, Empty, Room}
 use Rattle.values.proofs.Gathered.{room_row}
-use Rattle.matching.specs.Patterns.{code, pattern_code, Pattern, IsCode, is_build, Matched, Matches, does_equal_some, MatchReady, BuildReady}
+use Rattle.matching.specs.Patterns.{pattern_code, Pattern, IsCode, is_build, Matched, Matches, does_equal_some, MatchReady, BuildReady}
 use Rattle.matching_sets.specs.Sets.{Clear, PutIf, Joined, FillReady, Unfilled, FilledFrom}
 use Rattle.matching.proofs.Chains.{build_no}
 use Rattle.matching.proofs.Coding.{code_zero, code_some, code_held, unmade_code}

@@ -33,6 +33,7 @@ fn put_builds(
     let w = width(s);
     let k = num(ws, s, u + 1);
     let mut v = word(firsts, k);
+    // A chain of links is walked, and no index counted.
     while v < s.rows {
         put(sets, w, q, v);
         v = word(nexts, v);

@@ -45,6 +45,7 @@ fn fill_pattern(
     let w = width(s);
     let made = num(ws, s, q);
     let mut v = word(firsts, made);
+    // A chain of links is walked, and no index counted.
     while v < s.rows {
         let code = arguments_code(ws, s, afters, flow, may, held, q, v);
         put_if(may, w, q, v, code != 0);
@@ -69,9 +70,7 @@ pub fn fill_patterns(
     ensures { Matches (program ws.now s) (tables ws.now s) may.new
         held.new 0 }
 {
-    let mut q = s.rows;
-    while q > 0 {
-        q -= 1;
+    for q in (0..s.rows).rev() {
         let kind = tag(ws, s, q);
         if kind == TAG_PATTERN_CONSTRUCTOR {
             fill_pattern(ws, s, afters, flow, firsts, nexts, may, held, q);

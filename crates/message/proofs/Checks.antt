@@ -8,35 +8,22 @@ use mathlib.Core.List.{List, [], ◌∷◌}
 use mathlib.Core.Option.{some, none}
 use lib.ListN.{length}
 use borrow.Author.Tests.{le-leb, lt-leb}
+use Rattle.std.proofs.Common.{Result, Ok, Err}
 use Rattle.model.specs.Limits.{present}
 use Rattle.model.specs.declared.Sizes.{Sizes}
 use Rattle.model.specs.declared.Verdict.{Verdict}
 use Rattle.model.specs.declared.Verdict.TheVariants.{Length, Size}
 use Rattle.model.specs.Words.{words}
 use Rattle.model.specs.Verdict.{Check, ◌>>◌, unless}
+use Rattle.model.specs.Verify.{outcome}
 use Rattle.model.specs.Message.{Limited, sizes, sizes_check, part_check, program_part_of, bads_part_of, tables_part_of, ceilings_part_of, goes_on, weights_sizes, ceilings_offset, weights_offset, weights_part_of, nothing_left, end_of, parts_check}
+use Rattle.model.proofs.Outcome.{nothing_found, refusal_found}
 use Rattle.model.proofs.Logic.{test, chosen_true, chosen_false}
 use Rattle.model.proofs.Exact.Parts.{end_none, end_some}
-use Rattle.message.specs.declared.Parts.{Parts}
-use Rattle.message.specs.declared.Parts.TheVariants.{Whole, Refused}
-use Rattle.message.specs.declared.Checked.{Checked}
-use Rattle.message.specs.declared.Checked.TheVariants.{Pass, Fail}
 use Rattle.parts.specs.Parts.{LowSizes}
 use Rattle.sizes.specs.Sizes.{inside, first_outside}
 use Rattle.sizes.proofs.Limits.{first_outside_hit, first_outside_miss}
-use Rattle.message.specs.Parts.{checked, answered, parts_in}
-
--- a check that passes, or refuses
-
-pub checked_pass : (k : Check) → checked k ≡ Pass → k ≡ none
-unfolding checked
-checked_pass none h = refl
-checked_pass (some v) h = cc
-
-pub checked_fail : (k : Check) (v : Verdict) → checked k ≡ Fail v → k ≡ some v
-unfolding checked
-checked_fail none v h = cc
-checked_fail (some w) v h = cc
+use Rattle.message.specs.Parts.{answered, parts_in}
 
 sizes_check_hit : (at : ℕ) (l : Limited) (ls : List Limited) → inside l ≡ false → sizes_check at (l ∷ ls) ≡ some (Size at)
 unfolding sizes_check inside
@@ -87,13 +74,13 @@ module _ (ws : List ℕ) (at : ℕ) (ls : List Limited) (cells : ℕ) where
 
 -- the fifth part, by whether the message goes on
 
-pub no_weights : (bytes ws : List ℕ) (s : Sizes) → goes_on bytes s ≡ false → Pass ≡ checked (weights_part_of bytes ws s)
-unfolding weights_part_of checked
-no_weights bytes ws s h = sym (ap checked (chosen_false _ _ _ h))
+pub no_weights : (bytes ws : List ℕ) (s : Sizes) → goes_on bytes s ≡ false → Ok tt ≡ outcome (weights_part_of bytes ws s)
+unfolding weights_part_of outcome
+no_weights bytes ws s h = sym (ap outcome (chosen_false _ _ _ h))
 
-pub with_weights : (bytes ws : List ℕ) (s : Sizes) (r : Checked) {at : ℕ} → goes_on bytes s ≡ true → at ≡ weights_offset s → r ≡ checked (part_check ws at (weights_sizes s) (2 * s.weights)) → r ≡ checked (weights_part_of bytes ws s)
+pub with_weights : (bytes ws : List ℕ) (s : Sizes) (r : Result Unit Verdict) {at : ℕ} → goes_on bytes s ≡ true → at ≡ weights_offset s → r ≡ outcome (part_check ws at (weights_sizes s) (2 * s.weights)) → r ≡ outcome (weights_part_of bytes ws s)
 unfolding weights_part_of
-with_weights bytes ws s r h e p = rw e at p ∙ sym (ap checked (chosen_true _ _ _ h))
+with_weights bytes ws s r h e p = rw e at p ∙ sym (ap outcome (chosen_true _ _ _ h))
 
 -- sizes that place the parts place the end
 pub end_small : (s : Sizes) (n : ℕ) → n ≡ end_of s → LowSizes s → n < 2 ^ 21
@@ -105,23 +92,23 @@ end_small s n e h = elim (dec_lt 0 s.lines) [
 
 -- the whole message, by the code's checks one after the other
 
-pub then_go : (p q : Check) (s : Sizes) (r : Checked) (x : Parts) → r ≡ checked p → r ≡ Pass → x ≡ answered q s → x ≡ answered (p >> q) s
+pub then_go : (p q : Check) (s : Sizes) (r : Result Unit Verdict) (x : Result Sizes Verdict) → r ≡ outcome p → r ≡ Ok tt → x ≡ answered q s → x ≡ answered (p >> q) s
 unfolding ◌>>◌
-then_go p q s r x e h t = rw (checked_pass p (sym e ∙ h)) t
+then_go p q s r x e h t = rw (nothing_found p r e h) t
 
-pub then_stop : (p q : Check) (s : Sizes) (r : Checked) (v : Verdict) → r ≡ checked p → r ≡ Fail v → Refused v ≡ answered (p >> q) s
+pub then_stop : (p q : Check) (s : Sizes) (r : Result Unit Verdict) (v : Verdict) → r ≡ outcome p → r ≡ Err v → Err v ≡ answered (p >> q) s
 unfolding ◌>>◌ answered
-then_stop p q s r v e h = rw (checked_fail p v (sym e ∙ h))
+then_stop p q s r v e h = rw (refusal_found p r v e h)
 
-pub bytes_left : (bytes : List ℕ) (s : Sizes) (n : ℕ) → n ≡ end_of s → 2 * n < length bytes → Refused (Length n) ≡ answered (nothing_left bytes s) s
+pub bytes_left : (bytes : List ℕ) (s : Sizes) (n : ℕ) → n ≡ end_of s → 2 * n < length bytes → Err (Length n) ≡ answered (nothing_left bytes s) s
 unfolding nothing_left unless answered
 bytes_left bytes s n e h = rw (← e, lt-leb (length bytes) (2 * n) h)
 
-pub no_bytes_left : (bytes : List ℕ) (s : Sizes) (n : ℕ) → n ≡ end_of s → length bytes ≤ 2 * n → Whole s ≡ answered (nothing_left bytes s) s
+pub no_bytes_left : (bytes : List ℕ) (s : Sizes) (n : ℕ) → n ≡ end_of s → length bytes ≤ 2 * n → Ok s ≡ answered (nothing_left bytes s) s
 unfolding nothing_left unless answered
 no_bytes_left bytes s n e h = rw (← e, le-leb (length bytes) (2 * n) h)
 
-pub parts_by : (bytes : List ℕ) (s : Sizes) (x : Parts) → s ≡ sizes (words bytes) → x ≡ answered (program_part_of present (words bytes) s >> (bads_part_of (words bytes) s >> (tables_part_of present (words bytes) s >> (ceilings_part_of (words bytes) s >> (weights_part_of bytes (words bytes) s >> nothing_left bytes s))))) s → x ≡ parts_in bytes
+pub parts_by : (bytes : List ℕ) (s : Sizes) (x : Result Sizes Verdict) → s ≡ sizes (words bytes) → x ≡ answered (program_part_of present (words bytes) s >> (bads_part_of (words bytes) s >> (tables_part_of present (words bytes) s >> (ceilings_part_of (words bytes) s >> (weights_part_of bytes (words bytes) s >> nothing_left bytes s))))) s → x ≡ parts_in bytes
 unfolding parts_in parts_check
 parts_by bytes s x e t = rw (← e) t
 

@@ -8,7 +8,8 @@ ghost use Rattle.model.specs.Message.{Limited, part_check, program_part_of, bads
 ghost use Rattle.model.specs.Message.{goes_on, weights_part_of};
 ghost use Rattle.parts.specs.Parts.{LowSizes};
 ghost use Rattle.sizes.specs.Sizes.{first_outside};
-ghost use Rattle.message.specs.Parts.{checked, parts_in};
+ghost use Rattle.model.specs.Verify.{outcome};
+ghost use Rattle.message.specs.Parts.{parts_in};
 
 use model::{Sizes, Verdict};
 use parts::{bads_at, ceilings_at, end_at, table_cells, tables_at, weights_at};
@@ -16,69 +17,55 @@ use sizes::{
     bads_outside, ceilings_outside, program_outside, sizes_of, tables_outside, weights_outside,
 };
 
-// The parts: whole, with their sizes, or the refusal.
-#[derive(Clone, Copy)]
-pub enum Parts {
-    Whole(Sizes),
-    Refused(Verdict),
-}
-
-// A check of one part.
-#[derive(Clone, Copy)]
-enum Checked {
-    Pass,
-    Fail(Verdict),
-}
-
 // Refusals 1 and 2 of a part at word `at`: its sizes whole, within their limits, its arrays of `cells` words whole. The
 // first size outside its limits is number `wrong` of the part's `count` sizes.
-fn part(bytes: &[u8], at: usize, count: usize, wrong: usize, cells: usize) -> Checked
+fn part(bytes: &[u8], at: usize, count: usize, wrong: usize, cells: usize) -> Result<(), Verdict>
     requires { at + count + cells < 2 ^ 21 }
     ensures { (ls : List Limited) → length ls ≡ count → first_outside ls ≡ wrong →
-        result ≡ checked (part_check (words bytes.now) at ls cells) }
+        result ≡ outcome (part_check (words bytes.now) at ls cells) }
 {
     let words = bytes.len() / 2;
     if words < at + count {
-        return Checked::Fail(Verdict::Length(at));
+        return Err(Verdict::Length(at));
     }
     if wrong < count {
-        return Checked::Fail(Verdict::Size(at + wrong));
+        return Err(Verdict::Size(at + wrong));
     }
     if words < at + count + cells {
-        return Checked::Fail(Verdict::Length(at));
+        return Err(Verdict::Length(at));
     }
-    Checked::Pass
+    Ok(())
 }
 
 // The program part: rows, names, constructors, functions; tags and numbers of the rows.
-fn program_part(bytes: &[u8], s: Sizes) -> Checked
+fn program_part(bytes: &[u8], s: Sizes) -> Result<(), Verdict>
     requires { LowSizes s }
-    ensures { result ≡ checked (program_part_of present (words bytes.now) s) }
+    ensures { result ≡ outcome (program_part_of present (words bytes.now) s) }
 {
     part(bytes, 0, 4, program_outside(s), 2 * s.rows)
 }
 
 // The bads part: bads and their rows; tags and numbers of the rows.
-fn bads_part(bytes: &[u8], s: Sizes) -> Checked
+fn bads_part(bytes: &[u8], s: Sizes) -> Result<(), Verdict>
     requires { LowSizes s }
-    ensures { result ≡ checked (bads_part_of (words bytes.now) s) }
+    ensures { result ≡ outcome (bads_part_of (words bytes.now) s) }
 {
     part(bytes, bads_at(s), 2, bads_outside(s), 2 * s.badrows)
 }
 
 // The tables part: flow, mail and state entries; first and second columns, and the states' third.
-fn tables_part(bytes: &[u8], s: Sizes) -> Checked
+fn tables_part(bytes: &[u8], s: Sizes) -> Result<(), Verdict>
     requires { LowSizes s }
-    ensures { result ≡ checked (tables_part_of present (words bytes.now) s) }
+    ensures { result ≡ outcome (tables_part_of present (words bytes.now) s) }
 {
     let cells = table_cells(s.flows, s.mails, s.states);
     part(bytes, tables_at(s), 3, tables_outside(s), cells)
 }
 
 // The ceilings part: ceilings and their entries; counter numbers and limits.
-fn ceilings_part(bytes: &[u8], s: Sizes) -> Checked
+fn ceilings_part(bytes: &[u8], s: Sizes) -> Result<(), Verdict>
     requires { LowSizes s }
-    ensures { result ≡ checked (ceilings_part_of (words bytes.now) s) }
+    ensures { result ≡ outcome (ceilings_part_of (words bytes.now) s) }
 {
     part(bytes, ceilings_at(s), 2, ceilings_outside(s), 2 * s.entries)
 }
@@ -92,39 +79,29 @@ fn goes_on(bytes: &[u8], s: Sizes) -> bool
 }
 
 // The weights part, where there is one: lines and their entries; counter numbers and weights.
-fn weights_part(bytes: &[u8], s: Sizes) -> Checked
+fn weights_part(bytes: &[u8], s: Sizes) -> Result<(), Verdict>
     requires { LowSizes s }
-    ensures { result ≡ checked (weights_part_of bytes.now (words bytes.now) s) }
+    ensures { result ≡ outcome (weights_part_of bytes.now (words bytes.now) s) }
 {
     if !goes_on(bytes, s) {
-        return Checked::Pass;
+        return Ok(());
     }
     part(bytes, weights_at(s), 2, weights_outside(s), 2 * s.weights)
 }
 
 // Refusals 1 and 2 of any bytes, part by part; then that no bytes remain.
-pub fn parts_of(bytes: &[u8]) -> Parts
+pub fn parts_of(bytes: &[u8]) -> Result<Sizes, Verdict>
     ensures { result ≡ parts_in bytes.now }
 {
     let s = sizes_of(bytes);
-    if let Checked::Fail(v) = program_part(bytes, s) {
-        return Parts::Refused(v);
-    }
-    if let Checked::Fail(v) = bads_part(bytes, s) {
-        return Parts::Refused(v);
-    }
-    if let Checked::Fail(v) = tables_part(bytes, s) {
-        return Parts::Refused(v);
-    }
-    if let Checked::Fail(v) = ceilings_part(bytes, s) {
-        return Parts::Refused(v);
-    }
-    if let Checked::Fail(v) = weights_part(bytes, s) {
-        return Parts::Refused(v);
-    }
+    program_part(bytes, s)?;
+    bads_part(bytes, s)?;
+    tables_part(bytes, s)?;
+    ceilings_part(bytes, s)?;
+    weights_part(bytes, s)?;
     let end = end_at(s);
     if 2 * end < bytes.len() {
-        return Parts::Refused(Verdict::Length(end));
+        return Err(Verdict::Length(end));
     }
-    Parts::Whole(s)
+    Ok(s)
 }

@@ -24,6 +24,7 @@ pub mod Steps
 pub mod Stepped
 pub mod Runs
 pub mod Demands
+pub mod Outcome
 pub mod Refusals
 pub mod LetterSums
 pub mod Sums

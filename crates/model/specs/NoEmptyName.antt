@@ -1,5 +1,5 @@
 -- Document 02, (xi), "No empty name": "for every program that passes 1 to 5, safe or not: in no run does a process read
--- a name that holds nothing, whether in an expression, a kept function or a held_name pattern"; as types.
+-- a name that holds nothing, whether in an expression, a kept function or a held-name pattern"; as types.
 use Rattle.std.specs.Prelude.{ℕ, ◌+◌, ◌≤◌, ◌<◌, ◌≡◌, true, ◌↔◌, ◌⊎◌, length}
 use mathlib.Core.List.{List, [], Memᴰ}
 use Rattle.std.proofs.Math.Option.{some, none}
@@ -40,7 +40,7 @@ branches_at (cases n branches) = branches
 branches_at (receives branches) = branches
 branches_at no_head = []
 
--- The name n is read by a process that acts at row r: "in an expression", or "a held_name pattern" of a branch, taken
+-- The name n is read by a process that acts at row r: "in an expression", or "a held-name pattern" of a branch, taken
 -- or not.
 pub data Reads (p : Program) (r n : ℕ) : Type 0 where
   in_expression : Memᴰ n (read_at (head_at p r)) → Reads p r n

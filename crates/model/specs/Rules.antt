@@ -33,7 +33,7 @@ rule from to effect = record { from = from; to = to; effect = effect }
 unfoldable pub from_each : {A : Type 0} → Columns → ℕ → (ℕ → List A) → List A
 from_each c a f = gather 0 c.size (λ i. elim (eqb (left c i) a) [ true ↦ f (right c i) | false ↦ [] ])
 
--- may argument i of a message that the pattern at row q matches be w? Below a constructor, by document 01's may_match.
+-- may argument i of a message that the pattern at row q matches be w? Below a constructor, by document 01's may-match.
 unfoldable pub argument_fits : Program → Tables → ℕ → ℕ → ℕ → Bool
 argument_fits p t q i w =
     implies (eqb (tag p q) tag_pattern_constructor) (may_match p t (max_depth - 1) (subpattern p max_depth q i) w)

@@ -1,5 +1,5 @@
 -- Document 01, "The gate's refusals": the verdict, the words of the lent slice afterwards, the part handed on.
-use Rattle.std.specs.Prelude.{ℕ, ◌*◌, true, false, List, length, take, eqb}
+use Rattle.std.specs.Prelude.{ℕ, ◌*◌, true, false, List, length, take, eqb, Result, Ok, Err}
 use Rattle.std.proofs.Math.Option.{some, none}
 use Rattle.model.specs.declared.Sizes.{Sizes}
 use Rattle.model.specs.declared.Verdict.{Verdict}
@@ -91,6 +91,16 @@ check most bytes lent = parts_check most bytes >> message_check most (message by
 unfoldable pub answer : Check → Verdict
 answer none = Safe
 answer (some v) = v
+
+-- the same as the code hands it from check to check: nothing found, or the refusal
+unfoldable pub outcome : Check → Result Unit Verdict
+outcome none = Ok tt
+outcome (some v) = Err v
+
+-- what a result that carries a value tells of the check before it
+unfoldable pub judged : {A : Type 0} → Result A Verdict → Result Unit Verdict
+judged (Ok x) = Ok tt
+judged (Err v) = Err v
 
 -- the verdict of a gate of these limits on the bytes of a message, with so many words lent
 unfoldable pub verdict_within : Limits → List ℕ → ℕ → Verdict

@@ -25,6 +25,8 @@ pub struct Sizes {
 
 // The answer for a message: safe, or the refusal's word in document 01 with its position. specs/Verdict.antt gives
 // number and place.
+// Checks hand on `Result<(), Verdict>`. Safe stays a variant, since `number` and `place` of specs/Verdict give it
+// 0 and 0.
 #[derive(Clone, Copy)]
 pub enum Verdict {
     Safe,
@@ -108,6 +110,8 @@ const MAX_WEIGHT_WORDS: usize = 2 + 2 + 2 * MAX_WEIGHT_ENTRIES;
 
 // The tags of document 01, for the code: of program rows from 1, of bads from 40, of the listing from 50.
 // specs/Tags.antt has them for the definitions.
+// They stay numbers and no enum: a row may bear any number, and document 01 asks for a match on the row's tag by
+// ranges.
 pub const TAG_GIVE: usize = 1;
 
 pub const TAG_BUILD: usize = 2;

@@ -44,15 +44,13 @@ pub fn guess_class(ws: &[u16], s: Sizes, at: &mut [u16], i: usize)
         }
     }
     let mut last = s.rows;
-    let mut j = i;
-    while j < s.states {
+    for j in i..s.states {
         if state_class(ws, s, j) != c {
             return;
         }
         let r = state_location(ws, s, j);
         note(at, last, r, j);
         last = r;
-        j += 1;
     }
 }
 
@@ -68,7 +66,7 @@ pub fn onward(ws: &[u16], s: Sizes, at: &[u16], i: usize, r: usize) -> usize
     let b = state_return(ws, s, i);
     let there = guess(at, r) + i;
     let here = guess(at, state_location(ws, s, i));
-    let near = if here <= there { there - here } else { 0 };
+    let near = there.saturating_sub(here);
     state_near(ws, s, near, c, r, b)
 }
 

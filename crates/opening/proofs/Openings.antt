@@ -2,16 +2,16 @@
 use Prim.Native.Nat.{ℕ, zero, suc, ◌+◌, ◌-◌, ◌≤◌, ◌<◌}
 use native.Mathlib.Omega.{arith}
 use mathlib.Core.Path.{◌≡◌, refl, sym, ◌∙◌, ap}
-use mathlib.Core.Bool.{Bool, true, false, ◌&&◌, ◌||◌}
-use mathlib.Core.List.{List, [], ◌∷◌, ◌++◌}
+use mathlib.Core.Bool.{Bool, true, false, ◌&&◌}
+use mathlib.Core.List.{List, []}
 use mathlib.Core.Option.{some}
 use lib.ListN.{length, get_or, replicate}
-use lib.Dec.{eqb, ltb}
+use lib.Dec.{ltb}
 use borrow.Author.Tests.{eq-eqb, ne_eqb}
 use Rattle.model.specs.declared.Sizes.{Sizes}
 use Rattle.model.specs.Index.{implies, all}
 use Rattle.model.specs.Words.{columns}
-use Rattle.model.specs.Rows.{Program, program, size, tag, num, Item, constructor, global, expression, body_form_of, declarations, step}
+use Rattle.model.specs.Rows.{Program, program, tag, num, Item, constructor, global, body_form_of, declarations, step}
 use Rattle.model.specs.Heads.{is_function, body, start}
 use Rattle.model.specs.Tables.{Tables, tables, has, entries, state, state_index_of, has_state}
 use Rattle.model.specs.Closed.{start_state, is_opening_closed}
@@ -37,11 +37,12 @@ unfolding step
 constructor_one p t n more h = (fits_tag t 10 _ [] more h).1
 
 module _ {ws : List ℕ} {s : Sizes} (g : Ready ws s) where
-  pub globals_begin : GlobalsLeft (program ws s) s.functions s.constructors
+  pub globals_begin : GlobalsLeft (program ws s) (s.functions - 0) s.constructors
   unfolding declarations program
   globals_begin =
       let z : 0 + s.constructors ≡ s.constructors = omega arith in
-      record { spans = rw z at (single constructor (constructor_one (program ws s)) s.constructors 0 (start_stands (rows_fit g)).0.spans) }
+      let all : s.functions - 0 ≡ s.functions = omega arith in
+      record { spans = rw all (rw z at (single constructor (constructor_one (program ws s)) s.constructors 0 (start_stands (rows_fit g)).0.spans)) }
 
   pub globals_over : (n q : ℕ) → n ≤ 0 → GlobalsLeft (program ws s) n q → q ≡ start (program ws s)
   globals_over zero q l h = spans_unique (spans_none q) h.spans
@@ -59,17 +60,17 @@ module _ {ws : List ℕ} {s : Sizes} (g : Ready ws s) where
   pub global_inside : {afters : List ℕ} → Ends (program ws s) afters → (b n q : ℕ) → 0 < n → b ≡ body (program ws s) q → GlobalsLeft (program ws s) n q → b < length afters
   global_inside y b n q l e h = let z = (body_row (rows_fit g) (columns_whole g) q (global_here n q l h)).1 in omega (arith, y.room)
 
-  pub globals_next : {afters : List ℕ} → Ends (program ws s) afters → (b x n q : ℕ) → 0 < n → b ≡ body (program ws s) q → x ≡ get_or afters b 0 → GlobalsLeft (program ws s) n q → GlobalsLeft (program ws s) (n - 1) x
+  pub globals_next : {afters : List ℕ} → Ends (program ws s) afters → (b x n n' q : ℕ) → 0 < n → n' ≡ n - 1 → b ≡ body (program ws s) q → x ≡ get_or afters b 0 → GlobalsLeft (program ws s) n q → GlobalsLeft (program ws s) n' x
   unfolding step
-  globals_next y b x zero q l e f h = absurd (omega arith)
-  globals_next {afters} y b x (suc n) q l e found h =
+  globals_next y b x zero n' q l less e f h = absurd (omega arith)
+  globals_next {afters} y b x (suc n) n' q l less e found h =
       let f = spans_first h.spans in
       let same = (fits_tag (tag (program ws s) q) 11 _ body_form_of f.more f.says).1 in
       let (m, front, others) = spans_split body_form_of (rw (← same) at f.rest) in
       let here = global_here (suc n) q l h in
       let k = row_form (rows_fit g) q (function_within (columns_whole g) q here) here in
       let z : k.end ≡ m = spans_unique k.form.spans front in
-      let one : suc n - 1 ≡ n = omega arith in
+      let one : n' ≡ n = omega arith in
       let after : x ≡ m = found ∙ rw e (y.after_expression (body (program ws s) q) k.end (form_body k).1.spans.reads) ∙ z in
       rw (one, after) (record { spans = others })
 

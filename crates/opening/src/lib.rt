@@ -22,12 +22,10 @@ pub fn start(ws: &[u16], s: Sizes, afters: &[u16]) -> usize
     requires ends { Ends (program ws.now s) afters.now }
     ensures { result ≡ start (program ws.now s) }
 {
-    let mut left = s.functions;
     let mut q = s.constructors;
-    while left > 0 {
+    for _ in 0..s.functions {
         let first = body(ws, s, q);
         q = word(afters, first);
-        left -= 1;
     }
     q
 }
@@ -50,12 +48,10 @@ pub fn opening_closed(ws: &[u16], s: Sizes, afters: &[u16]) -> bool
     requires ends { Ends (program ws.now s) afters.now }
     ensures { result ≡ is_opening_closed (program ws.now s) (tables ws.now s) }
 {
-    let mut r = 0;
-    while r < s.rows {
+    for r in 0..s.rows {
         if !opening_row(ws, s, r) {
             return false;
         }
-        r += 1;
     }
     let first = start(ws, s, afters);
     state_index(ws, s, s.rows, first, s.rows) < s.states

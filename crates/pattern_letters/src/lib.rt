@@ -75,6 +75,7 @@ fn leave_argument(
     }
     let end = s.constructors + OTHER_HEADS;
     let mut from = 0;
+    // No `for`: of many heads the name has few, and `next_of_two` jumps from one that it has to the next.
     loop {
         let h = next_of_two(names, n, from, end);
         if h >= end {

@@ -1,19 +1,17 @@
 -- The positions of a message that is ready, from the numbers that the code reads.
 use Prim.Native.Nat.{ℕ, ◌+◌, ◌≤◌, ◌<◌}
 use native.Mathlib.Omega.{arith}
-use mathlib.Core.Path.{◌≡◌, refl, sym, ◌∙◌, ap}
+use mathlib.Core.Path.{◌≡◌, sym, ◌∙◌}
 use mathlib.Core.Bool.{true, false}
-use mathlib.Core.List.{List, []}
+use mathlib.Core.List.{List}
 use mathlib.Core.Logic.{◌⊎◌, inl, inr, ⊎_elim}
-use lib.ListN.{length, get_or}
 use lib.Dec.{eqb}
 use borrow.Author.Tests.{ne_eqb}
 use Rattle.model.specs.Limits.{max_rows}
 use Rattle.model.specs.declared.Sizes.{Sizes}
-use Rattle.model.specs.Words.{left, right, columns}
+use Rattle.model.specs.Words.{columns}
 use Rattle.model.specs.Rows.{Program, program, size, tag, num, is_head_of}
 use Rattle.model.specs.Heads.{is_function, body, takes}
-use Rattle.model.specs.Tables.{tables}
 use Rattle.model.proofs.Numbering.Counters.{tag_inside}
 use Rattle.model.proofs.Parse.Locations.{head_range}
 use Rattle.model.proofs.Parse.Lengths.{row_within, function_within}

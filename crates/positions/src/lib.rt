@@ -63,11 +63,9 @@ pub fn branch_row(ws: &[u16], s: Sizes, afters: &[u16], q: usize, j: usize) -> u
     ensures { result ≡ branch_row (program ws.now s) q j }
 {
     let mut row = q;
-    let mut left = j;
-    while left > 0 {
+    for _ in 0..j {
         let expression = branch_body(ws, s, afters, row);
         row = word(afters, expression);
-        left -= 1;
     }
     row
 }

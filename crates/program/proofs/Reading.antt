@@ -9,36 +9,40 @@ use mathlib.Core.Option.{Option, some, none, some-ne-none, map}
 use lib.ListN.{replicate}
 use lib.Dec.{leb}
 use borrow.Author.Tests.{eq-eqb, ne_eqb}
+use Rattle.std.proofs.Common.{Result, Ok, Err}
 use Rattle.model.specs.declared.Sizes.{Sizes}
-use Rattle.model.specs.declared.Verdict.TheVariants.{Safe, Row}
-use Rattle.model.specs.Verify.{answer}
+use Rattle.model.specs.declared.Verdict.TheVariants.{Row}
+use Rattle.model.specs.Verify.{outcome}
 use Rattle.model.specs.Limits.{max_depth}
 use Rattle.model.specs.Words.{left, right, columns}
 use Rattle.model.specs.Reader.{Read, past, wrong, fits, read, complete, first_wrong_of}
 use Rattle.model.specs.Rows.{Program, program, size, tag, num, kind, Item, constructor, global, header, parameter, expression, made, operand, arguments, branches, pattern, branch, branch_items, whole, row_check_of, step, expression_step, pattern_step}
 use Rattle.model.proofs.Logic.{test}
 use Rattle.model.proofs.Reader.{read_none, read_end, read_stop, read_go, read_range, read_takes, read_wrong_range, read_append, read_append_wrong}
-use Rattle.program.specs.declared.readers.Next.{Next}
-use Rattle.program.specs.declared.readers.Next.TheVariants.{Past, Wrong}
+use Rattle.program.specs.declared.readers.WrongRow.{WrongRow}
 use Rattle.program.specs.Rows.{reading, from}
 use Rattle.program.proofs.Columns.{part_past}
 
 -- what an answer says, both ways
-pub past_answer : {y : Read} (q : ℕ) → y ≡ past q → reading (Past q) ≡ y
+pub past_answer : {y : Read} (q : ℕ) → y ≡ past q → reading (Ok q) ≡ y
 unfolding reading
 past_answer q e = sym e
 
-pub wrong_answer : {y : Read} (q : ℕ) → y ≡ wrong q → reading (Wrong q) ≡ y
+pub wrong_answer : {y : Read} (w : WrongRow) → y ≡ wrong w.0 → reading (Err w) ≡ y
 unfolding reading
-wrong_answer q e = sym e
+wrong_answer w e = sym e
 
-pub came_past : {y : Read} (x : Next) (q : ℕ) → reading x ≡ y → x ≡ Past q → y ≡ past q
+pub came_past : {y : Read} (x : Result ℕ WrongRow) (q : ℕ) → reading x ≡ y → x ≡ Ok q → y ≡ past q
 unfolding reading
 came_past x q h e = sym h ∙ ap reading e
 
-pub came_wrong : {y : Read} (x : Next) (q : ℕ) → reading x ≡ y → x ≡ Wrong q → y ≡ wrong q
+pub came_wrong : {y : Read} (x : Result ℕ WrongRow) (w : WrongRow) → reading x ≡ y → x ≡ Err w → y ≡ wrong w.0
 unfolding reading
-came_wrong x q h e = sym h ∙ ap reading e
+came_wrong x w h e = sym h ∙ ap reading e
+
+-- a row that a `?` hands on
+pub handed_on : {y : Read} (x : Result ℕ WrongRow) (w : WrongRow) → x ≡ Err w → y ≡ wrong w.0 → reading x ≡ y
+handed_on x w h e = ap reading h ∙ wrong_answer w e
 
 -- by a test that the code has made
 pub yes_fits : {b : Bool} (more : List Item) → b ≡ true → fits b more ≡ some more
@@ -109,9 +113,8 @@ module _ (p : Program) where
   from_append_wrong xs ys r q h = read_append_wrong (step p) p.rows (size p - r) r q xs ys h
 
   -- a list of items of one kind, by its first
-  pub replicate_past : (item : Item) (n r q : ℕ) → 0 < n → from p (item ∷ []) r ≡ past q → from p (replicate n item) r ≡ from p (replicate (n - 1) item) q
-  replicate_past item zero r q h e = absurd (omega arith)
-  replicate_past item (suc n) r q h e = let z : suc n - 1 ≡ n = omega arith in rw z (from_append (item ∷ []) (replicate n item) r q e)
+  pub replicate_past : (item : Item) (n m r q : ℕ) → n ≡ suc m → from p (item ∷ []) r ≡ past q → from p (replicate n item) r ≡ from p (replicate m item) q
+  replicate_past item n m r q h e = rw h (from_append (item ∷ []) (replicate m item) r q e)
 
   pub replicate_wrong : (item : Item) (n r q : ℕ) → 0 < n → from p (item ∷ []) r ≡ wrong q → from p (replicate n item) r ≡ wrong q
   replicate_wrong item zero r q h e = absurd (omega arith)
@@ -126,23 +129,22 @@ module _ (p : Program) where
   replicate_by item n m r e = ap (λ k. from p (replicate k item) r) e
 
   -- branches, by the first
-  branches_first : (n r : ℕ) → 0 < n → from p (branch_items n) r ≡ from p (branch ++ branch_items (n - 1)) r
+  branches_first : (n m r : ℕ) → n ≡ suc m → from p (branch_items n) r ≡ from p (branch ++ branch_items m) r
   unfolding branch_items
-  branches_first zero r h = absurd (omega arith)
-  branches_first (suc n) r h = let z : suc n - 1 ≡ n = omega arith in rw z refl
+  branches_first n m r h = rw h refl
 
-  pub branches_past : (n r m q : ℕ) → 0 < n → from p (pattern max_depth ∷ []) r ≡ past m → from p (expression ∷ []) m ≡ past q → from p (branch_items n) r ≡ from p (branch_items (n - 1)) q
-  branches_past n r m q h e f =
-      branches_first n r h ∙
-      (from_append (pattern max_depth ∷ []) (expression ∷ branch_items (n - 1)) r m e ∙ from_append (expression ∷ []) (branch_items (n - 1)) m q f)
+  pub branches_past : (n m r e q : ℕ) → n ≡ suc m → from p (pattern max_depth ∷ []) r ≡ past e → from p (expression ∷ []) e ≡ past q → from p (branch_items n) r ≡ from p (branch_items m) q
+  branches_past n m r e q h f g =
+      branches_first n m r h ∙
+      (from_append (pattern max_depth ∷ []) (expression ∷ branch_items m) r e f ∙ from_append (expression ∷ []) (branch_items m) e q g)
 
-  pub branches_no_pattern : (n r q : ℕ) → 0 < n → from p (pattern max_depth ∷ []) r ≡ wrong q → from p (branch_items n) r ≡ wrong q
-  branches_no_pattern n r q h e = branches_first n r h ∙ from_append_wrong (pattern max_depth ∷ []) (expression ∷ branch_items (n - 1)) r q e
+  pub branches_no_pattern : (n m r q : ℕ) → n ≡ suc m → from p (pattern max_depth ∷ []) r ≡ wrong q → from p (branch_items n) r ≡ wrong q
+  branches_no_pattern n m r q h f = branches_first n m r h ∙ from_append_wrong (pattern max_depth ∷ []) (expression ∷ branch_items m) r q f
 
-  pub branches_no_body : (n r m q : ℕ) → 0 < n → from p (pattern max_depth ∷ []) r ≡ past m → from p (expression ∷ []) m ≡ wrong q → from p (branch_items n) r ≡ wrong q
-  branches_no_body n r m q h e f =
-      branches_first n r h ∙
-      (from_append (pattern max_depth ∷ []) (expression ∷ branch_items (n - 1)) r m e ∙ from_append_wrong (expression ∷ []) (branch_items (n - 1)) m q f)
+  pub branches_no_body : (n m r e q : ℕ) → n ≡ suc m → from p (pattern max_depth ∷ []) r ≡ past e → from p (expression ∷ []) e ≡ wrong q → from p (branch_items n) r ≡ wrong q
+  branches_no_body n m r e q h f g =
+      branches_first n m r h ∙
+      (from_append (pattern max_depth ∷ []) (expression ∷ branch_items m) r e f ∙ from_append_wrong (expression ∷ []) (branch_items m) e q g)
 
   pub branches_none : (n r : ℕ) → n ≤ 0 → from p (branch_items n) r ≡ past r
   unfolding branch_items
@@ -154,11 +156,11 @@ module _ (p : Program) where
   items_by r e = ap (λ l. from p l r) e
 
   -- a reader's answer, and the items behind it
-  pub then_past : (xs ys : List Item) (x : Next) (r q : ℕ) → reading x ≡ from p xs r → x ≡ Past q → from p (xs ++ ys) r ≡ from p ys q
+  pub then_past : (xs ys : List Item) (x : Result ℕ WrongRow) (r q : ℕ) → reading x ≡ from p xs r → x ≡ Ok q → from p (xs ++ ys) r ≡ from p ys q
   then_past xs ys x r q h e = from_append xs ys r q (came_past x q h e)
 
-  pub then_wrong : (xs ys : List Item) (x : Next) (r q : ℕ) → reading x ≡ from p xs r → x ≡ Wrong q → reading (Wrong q) ≡ from p (xs ++ ys) r
-  then_wrong xs ys x r q h e = wrong_answer q (from_append_wrong xs ys r q (came_wrong x q h e))
+  pub then_wrong : (xs ys : List Item) (x : Result ℕ WrongRow) (r : ℕ) (w : WrongRow) → reading x ≡ from p xs r → x ≡ Err w → from p (xs ++ ys) r ≡ wrong w.0
+  then_wrong xs ys x r w h e = from_append_wrong xs ys r w.0 (came_wrong x w h e)
 
 -- the program of a message: a row that an item takes is there
 module _ (ws : List ℕ) (s : Sizes) where
@@ -206,51 +208,51 @@ module _ (ws : List ℕ) (s : Sizes) where
       let w = there item more r k in
       (w, from_go (program ws s) item [] more r w k ∙ ap (λ l. from (program ws s) l (r + 1)) (append-nil more))
 
-  pub last_row : (item : Item) (r t n : ℕ) → t ≡ tag (program ws s) r → n ≡ num (program ws s) r → step (program ws s) item t n ≡ some [] → reading (Past (r + 1)) ≡ from (program ws s) (item ∷ []) r
+  pub last_row : (item : Item) (r t n : ℕ) → t ≡ tag (program ws s) r → n ≡ num (program ws s) r → step (program ws s) item t n ≡ some [] → reading (Ok (r + 1)) ≡ from (program ws s) (item ∷ []) r
   last_row item r t n e f h = past_answer (r + 1) ((takes_row item [] r t n e f h).1 ∙ from_none (program ws s) (r + 1))
 
-  pub refuses_row : (item : Item) (r t n : ℕ) → t ≡ tag (program ws s) r → n ≡ num (program ws s) r → step (program ws s) item t n ≡ none → reading (Wrong r) ≡ from (program ws s) (item ∷ []) r
-  refuses_row item r t n e f h = wrong_answer r (from_stop (program ws s) item [] r (ap₂ (step (program ws s) item) (sym e) (sym f) ∙ h))
+  pub refuses_row : (item : Item) (r t n : ℕ) → t ≡ tag (program ws s) r → n ≡ num (program ws s) r → step (program ws s) item t n ≡ none → reading (Err record { 0 = r }) ≡ from (program ws s) (item ∷ []) r
+  refuses_row item r t n e f h = wrong_answer record { 0 = r } (from_stop (program ws s) item [] r (ap₂ (step (program ws s) item) (sym e) (sym f) ∙ h))
 
   -- an item of one row
   pub one_row : (item : Item) {b c : Bool} (r : ℕ) → says item r ≡ fits c [] → b ≡ c → b ≡ true → (r < s.rows) × (from (program ws s) (item ∷ []) r ≡ past (r + 1))
   one_row item {b} {c} r h e t = let (w, k) = go item [] {b = b} {c = c} r h e t in (w, k ∙ from_none (program ws s) (r + 1))
 
   -- a list of such items, by the test of its first row
-  pub rows_turn : (item : Item) {b c : Bool} (n r : ℕ) → 0 < n → says item r ≡ fits c [] → b ≡ c → b ≡ true → (r < s.rows) × (from (program ws s) (replicate n item) r ≡ from (program ws s) (replicate (n - 1) item) (r + 1))
-  rows_turn item {b} {c} n r a h e t =
+  pub rows_turn : (item : Item) {b c : Bool} (n m r : ℕ) → n ≡ suc m → says item r ≡ fits c [] → b ≡ c → b ≡ true → (r < s.rows) × (from (program ws s) (replicate n item) r ≡ from (program ws s) (replicate m item) (r + 1))
+  rows_turn item {b} {c} n m r a h e t =
       let (w, k) = one_row item {b = b} {c = c} r h e t in
-      (w, replicate_past (program ws s) item n r (r + 1) a k)
+      (w, replicate_past (program ws s) item n m r (r + 1) a k)
 
   pub rows_halt : (item : Item) {b c : Bool} (n r : ℕ) → 0 < n → says item r ≡ fits c [] → b ≡ c → b ≡ false → from (program ws s) (replicate n item) r ≡ wrong r
   rows_halt item {b} {c} n r a h e t = replicate_wrong (program ws s) item n r r a (stop item [] {b = b} {c = c} r h e t)
 
   -- where a reader's answer lies
-  pub past_upto : (xs : List Item) (x : Next) (r q : ℕ) → r ≤ s.rows → reading x ≡ from (program ws s) xs r → x ≡ Past q → (r ≤ q) × (q ≤ s.rows)
+  pub past_upto : (xs : List Item) (x : Result ℕ WrongRow) (r q : ℕ) → r ≤ s.rows → reading x ≡ from (program ws s) xs r → x ≡ Ok q → (r ≤ q) × (q ≤ s.rows)
   unfolding program columns
   past_upto xs x r q a h e = from_range (program ws s) xs r q a (came_past x q h e)
 
-  pub past_behind : (item : Item) (xs : List Item) (x : Next) (r q : ℕ) → r ≤ s.rows → reading x ≡ from (program ws s) (item ∷ xs) r → x ≡ Past q → (r < q) × (q ≤ s.rows)
+  pub past_behind : (item : Item) (xs : List Item) (x : Result ℕ WrongRow) (r q : ℕ) → r ≤ s.rows → reading x ≡ from (program ws s) (item ∷ xs) r → x ≡ Ok q → (r < q) × (q ≤ s.rows)
   unfolding program columns
   past_behind item xs x r q a h e = from_takes (program ws s) item xs r q a (came_past x q h e)
 
-  pub wrong_upto : (xs : List Item) (x : Next) (r q : ℕ) → r ≤ s.rows → reading x ≡ from (program ws s) xs r → x ≡ Wrong q → (r ≤ q) × (q ≤ s.rows)
+  pub wrong_upto : (xs : List Item) (x : Result ℕ WrongRow) (r : ℕ) (w : WrongRow) → r ≤ s.rows → reading x ≡ from (program ws s) xs r → x ≡ Err w → (r ≤ w.0) × (w.0 ≤ s.rows)
   unfolding program columns
-  wrong_upto xs x r q a h e = from_wrong_range (program ws s) xs r q a (came_wrong x q h e)
+  wrong_upto xs x r w a h e = from_wrong_range (program ws s) xs r w.0 a (came_wrong x w h e)
 
   -- refusal 3, by the reading of the whole program
   checked : (y : Read) → from (program ws s) (whole (program ws s)) 0 ≡ y → row_check_of (program ws s) ≡ map (λ r. Row (4 + r)) (complete s.rows y)
   unfolding from program columns row_check_of first_wrong_of
   checked y h = let z : s.rows - 0 ≡ s.rows = omega arith in ap (λ x. map (λ r. Row (4 + r)) (complete s.rows x)) ((rw z at h))
 
-  pub rows_pass : (x : Next) (r : ℕ) → reading x ≡ from (program ws s) (whole (program ws s)) 0 → x ≡ Past r → r ≡ s.rows → Safe ≡ answer (row_check_of (program ws s))
-  unfolding complete answer
-  rows_pass x r h e f = sym (ap answer (checked (past r) (came_past x r h e)) ∙ rw (eq-eqb r s.rows f, complete))
+  pub rows_pass : (x : Result ℕ WrongRow) (r : ℕ) → reading x ≡ from (program ws s) (whole (program ws s)) 0 → x ≡ Ok r → r ≡ s.rows → Ok tt ≡ outcome (row_check_of (program ws s))
+  unfolding complete outcome
+  rows_pass x r h e f = sym (ap outcome (checked (past r) (came_past x r h e)) ∙ rw (eq-eqb r s.rows f, complete))
 
-  pub rows_left : (x : Next) (r : ℕ) → reading x ≡ from (program ws s) (whole (program ws s)) 0 → x ≡ Past r → (r ≡ s.rows → ⊥) → Row (4 + r) ≡ answer (row_check_of (program ws s))
-  unfolding complete answer
-  rows_left x r h e f = sym (ap answer (checked (past r) (came_past x r h e)) ∙ rw (ne_eqb r s.rows f, complete))
+  pub rows_left : (x : Result ℕ WrongRow) (r : ℕ) → reading x ≡ from (program ws s) (whole (program ws s)) 0 → x ≡ Ok r → (r ≡ s.rows → ⊥) → Err (Row (4 + r)) ≡ outcome (row_check_of (program ws s))
+  unfolding complete outcome
+  rows_left x r h e f = sym (ap outcome (checked (past r) (came_past x r h e)) ∙ rw (ne_eqb r s.rows f, complete))
 
-  pub row_wrong : (x : Next) (r : ℕ) → reading x ≡ from (program ws s) (whole (program ws s)) 0 → x ≡ Wrong r → Row (4 + r) ≡ answer (row_check_of (program ws s))
-  unfolding complete answer
-  row_wrong x r h e = sym (ap answer (checked (wrong r) (came_wrong x r h e)))
+  pub row_wrong : (x : Result ℕ WrongRow) (w : WrongRow) → reading x ≡ from (program ws s) (whole (program ws s)) 0 → x ≡ Err w → Err (Row (4 + w.0)) ≡ outcome (row_check_of (program ws s))
+  unfolding complete outcome
+  row_wrong x w h e = sym (ap outcome (checked (wrong w.0) (came_wrong x w h e)))

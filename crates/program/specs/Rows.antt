@@ -1,13 +1,12 @@
 -- What the readers of a program's rows promise: the model's reading from a row on, over the words of a message whose
 -- parts are whole.
-use Rattle.std.specs.Prelude.{ℕ, ◌+◌, ◌*◌, ◌-◌, ◌≤◌, ◌≡◌, Bool, true, false, ◌||◌, List, length, eqb}
+use Rattle.std.specs.Prelude.{ℕ, ◌+◌, ◌*◌, ◌-◌, ◌≤◌, ◌≡◌, Bool, true, false, ◌||◌, List, length, eqb, Result, Ok, Err}
 use Rattle.std.proofs.Math.Option.{none}
 use Rattle.model.specs.declared.Sizes.{Sizes}
 use Rattle.model.specs.Limits.{max_rows, max_names, max_constructors, max_functions}
 use Rattle.model.specs.Reader.{Read, past, wrong, read}
 use Rattle.model.specs.Rows.{Program, program, size, row_check_of, Item, parameter, operand, header, arguments, step}
-use Rattle.program.specs.declared.readers.Next.{Next}
-use Rattle.program.specs.declared.readers.Next.TheVariants.{Past, Wrong}
+use Rattle.program.specs.declared.readers.WrongRow.{WrongRow}
 
 -- the program's part is whole, and its sizes are within their limits
 pub record Whole (ws : List ℕ) (s : Sizes) : Type 0 where
@@ -23,9 +22,9 @@ pub record Fitted (ws : List ℕ) (s : Sizes) : Type 0 where
   pub fits : row_check_of (program ws s) ≡ none
 
 -- what an answer of a reader says
-unfoldable pub reading : Next → Read
-reading (Past r) = past r
-reading (Wrong r) = wrong r
+unfoldable pub reading : Result ℕ WrongRow → Read
+reading (Ok r) = past r
+reading (Err w) = wrong w.0
 
 -- the items read from row r on
 unfoldable pub from : Program → List Item → ℕ → Read

@@ -9,69 +9,61 @@ use model::{
     TAG_PATTERN_CONSTRUCTOR, TAG_PATTERN_HELD, TAG_PATTERN_NAME,
 };
 
-// What a reader finds: the row past what it read, or the first row that does not fit.
-#[derive(Clone, Copy)]
-pub enum Next {
-    Past(usize),
-    Wrong(usize),
-}
+// The first row that does not fit. A reader gives it, or the row past what it read.
+#[derive(Clone, Copy, Debug, PartialEq, Eq)]
+pub struct WrongRow(pub usize);
 
 // The rows (10, arity) of the constructors.
-pub fn constructors(ws: &[u16], s: Sizes) -> Next
+pub fn constructors(ws: &[u16], s: Sizes) -> Result<usize, WrongRow>
     requires { Whole ws.now s }
     ensures { reading result ≡ from (program ws.now s) (replicate s.constructors constructor) 0 }
 {
-    let mut left = s.constructors;
-    let mut r = 0;
-    while left > 0 {
+    for r in 0..s.constructors {
         if !is_small_row(ws, s, r, TAG_CONSTRUCTOR) {
-            return Next::Wrong(r);
+            return Err(WrongRow(r));
         }
-        r += 1;
-        left -= 1;
     }
-    Next::Past(r)
+    Ok(s.constructors)
 }
 
 // n rows with the tag t and a name each.
-pub fn names(ws: &[u16], s: Sizes, r: usize, n: usize, t: usize) -> Next
+pub fn names(ws: &[u16], s: Sizes, r: usize, n: usize, t: usize) -> Result<usize, WrongRow>
     requires whole { Whole ws.now s }
     requires r_le_rows { (r ≤ s.rows) × (listed t ≡ true) }
     ensures { reading result ≡ from (program ws.now s) (replicate n (listed_item t)) r }
 {
-    let mut left = n;
+    // The contract bounds no n, so r + n may be no number, and r..r + n no range.
     let mut q = r;
-    while left > 0 {
+    for _ in 0..n {
         if !is_row(ws, s, q, t, s.names) {
-            return Next::Wrong(q);
+            return Err(WrongRow(q));
         }
         q += 1;
-        left -= 1;
     }
-    Next::Past(q)
+    Ok(q)
 }
 
 // (22, count), and that many rows with the tag t and a name each.
-pub fn counted(ws: &[u16], s: Sizes, r: usize, t: usize) -> Next
+pub fn counted(ws: &[u16], s: Sizes, r: usize, t: usize) -> Result<usize, WrongRow>
     requires whole { Whole ws.now s }
     requires r_le_rows { (r ≤ s.rows) × (listed t ≡ true) }
     ensures { reading result ≡ from (program ws.now s) (counted_items t ∷ []) r }
 {
     if !is_small_row(ws, s, r, TAG_COUNT) {
-        return Next::Wrong(r);
+        return Err(WrongRow(r));
     }
     let n = num(ws, s, r);
     names(ws, s, r + 1, n, t)
 }
 
 // (20, constructor), and its arity of rows (21, name read).
-pub fn made(ws: &[u16], s: Sizes, r: usize) -> Next
+pub fn made(ws: &[u16], s: Sizes, r: usize) -> Result<usize, WrongRow>
     requires whole { Whole ws.now s }
     requires r_le_rows { r ≤ s.rows }
     ensures { reading result ≡ from (program ws.now s) (made ∷ []) r }
 {
     if !is_row(ws, s, r, TAG_MADE, s.constructors) {
-        return Next::Wrong(r);
+        return Err(WrongRow(r));
     }
     let k = num(ws, s, r);
     let n = num(ws, s, k);
@@ -79,64 +71,53 @@ pub fn made(ws: &[u16], s: Sizes, r: usize) -> Next
 }
 
 // (21, function name), (22, count) and that many (21, name read): what follows the head of a call.
-pub fn call_parts(ws: &[u16], s: Sizes, r: usize) -> Next
+pub fn call_parts(ws: &[u16], s: Sizes, r: usize) -> Result<usize, WrongRow>
     requires whole { Whole ws.now s }
     requires r_le_rows { r ≤ s.rows }
     ensures { reading result ≡ from (program ws.now s) (operand ∷ arguments ∷ []) r }
 {
-    match names(ws, s, r, 1, TAG_OPERAND) {
-        Next::Past(q) => counted(ws, s, q, TAG_OPERAND),
-        Next::Wrong(q) => Next::Wrong(q),
-    }
+    let count = names(ws, s, r, 1, TAG_OPERAND)?;
+    counted(ws, s, count, TAG_OPERAND)
 }
 
 // A pattern that may be d levels deep.
 #[cycle(pattern_patterns)]
-pub fn pattern(ws: &[u16], s: Sizes, r: usize, d: usize) -> Next
+pub fn pattern(ws: &[u16], s: Sizes, r: usize, d: usize) -> Result<usize, WrongRow>
     requires whole { Whole ws.now s }
     requires r_le_rows { r ≤ s.rows }
     ensures { reading result ≡ from (program ws.now s) (pattern d ∷ []) r }
 {
     if d == 0 {
-        return Next::Wrong(r);
+        return Err(WrongRow(r));
     }
     let n = num(ws, s, r);
     let next = r + 1;
     match tag(ws, s, r) {
         TAG_PATTERN_NAME | TAG_PATTERN_HELD => if n < s.names {
-            Next::Past(next)
+            Ok(next)
         } else {
-            Next::Wrong(r)
+            Err(WrongRow(r))
         },
         TAG_PATTERN_CONSTRUCTOR => if n < s.constructors {
             patterns(ws, s, next, num(ws, s, n), d - 1)
         } else {
-            Next::Wrong(r)
+            Err(WrongRow(r))
         },
-        TAG_PATTERN_ANY => if n == 0 {
-            Next::Past(next)
-        } else {
-            Next::Wrong(r)
-        },
-        _ => Next::Wrong(r),
+        TAG_PATTERN_ANY => if n == 0 { Ok(next) } else { Err(WrongRow(r)) },
+        _ => Err(WrongRow(r)),
     }
 }
 
 // n patterns that may be d levels deep each.
 #[cycle(pattern_patterns)]
-fn patterns(ws: &[u16], s: Sizes, r: usize, n: usize, d: usize) -> Next
+fn patterns(ws: &[u16], s: Sizes, r: usize, n: usize, d: usize) -> Result<usize, WrongRow>
     requires whole { Whole ws.now s }
     requires r_le_rows { r ≤ s.rows }
     ensures { reading result ≡ from (program ws.now s) (replicate n (pattern d)) r }
 {
-    let mut left = n;
     let mut q = r;
-    while left > 0 {
-        q = match pattern(ws, s, q, d) {
-            Next::Past(e) => e,
-            Next::Wrong(e) => return Next::Wrong(e),
-        };
-        left -= 1;
+    for _ in 0..n {
+        q = pattern(ws, s, q, d)?;
     }
-    Next::Past(q)
+    Ok(q)
 }

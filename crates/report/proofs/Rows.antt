@@ -2,9 +2,9 @@
 use Prim.Native.Nat.{ℕ, zero, suc, ◌+◌, ◌*◌, ◌≤◌, ◌<◌}
 use native.Mathlib.Omega.{arith}
 use native.Mathlib.Numerals.{add-one}
-use mathlib.Core.Path.{◌≡◌, refl, sym, ◌∙◌, ap}
+use mathlib.Core.Path.{◌≡◌, sym, ◌∙◌}
 use mathlib.Core.List.{List, [], ◌∷◌, ◌++◌}
-use lib.ListN.{length, get_or, take, drop, length-append}
+use lib.ListN.{length, get_or, drop, length-append}
 use lib.Seq.{get_or-take, get_or-drop}
 use Rattle.model.specs.Words.{left, right, columns}
 use Rattle.model.specs.Listing.{listed_rows}
@@ -93,10 +93,7 @@ system_most ws =
     let x = sizes_most ws in
     omega arith
 
--- two words, and a row, by the code's values
-pub pair_words : (at end a b x y : ℕ) (out₀ out : List ℕ) → a ≡ x → b ≡ y → Put at (pair a b) end out₀ out → Put at (pair x y) end out₀ out
-pair_words at end a b x y out₀ out e f p = rw (← e, ← f) p
-
+-- a row, by the code's values
 module _ (ws : List ℕ) (rows r : ℕ) (count : rows ≡ get_or ws 3 0) (below : r < rows) where
   pub row_put : (at end t n : ℕ) (out₀ out : List ℕ) → t ≡ get_or ws (4 + r) 0 → n ≡ get_or ws (4 + rows + r) 0 → Put at (line t n) end out₀ out → Put at (row_text ws r) end out₀ out
   row_put at end t n out₀ out e f p = rw (row_words ws rows r count below t n e f) at p

@@ -1,6 +1,6 @@
 -- A system as text, in the words of document 01, "Station A": "the four system sizes, then a tag and number a line."
 use Rattle.std.specs.Prelude.{ℕ, zero, suc, List, [], ◌∷◌, ◌++◌, get_or}
-use Rattle.model.specs.Words.{Columns, left, right}
+use Rattle.model.specs.Words.{left, right}
 use Rattle.model.specs.Listing.{listed_rows}
 use Rattle.text.specs.Text.{pair, line_end, line}
 

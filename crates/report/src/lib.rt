@@ -1,4 +1,5 @@
 // A system as text, put into a lent slice from a position on. Each function gives the position behind what it put.
+// The slice and the position are no struct: put_system, which is public, keeps both, and `text` says why it has none.
 #![tactic(auto)]
 
 ghost use Rattle.std.specs.Prelude.{◌≡◌, ◌+◌, ◌*◌, ◌≤◌, ◌<◌, length, get_or};
@@ -7,19 +8,12 @@ ghost use Rattle.report.specs.System.{sizes_text, row_text, rows_text, system_te
 
 use text::{put_byte, put_end, put_line, put_pair};
 
-// A word as a number.
-fn wide(word: u32) -> u64
-    ensures { result ≡ word }
-{
-    word as u64
-}
-
 // Word i of the words as a number.
 fn word(ws: &[u32], i: usize) -> u64
     requires { i < length ws.now }
     ensures { result ≡ get_or ws.now i 0 }
 {
-    wide(ws[i])
+    ws[i] as u64
 }
 
 // Word i of the words and the next.
@@ -36,6 +30,7 @@ fn put_two(out: &mut [u8], at: usize, ws: &[u32], i: usize) -> usize
 }
 
 // The four sizes of a system on a line.
+#[tactic(auto, using(text::proofs::Digits::pair_most))]
 fn put_sizes(out: &mut [u8], at: usize, ws: &[u32]) -> usize
     requires at_in_bounds { at + 84 ≤ length out.old }
     requires in_bounds { 4 ≤ length ws.now }
@@ -62,6 +57,7 @@ fn put_row(out: &mut [u8], at: usize, ws: &[u32], rows: usize, r: usize) -> usiz
 }
 
 // The rows of a system.
+#[tactic(auto, using(crate::proofs::Rows::rows_most))]
 fn put_rows(out: &mut [u8], at: usize, ws: &[u32], rows: usize) -> usize
     requires rows_in_bounds { at + 42 * rows ≤ length out.old }
     requires rows_value { (rows ≡ get_or ws.now 3 0) × (4 + 2 * rows ≤ length ws.now) }
@@ -76,6 +72,7 @@ fn put_rows(out: &mut [u8], at: usize, ws: &[u32], rows: usize) -> usize
 }
 
 // A system: its sizes and its rows.
+#[tactic(auto, using(crate::proofs::Rows::sizes_most))]
 pub fn put_system(out: &mut [u8], at: usize, ws: &[u32]) -> usize
     requires ws_in_bounds { at + 84 + 42 * get_or ws.now 3 0 ≤ length out.old }
     requires ws_in_bounds_2 { 4 + 2 * get_or ws.now 3 0 ≤ length ws.now }

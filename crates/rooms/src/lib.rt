@@ -13,107 +13,50 @@ use model::{
 };
 
 // specs/Rooms.antt says what each of these is for.
-const ROW_ROOM: usize = MAX_ROWS + 2;
+pub const ROW_ROOM: usize = MAX_ROWS + 2;
 
 const RULE_WORDS: usize = 4 * ROW_ROOM;
 
 const SET_WORDS: usize = MAX_ROWS / 64 + 1;
 
-const NAME_SETS: usize = (MAX_NAMES + 1) * SET_WORDS;
+pub const NAME_SETS: usize = (MAX_NAMES + 1) * SET_WORDS;
 
-const ROW_SETS: usize = MAX_ROWS * SET_WORDS;
+pub const ROW_SETS: usize = MAX_ROWS * SET_WORDS;
 
-const FITTING_SETS: usize = MAX_ROWS * (MAX_NAMES / 64 + 1);
+pub const FITTING_SETS: usize = MAX_ROWS * (MAX_NAMES / 64 + 1);
 
 const LETTER_CODES: usize = MAX_COUNTERS + 1;
 
 const LETTER_WORDS: usize = MAX_COUNTERS / 64 + 1;
 
-const LETTER_SETS: usize = ((MAX_ARITY + 1) * (MAX_CONSTRUCTORS + OTHER_HEADS) + MAX_MAILS)
+pub const LETTER_SETS: usize = ((MAX_ARITY + 1) * (MAX_CONSTRUCTORS + OTHER_HEADS) + MAX_MAILS)
     * LETTER_WORDS;
 
-const MASK_PAIRS: usize = MAX_COUNTERS * 8;
+pub const MASK_PAIRS: usize = MAX_COUNTERS * 8;
 
-const MASK_TRIPLES: usize = MAX_COUNTERS * 12;
+pub const MASK_TRIPLES: usize = MAX_COUNTERS * 12;
 
-const LIMIT_ROOM: usize = MAX_COUNTERS * MAX_CEILINGS;
+pub const LIMIT_ROOM: usize = MAX_COUNTERS * MAX_CEILINGS;
 
-pub fn words16_66() -> [u16; 66]
-    ensures { Cleared 66 result }
+// So many words of 16 bits.
+pub fn words16<const N: usize>() -> [u16; N]
+    ensures { Cleared N result }
 {
-    [0; 66]
+    [0; N]
 }
 
-pub fn words16_258() -> [u16; 258]
-    ensures { Cleared 258 result }
+// So many words of 32 bits.
+pub fn words32<const N: usize>() -> [u32; N]
+    ensures { Cleared N result }
 {
-    [0; 258]
+    [0; N]
 }
 
-pub fn words16_512() -> [u16; 512]
-    ensures { Cleared 512 result }
+// So many words of 64 bits.
+pub fn words64<const N: usize>() -> [u64; N]
+    ensures { Cleared N result }
 {
-    [0; 512]
-}
-
-pub fn words16_2048() -> [u16; 2048]
-    ensures { Cleared 2048 result }
-{
-    [0; 2048]
-}
-
-pub fn words16_16384() -> [u16; 16384]
-    ensures { Cleared 16384 result }
-{
-    [0; 16384]
-}
-
-pub fn words32_66() -> [u32; 66]
-    ensures { Cleared 66 result }
-{
-    [0; 66]
-}
-
-pub fn words32_258() -> [u32; 258]
-    ensures { Cleared 258 result }
-{
-    [0; 258]
-}
-
-pub fn words64_130() -> [u64; 130]
-    ensures { Cleared 130 result }
-{
-    [0; 130]
-}
-
-pub fn words64_256() -> [u64; 256]
-    ensures { Cleared 256 result }
-{
-    [0; 256]
-}
-
-pub fn words64_384() -> [u64; 384]
-    ensures { Cleared 384 result }
-{
-    [0; 384]
-}
-
-pub fn words64_1024() -> [u64; 1024]
-    ensures { Cleared 1024 result }
-{
-    [0; 1024]
-}
-
-pub fn words64_1285() -> [u64; 1285]
-    ensures { Cleared 1285 result }
-{
-    [0; 1285]
-}
-
-pub fn words64_1536() -> [u64; 1536]
-    ensures { Cleared 1536 result }
-{
-    [0; 1536]
+    [0; N]
 }
 
 // A word for each row, and two behind them.

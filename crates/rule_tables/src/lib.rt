@@ -15,30 +15,26 @@ ghost use Rattle.rules.specs.Within.{AskedLetters, RulesWithin};
 ghost use Rattle.rule_tables.specs.Joined.{letter_from, JoinedTables, Joined};
 
 use matching_names::name_width;
-use model::{MAX_ROWS, Sizes};
+use model::Sizes;
+use rooms::ROW_ROOM;
 use state_rules::{rules_within, state_rules};
 
-// Each table has room for a word for each row, and for two behind them.
-const ROOM: usize = MAX_ROWS + 2;
-
-// At the front stands where expressions and patterns end; from here on where the flow of each name begins.
-pub const FLOW_AT: usize = ROOM;
+// Each table has as many words as `rooms` gives for the rows. At the front stands where expressions and patterns end;
+// from here on where the flow of each name begins.
+pub const FLOW_AT: usize = ROW_ROOM;
 
 // From here on stand the branches of each state that may match.
-pub const BRANCHES: usize = 2 * ROOM;
+pub const BRANCHES: usize = 2 * ROW_ROOM;
 
 // From here on stands where the letters of each class begin.
-pub const LETTER_AT: usize = 3 * ROOM;
+pub const LETTER_AT: usize = 3 * ROW_ROOM;
 
 // The first n words of a, put from word p of t on.
 fn copy_words(t: &mut [u16], a: &[u16], p: usize, n: usize)
     requires { (p + n ≤ length t.old) × (n ≤ length a.now) }
     ensures { Filled t.old t.new p n (λ j. get_or a.now j 0) }
 {
-    for j in 0..n {
-        let i = p + j;
-        t[i] = a[j];
-    }
+    t[p..p + n].copy_from_slice(&a[..n]);
 }
 
 // Where flow begins and the branches that may match, put into their places; all words before them stay.

@@ -4,13 +4,32 @@ use mathlib.Core.Path.{◌≡◌, refl, ◌∙◌, ap}
 use mathlib.Core.Bool.{Bool, true, false, ◌&&◌}
 use mathlib.Core.List.{List, [], ◌∷◌, ◌++◌}
 use lib.ListN.{get_or}
+use Rattle.std.proofs.Common.{Some, None}
+use Rattle.std.specs.Prelude.{is_none, unwrap_or}
+use Rattle.bits.specs.Bits.{Row}
 use Rattle.model.specs.Index.{gather_between, gather, only}
-use Rattle.model.specs.Rows.{Kind}
+use Rattle.model.specs.Rows.{Program, Kind}
+use Rattle.model.specs.Tables.{Tables}
 use Rattle.model.specs.Rules.{Effect, quiet, reads, puts, starts, Rule}
-use Rattle.model.proofs.Logic.{test}
+use Rattle.model.proofs.Logic.{test, true_false}
 use Rattle.rules.specs.Listed.{kind_effect, listed_rule, listed_rules}
-use Rattle.rules.specs.Within.{letter_passes, only_passing}
+use Rattle.rules.specs.Within.{letter_passes, only_passing, is_asked, AskedLetters, AskedOf, AskedRow}
 use Rattle.rules.proofs.Gather.{gather_same}
+
+-- all letters are asked for, or those of a set
+pub all_row : (w : ℕ) → AskedRow None w
+all_row w = record { row = λ set e. true_false refl (ap is_none e) }
+
+pub set_row : (set : List ℕ) (w : ℕ) → Row set w 0 → AskedRow (Some set) w
+set_row set w r = record { row = λ v e. let z : set ≡ v = ap (λ o. unwrap_or o []) e in rw z at r }
+
+pub set_asked : (p : Program) (t : Tables) (set : List ℕ) (f : ℕ → Bool) → AskedLetters p t true set f → AskedOf p t (Some set) f
+unfolding is_asked
+set_asked p t set f o = record { has = o.has }
+
+pub all_asked : (p : Program) (t : Tables) → AskedOf p t None (λ x. true)
+unfolding is_asked
+all_asked p t = record { has = λ y l. refl }
 
 -- all rules pass where every counter does
 effect_passes : (e : Effect) → letter_passes (λ x. true) e ≡ true

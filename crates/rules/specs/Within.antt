@@ -1,6 +1,6 @@
 -- Of the rules that read or put a letter only those whose letter is asked for.
-use Rattle.std.specs.Prelude.{ℕ, ◌+◌, ◌≤◌, ◌<◌, ◌≡◌, Bool, true, false, not, ◌||◌, List, [], ◌∷◌, length}
-use Rattle.bits.specs.Bits.{member}
+use Rattle.std.specs.Prelude.{ℕ, ◌+◌, ◌≤◌, ◌<◌, ◌≡◌, Bool, true, false, not, ◌||◌, List, [], ◌∷◌, length, Option, Some, None}
+use Rattle.bits.specs.Bits.{member, Row}
 use Rattle.model.specs.Words.{right}
 use Rattle.model.specs.Rows.{Program, tag, kind}
 use Rattle.model.specs.Tables.{Tables, state_at}
@@ -27,6 +27,21 @@ pub record AskedLetters (p : Program) (t : Tables) (narrow : Bool) (within : Lis
   pub has :
       (y : ℕ) → y < letter_count_of p t →
       (not narrow || member within (letter_width_of p t) 0 y) ≡ f (t.states.size + y)
+
+-- letter y is asked for: it is one of the set, or all letters are
+unfoldable pub is_asked : ℕ → Option (List ℕ) → ℕ → Bool
+is_asked w None y = true
+is_asked w (Some set) y = member set w 0 y
+
+-- the counters of the letters that pass are those of the letters asked for
+pub record AskedOf (p : Program) (t : Tables) (within : Option (List ℕ)) (f : ℕ → Bool) : Type 0 where
+  pub has :
+      (y : ℕ) → y < letter_count_of p t →
+      is_asked (letter_width_of p t) within y ≡ f (t.states.size + y)
+
+-- where only letters of a set are asked for, that has so many words
+pub record AskedRow (within : Option (List ℕ)) (w : ℕ) : Type 0 where
+  pub row : (set : List ℕ) → within ≡ Some set → Row set w 0
 
 -- the two lists hold the n rules of state i that have no letter, or one that passes
 pub record RulesWithin (p : Program) (t : Tables) (f : ℕ → Bool) (i : ℕ) (tos others : List ℕ) (n : ℕ) : Type 0 where

@@ -3,19 +3,20 @@ use Prim.Native.Nat.{ℕ, zero, suc, ◌+◌, ◌≤◌, ◌<◌}
 use native.Mathlib.Decide.{ℕ_discrete, dec_lt}
 use native.Mathlib.Omega.{arith}
 use mathlib.Core.Path.{◌≡◌, refl, sym, ◌∙◌, ap}
-use mathlib.Core.Bool.{Bool, true, false, not, ◌&&◌}
+use mathlib.Core.Bool.{true, false, not}
 use mathlib.Core.List.{List}
 use mathlib.Core.Logic.{◌⊎◌, inl, inr, ⊎_elim}
 use lib.ListN.{length, get_or, set}
 use lib.Seq.{get_or-set_same, get_or-set_other}
 use lib.Dec.{eqb}
 use borrow.Author.Tests.{eq-eqb, ne_eqb, le-leb, lt-leb, lt-ltb, le-ltb, eqb-true, eqb-false}
-use Rattle.model.specs.declared.Verdict.TheVariants.{Safe, Name}
+use Rattle.std.proofs.Common.{Ok, Err}
+use Rattle.model.specs.declared.Verdict.TheVariants.{Name}
 use Rattle.model.specs.Verdict.{◌>>◌, unless}
 use Rattle.model.specs.Index.{all, first}
 use Rattle.model.specs.Rows.{Program, size, tag, num}
 use Rattle.model.specs.Scopes.{binds, binds_name, binder, bound_again, name_check_of}
-use Rattle.model.specs.Verify.{answer}
+use Rattle.model.specs.Verify.{outcome}
 use Rattle.scopes.specs.Tables.{is_bound}
 use Rattle.model.proofs.Logic.{test, true_false, and_intro, and_none}
 use Rattle.model.proofs.Index.{any_intro, none_any, first_hit, first_miss, First, first_is}
@@ -34,10 +35,6 @@ unfolding binds
 binds_none t h k =
     rw (ne_eqb t 11 (λ e. k (inl e)), ne_eqb t 23 (λ e. k (inr (inl e))), ne_eqb t 30 (λ e. k (inr (inr e))))
     (elim (dec_lt 1 t) [ yes e ↦ rw (lt-leb t 7 (h e), le-leb 2 t e) refl | no e ↦ rw (lt-leb 2 t (omega arith)) refl ])
-
--- a first index that is no index at all
-pub first_whole : (e : ℕ) (f : ℕ → Bool) (r : ℕ) → first 0 e f ≡ r → e ≤ r → first 0 e f ≡ e
-first_whole e f r h a = let w = first_is 0 e f (omega arith) in let b = w.upto in omega arith
 
 module _ (p : Program) where
   -- the table of binders of the rows from r on
@@ -121,14 +118,14 @@ module _ (p : Program) where
   is_bound_no n v e a = le-ltb (binder p n) (size p) (omega arith)
 
   -- refusal 4, by the two loops
-  pub name_again : (r : ℕ) → r < size p → first 0 (size p) (bound_again p) ≡ r → Name (4 + r) ≡ answer (name_check_of p)
-  unfolding name_check_of unless ◌>>◌ answer
+  pub name_again : (r : ℕ) → r < size p → first 0 (size p) (bound_again p) ≡ r → Err (Name (4 + r)) ≡ outcome (name_check_of p)
+  unfolding name_check_of unless ◌>>◌ outcome
   name_again r a h = rw (h, ne_eqb r (size p) (omega arith))
 
-  pub name_missing : first 0 (size p) (bound_again p) ≡ size p → all 0 p.names (is_bound p) ≡ false → Name 1 ≡ answer (name_check_of p)
-  unfolding name_check_of unless ◌>>◌ answer is_bound
+  pub name_missing : first 0 (size p) (bound_again p) ≡ size p → all 0 p.names (is_bound p) ≡ false → Err (Name 1) ≡ outcome (name_check_of p)
+  unfolding name_check_of unless ◌>>◌ outcome is_bound
   name_missing h e = rw (h, eq-eqb (size p) (size p) refl, e)
 
-  pub names_pass : first 0 (size p) (bound_again p) ≡ size p → all 0 p.names (is_bound p) ≡ true → Safe ≡ answer (name_check_of p)
-  unfolding name_check_of unless ◌>>◌ answer is_bound
+  pub names_pass : first 0 (size p) (bound_again p) ≡ size p → all 0 p.names (is_bound p) ≡ true → Ok tt ≡ outcome (name_check_of p)
+  unfolding name_check_of unless ◌>>◌ outcome is_bound
   names_pass h e = rw (h, eq-eqb (size p) (size p) refl, e)

@@ -1,2 +1,3 @@
 mod Binding
 mod Scoping
+pub mod Found

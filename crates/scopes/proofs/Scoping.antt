@@ -1,6 +1,6 @@
 -- Where names hold: rests, next heads, the interval of a scope, and refusal 5.
 use Prim.Native.Nat.{ℕ, ◌+◌, ◌≤◌, ◌<◌}
-use native.Mathlib.Decide.{ℕ_discrete, dec_lt}
+use native.Mathlib.Decide.{ℕ_discrete}
 use native.Mathlib.Omega.{arith}
 use mathlib.Core.Path.{◌≡◌, refl, sym, ◌∙◌, ap}
 use mathlib.Core.Bool.{Bool, true, false, not}
@@ -11,22 +11,22 @@ use lib.ListN.{length, get_or, set}
 use lib.Seq.{get_or-set_same, get_or-set_other}
 use lib.Dec.{leb, ltb, eqb}
 use borrow.Author.Tests.{eq-eqb, ne_eqb, le-leb, lt-leb, leb-true}
-use Rattle.model.specs.declared.Verdict.TheVariants.{Safe, Scope}
+use Rattle.std.proofs.Common.{Ok, Err}
+use Rattle.model.specs.declared.Verdict.TheVariants.{Scope}
 use Rattle.model.specs.Verdict.{unless}
 use Rattle.model.specs.Index.{first}
 use Rattle.model.specs.Reader.{past}
 use Rattle.model.specs.Rows.{Program, program, size, tag, num, kind, is_head_of, expression, lead, past_items, row_check_of}
 use Rattle.model.specs.Scopes.{binds, uses, binds_name, binder, rest, next_head, is_held_in, in_scope, out_of_scope, scope_check_of}
-use Rattle.model.specs.Verify.{answer}
+use Rattle.model.specs.Verify.{outcome}
 use Rattle.model.proofs.Logic.{test, true_false, and_left, and_right}
 use Rattle.model.proofs.Index.{first_end, first_hit, first_miss, First, first_is}
 use Rattle.program.specs.Rows.{from}
 use Rattle.model.specs.declared.Sizes.{Sizes}
 use Rattle.model.specs.Words.{columns}
-use Rattle.program.proofs.Reading.{from_none, past_tag}
-use Rattle.program.proofs.Items.{bound_says, lead_none}
+use Rattle.program.proofs.Reading.{past_tag}
 use Rattle.layout.specs.Tables.{Ends}
-use Rattle.layout.proofs.Visits.{past_is, parted, head_read}
+use Rattle.layout.proofs.Visits.{past_is, head_read}
 use Rattle.layout.proofs.Resting.{rested}
 
 -- the tags of uses
@@ -63,12 +63,12 @@ module _ (p : Program) where
   head_end = sym (first_end (size p) (size p) (λ q. is_head_of (tag p q)) (omega arith))
 
   -- refusal 5, by the loop
-  pub scope_out : (r : ℕ) → r < size p → first 0 (size p) (out_of_scope p) ≡ r → Scope (4 + r) ≡ answer (scope_check_of p)
-  unfolding scope_check_of unless answer
+  pub scope_out : (r : ℕ) → r < size p → first 0 (size p) (out_of_scope p) ≡ r → Err (Scope (4 + r)) ≡ outcome (scope_check_of p)
+  unfolding scope_check_of unless outcome
   scope_out r a h = rw (h, ne_eqb r (size p) (omega arith))
 
-  pub scopes_pass : first 0 (size p) (out_of_scope p) ≡ size p → Safe ≡ answer (scope_check_of p)
-  unfolding scope_check_of unless answer
+  pub scopes_pass : first 0 (size p) (out_of_scope p) ≡ size p → Ok tt ≡ outcome (scope_check_of p)
+  unfolding scope_check_of unless outcome
   scopes_pass h = rw (h, eq-eqb (size p) (size p) refl)
 
   -- a scope, as the code tests it

@@ -1,5 +1,5 @@
 -- What the tables of binders and of next heads hold.
-use Rattle.std.specs.Prelude.{ℕ, ◌<◌, ◌≡◌, Bool, List, ltb, get_or}
+use Rattle.std.specs.Prelude.{ℕ, ◌<◌, ◌≡◌, Bool, true, false, List, ltb, get_or, Option, Some, None}
 use Rattle.model.specs.declared.Sizes.{Sizes}
 use Rattle.model.specs.Rows.{Program, program, size}
 use Rattle.model.specs.Scopes.{binder, next_head}
@@ -27,3 +27,7 @@ pub record Laid (ws : List ℕ) (s : Sizes) (afters heads : List ℕ) : Type 0 w
   pub fitted : Fitted ws s
   pub after : Ends (program ws s) afters
   pub head : HeadTable (program ws s) heads
+
+-- the index that a search below e found, or none where it came to e
+unfoldable pub found_below : ℕ → ℕ → Option ℕ
+found_below e r = elim (ltb r e) [ true ↦ Some r | false ↦ None ]

@@ -3,9 +3,9 @@ ghost use Rattle.std.specs.Prelude.{◌≡◌, ◌≤◌, ◌<◌, length};
 ghost use Rattle.model.specs.Index.{first, all};
 ghost use Rattle.model.specs.Rows.{program};
 ghost use Rattle.model.specs.Scopes.{binds, bound_again, name_check_of};
-ghost use Rattle.model.specs.Verify.{answer};
+ghost use Rattle.model.specs.Verify.{outcome};
 ghost use Rattle.program.specs.Rows.{Whole, Fitted};
-ghost use Rattle.scopes.specs.Tables.{BinderTable, Unbound, is_bound};
+ghost use Rattle.scopes.specs.Tables.{BinderTable, Unbound, is_bound, found_below};
 
 use layout::tables::entry;
 use model::{Sizes, TAG_BUILD, TAG_GLOBAL, TAG_PARAMETER, TAG_PATTERN_NAME, TAG_SELF, Verdict};
@@ -28,9 +28,7 @@ fn blank_binders(ws: &[u16], s: Sizes, table: &mut [u16])
     requires names_in_bounds { s.names ≤ length table.old }
     ensures { Unbound (program ws.now s) s.names table.new }
 {
-    for n in 0..s.names {
-        table[n] = s.rows as u16;
-    }
+    table[..s.names].fill(s.rows as u16);
 }
 
 // For each name the row that binds it first; the number of rows where none does.
@@ -40,14 +38,10 @@ fn fill_binders(ws: &[u16], s: Sizes, table: &mut [u16])
     ensures { BinderTable (program ws.now s) table.new }
 {
     blank_binders(ws, s, table);
-    let mut r = s.rows;
-    while r > 0 {
-        r -= 1;
+    for r in (0..s.rows).rev() {
         let n = num(ws, s, r);
-        if n < s.names {
-            if binds(tag(ws, s, r)) {
-                table[n] = r as u16;
-            }
+        if n < s.names && binds(tag(ws, s, r)) {
+            table[n] = r as u16;
         }
     }
 }
@@ -66,20 +60,18 @@ fn is_again(ws: &[u16], s: Sizes, table: &[u16], r: usize) -> bool
     }
 }
 
-// The first row that binds a name again; the number of rows where none does.
-fn first_again(ws: &[u16], s: Sizes, table: &[u16]) -> usize
+// The first row that binds a name again.
+fn first_again(ws: &[u16], s: Sizes, table: &[u16]) -> Option<usize>
     requires fitted { Fitted ws.now s }
     requires binder_table { BinderTable (program ws.now s) table.now }
-    ensures { result ≡ first 0 s.rows (bound_again (program ws.now s)) }
+    ensures { result ≡ found_below s.rows (first 0 s.rows (bound_again (program ws.now s))) }
 {
-    let mut r = 0;
-    while r < s.rows {
+    for r in 0..s.rows {
         if is_again(ws, s, table, r) {
-            return r;
+            return Some(r);
         }
-        r += 1;
     }
-    r
+    None
 }
 
 // Each name has a row that binds it.
@@ -88,32 +80,25 @@ fn all_bound(ws: &[u16], s: Sizes, table: &[u16]) -> bool
     requires binder_table { BinderTable (program ws.now s) table.now }
     ensures { result ≡ all 0 s.names (is_bound (program ws.now s)) }
 {
-    let mut n = 0;
-    while n < s.names {
+    for n in 0..s.names {
         if entry(table, n) >= s.rows {
             return false;
         }
-        n += 1;
     }
     true
 }
 
 // Refusal 4: the first row that binds a name again, or a name that no row binds. The binders are left in the table.
-pub fn name_check(ws: &[u16], s: Sizes, table: &mut [u16]) -> Verdict
+pub fn name_check(ws: &[u16], s: Sizes, table: &mut [u16]) -> Result<(), Verdict>
     requires fitted { Fitted ws.now s }
     requires names_in_bounds { s.names ≤ length table.old }
-    ensures value { result ≡ answer (name_check_of (program ws.now s)) }
+    ensures value { result ≡ outcome (name_check_of (program ws.now s)) }
     ensures binder_table { BinderTable (program ws.now s) table.new }
 {
     fill_binders(ws, s, table);
-    let r = first_again(ws, s, table);
-    if r < s.rows {
-        let place = 4 + r;
-        return Verdict::Name(place);
-    }
-    if all_bound(ws, s, table) {
-        Verdict::Safe
-    } else {
-        Verdict::Name(1)
+    match first_again(ws, s, table) {
+        Some(r) => Err(Verdict::Name(4 + r)),
+        None if all_bound(ws, s, table) => Ok(()),
+        None => Err(Verdict::Name(1)),
     }
 }

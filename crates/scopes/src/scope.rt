@@ -3,10 +3,10 @@ ghost use Rattle.std.specs.Prelude.{◌≡◌, true, ◌≤◌, ◌<◌, length}
 ghost use Rattle.model.specs.Index.{first};
 ghost use Rattle.model.specs.Rows.{program, tag, is_head_of};
 ghost use Rattle.model.specs.Scopes.{binds, uses, is_held_in, in_scope, out_of_scope, scope_check_of};
-ghost use Rattle.model.specs.Verify.{answer};
+ghost use Rattle.model.specs.Verify.{outcome};
 ghost use Rattle.program.specs.Rows.{Whole, Fitted};
 ghost use Rattle.layout.specs.Tables.{Ends};
-ghost use Rattle.scopes.specs.Tables.{BinderTable, HeadTable, Laid};
+ghost use Rattle.scopes.specs.Tables.{BinderTable, HeadTable, Laid, found_below};
 
 use layout::ends::rest_of;
 use layout::tables::entry;
@@ -38,9 +38,7 @@ fn fill_next_heads(ws: &[u16], s: Sizes, table: &mut [u16])
     ensures { HeadTable (program ws.now s) table.new }
 {
     let mut head = s.rows;
-    let mut r = s.rows;
-    while r > 0 {
-        r -= 1;
+    for r in (0..s.rows).rev() {
         if is_head(tag(ws, s, r)) {
             head = r;
         }
@@ -94,34 +92,30 @@ fn is_out(ws: &[u16], s: Sizes, afters: &[u16], heads: &[u16], names: &[u16], r:
     !is_in_scope(ws, s, afters, heads, b, r)
 }
 
-// The first row that reads a name outside its scope; the number of rows where none does.
-fn first_out(ws: &[u16], s: Sizes, afters: &[u16], heads: &[u16], names: &[u16]) -> usize
+// The first row that reads a name outside its scope.
+fn first_out(ws: &[u16], s: Sizes, afters: &[u16], heads: &[u16], names: &[u16]) -> Option<usize>
     requires laid { Laid ws.now s afters.now heads.now }
     requires binder_table { BinderTable (program ws.now s) names.now }
-    ensures { result ≡ first 0 s.rows (out_of_scope (program ws.now s)) }
+    ensures { result ≡ found_below s.rows (first 0 s.rows (out_of_scope (program ws.now s))) }
 {
-    let mut r = 0;
-    while r < s.rows {
+    for r in 0..s.rows {
         if is_out(ws, s, afters, heads, names, r) {
-            return r;
+            return Some(r);
         }
-        r += 1;
     }
-    r
+    None
 }
 
 // Refusal 5: the first row that reads a name outside its scope.
-pub fn scope_check(ws: &[u16], s: Sizes, afters: &[u16], names: &[u16]) -> Verdict
+pub fn scope_check(ws: &[u16], s: Sizes, afters: &[u16], names: &[u16]) -> Result<(), Verdict>
     requires fitted { Fitted ws.now s }
     requires ends { Ends (program ws.now s) afters.now × BinderTable (program ws.now s) names.now }
-    ensures { result ≡ answer (scope_check_of (program ws.now s)) }
+    ensures { result ≡ outcome (scope_check_of (program ws.now s)) }
 {
     let mut heads = row_words16();
     fill_next_heads(ws, s, &mut heads);
-    let r = first_out(ws, s, afters, &heads, names);
-    if r < s.rows {
-        let place = 4 + r;
-        return Verdict::Scope(place);
+    match first_out(ws, s, afters, &heads, names) {
+        Some(r) => Err(Verdict::Scope(4 + r)),
+        None => Ok(()),
     }
-    Verdict::Safe
 }

@@ -77,7 +77,8 @@ pub fn sizes_of(bytes: &[u8]) -> Sizes
 }
 
 // The number of the first size outside its limits, both allowed, of a size and of those behind it, of which it is
-// number `behind`.
+// number `behind`. It is a count and no Option: so many sizes in front are within their limits, be it all of them, as
+// first_outside of specs/ has it.
 fn outside(size: usize, least: usize, most: usize, behind: usize) -> usize
     requires { behind < 65536 }
     ensures { ((ls : List Limited) →

@@ -1,34 +1,26 @@
--- From the stages' verdicts to the verdict on the bytes.
+-- From what the stages hand on to what the code finds of the message.
 use Prim.Native.Nat.{ℕ}
 use mathlib.Core.Path.{◌≡◌, refl, sym, ap, subst, ◌∙◌}
 use mathlib.Core.Bool.{Bool, true, false}
-use mathlib.Core.List.{List, []}
+use mathlib.Core.List.{List}
 use mathlib.Core.Option.{some, none}
+use Rattle.std.specs.Prelude.{IfOk}
+use Rattle.std.proofs.Common.{Result, Ok, Err}
 use lib.Dec.{eqb}
 use borrow.Author.Tests.{eq-eqb, ne_eqb}
 use Rattle.model.specs.Limits.{present}
 use Rattle.model.specs.declared.Sizes.{Sizes}
 use Rattle.model.specs.declared.Verdict.{Verdict}
-use Rattle.model.specs.declared.Verdict.TheVariants.{Safe}
-use Rattle.model.specs.Verdict.{Check, ◌>>◌, number}
-use Rattle.model.specs.Words.{words}
-use Rattle.model.specs.Rows.{Program, program, row_check_of}
-use Rattle.model.specs.Scopes.{name_check_of, scope_check_of}
+use Rattle.model.specs.Verdict.{Check, ◌>>◌}
+use Rattle.model.specs.Rows.{program}
 use Rattle.model.specs.Tables.{tables}
 use Rattle.model.specs.Counters.{counter_count}
-use Rattle.model.specs.Bads.{bad_rows}
-use Rattle.model.specs.Rules.{rules}
-use Rattle.model.specs.Ceilings.{ceilings_of, ceiling_check_of, start_check_of, met_check_of, leak_check_of}
-use Rattle.model.specs.Verify.{program_check, evidence_check, ceilings_check, weights_check, bounds_check, message, message_check, check, answer, verdict}
-use Rattle.model.proofs.Logic.{test, chosen_true, chosen_false}
-use Rattle.model.proofs.Exact.Answer.{Refuses, program_refuses, ceiling_refuses, weight_refuses, ceilings_refuse}
-use Rattle.model.proofs.Exact.Entries.{ceiling_none}
+use Rattle.model.specs.Verify.{program_check, evidence_check, ceilings_check, weights_check, bounds_check, message_check, outcome, judged}
+use Rattle.model.proofs.Logic.{chosen_true, chosen_false}
+use Rattle.model.proofs.Outcome.{nothing_found, stops_at}
 use Rattle.system_space.specs.Space.{words_after}
-use Rattle.answers.specs.Safe.{is_safe_of}
 use Rattle.mailed.specs.Mailed.{mailed_then_counters}
 use Rattle.stages.specs.Order.{taken, below_ceilings, below_weights, form_check, below_bounds, from_3, from_4, from_5, from_6, from_7, from_8, from_22, from_10, from_11}
-use Rattle.stages.specs.Scratch.{Numbered}
-use Rattle.answers.proofs.Passing.{else_is, ends}
 
 -- the checks in the order in which the code takes them
 assoc : (a b c : Check) → (a >> b) >> c ≡ a >> (b >> c)
@@ -60,51 +52,44 @@ pub goes_by : (m c r : Check) → m ≡ c >> r → c ≡ none → m ≡ r
 unfolding ◌>>◌
 goes_by m c r e h = e ∙ ap (λ x. x >> r) h
 
--- of two checks that never answer safe one after the other, nor does the second
-pub behind : (a b : Check) → Refuses (a >> b) → a ≡ none → Refuses b
-unfolding ◌>>◌
-behind a b r h = subst Refuses (ap (λ x. x >> b) h) r
-
--- nor does the form of the bounds, which is that of the ceilings or of the weights
-pub form_refuses : (ws : List ℕ) (s : Sizes) (n : ℕ) → Refuses (form_check ws s n)
-unfolding form_check
-form_refuses ws s n h =
-    test (eqb s.lines 0)
-    (λ e. ceiling_refuses ws s n (sym (chosen_true _ _ _ e) ∙ h))
-    (λ e. weight_refuses ws s n (sym (chosen_false _ _ _ e) ∙ h))
-
--- nor do 5 and 13 by themselves
-pub scopes_refuse : (p : Program) → row_check_of p ≡ none → name_check_of p ≡ none → Refuses (scope_check_of p)
-unfolding program_check
-scopes_refuse p r n = behind _ _ (behind _ _ (program_refuses p) r) n
-
-pub leak_refuses : (ws : List ℕ) (s : Sizes) (n : ℕ) → Numbered ws s n → start_check_of s (program ws s) (tables ws s) (ceilings_of ws s n) ≡ none → met_check_of s (program ws s) (tables ws s) (ceilings_of ws s n) (bad_rows ws s) ≡ none → Refuses (leak_check_of ws s (ceilings_of ws s n) (rules (program ws s) (tables ws s)))
-unfolding ceilings_check taken
-leak_refuses ws s n h a b =
-    let r : Refuses (ceiling_check_of ws s n >> (start_check_of s (program ws s) (tables ws s) (ceilings_of ws s n) >> (met_check_of s (program ws s) (tables ws s) (ceilings_of ws s n) (bad_rows ws s) >> leak_check_of ws s (ceilings_of ws s n) (rules (program ws s) (tables ws s))))) = rw h.counted (ceilings_refuse (taken ws s)) in
-    behind _ _ (behind _ _ (behind _ _ r ((ceiling_none ws s n).1 h.in_form)) a) b
+-- a check that the code has gone past
+pub goes_past : (m c r : Check) (q : Result Unit Verdict) → m ≡ c >> r → q ≡ outcome c → q ≡ Ok tt → m ≡ r
+goes_past m c r q z e h = goes_by m c r z (nothing_found c q e h)
 
 -- what is so of the ceilings, or of the weights, is so of the bounds of a message
-module _ (lines : ℕ) (f g : Check) (v : Verdict) where
-  pub by_ceilings : lines ≡ 0 → v ≡ answer f → v ≡ answer (elim (eqb lines 0) [ true ↦ f | false ↦ g ])
-  by_ceilings e h = h ∙ sym (ap answer (chosen_true _ f g (eq-eqb lines 0 e)))
+module _ (lines : ℕ) (f g : Check) (r : Result Unit Verdict) where
+  pub by_ceilings : lines ≡ 0 → r ≡ outcome f → r ≡ outcome (elim (eqb lines 0) [ true ↦ f | false ↦ g ])
+  by_ceilings e h = h ∙ sym (ap outcome (chosen_true _ f g (eq-eqb lines 0 e)))
 
-  pub by_weights : (lines ≡ 0 → ⊥) → v ≡ answer g → v ≡ answer (elim (eqb lines 0) [ true ↦ f | false ↦ g ])
-  by_weights e h = h ∙ sym (ap answer (chosen_false _ f g (ne_eqb lines 0 e)))
+  pub by_weights : (lines ≡ 0 → ⊥) → r ≡ outcome g → r ≡ outcome (elim (eqb lines 0) [ true ↦ f | false ↦ g ])
+  by_weights e h = h ∙ sym (ap outcome (chosen_false _ f g (ne_eqb lines 0 e)))
 
 -- what the code finds of the n counters that it has counted is what the model says of the message
-module _ (ws : List ℕ) (s : Sizes) (n : ℕ) (v : Verdict) where
-  told : (f : ℕ → Check) → v ≡ answer (f n) → n ≡ counter_count (program ws s) (tables ws s) → v ≡ answer (f (counter_count (program ws s) (tables ws s)))
-  told f h e = h ∙ ap (λ k. answer (f k)) e
+module _ (ws : List ℕ) (s : Sizes) (n : ℕ) (r : Result Unit Verdict) where
+  told : (f : ℕ → Check) → r ≡ outcome (f n) → n ≡ counter_count (program ws s) (tables ws s) → r ≡ outcome (f (counter_count (program ws s) (tables ws s)))
+  told f h e = h ∙ ap (λ k. outcome (f k)) e
 
-  pub form_told : v ≡ answer (form_check ws s n) → n ≡ counter_count (program ws s) (tables ws s) → v ≡ answer (form_check ws s (counter_count (program ws s) (tables ws s)))
+  pub form_told : r ≡ outcome (form_check ws s n) → n ≡ counter_count (program ws s) (tables ws s) → r ≡ outcome (form_check ws s (counter_count (program ws s) (tables ws s)))
   form_told = told (form_check ws s)
 
-  pub below_told : (lent : ℕ) → v ≡ answer (below_bounds ws s n lent) → n ≡ counter_count (program ws s) (tables ws s) → v ≡ answer (from_11 ws s lent)
+  pub below_told : (lent : ℕ) → r ≡ outcome (below_bounds ws s n lent) → n ≡ counter_count (program ws s) (tables ws s) → r ≡ outcome (from_11 ws s lent)
   unfolding from_11
   below_told lent = told (λ k. below_bounds ws s k lent)
 
 -- a refusal ends the checks, and the lent words stay
-pub ends_with : (m c r : Check) (v : Verdict) (f : Bool) (ws : List ℕ) (s : Sizes) (lent : List ℕ) → m ≡ c >> r → v ≡ answer c → f ≡ is_safe_of v → f ≡ false → (v ≡ answer m) × (lent ≡ words_after v ws s lent)
+pub ends_at : (m c r : Check) (q out : Result Unit Verdict) (v : Verdict) (ws : List ℕ) (s : Sizes) (lent : List ℕ) → m ≡ c >> r → q ≡ outcome c → q ≡ Err v → out ≡ Err v → (out ≡ outcome m) × (lent ≡ words_after out ws s lent)
 unfolding words_after
-ends_with m c r v f ws s lent z e t h = (ends c r v f e t h ∙ sym (ap answer z), sym (else_is v _ lent (sym t ∙ h)))
+ends_at m c r q out v ws s lent z e t h = (h ∙ stops_at c r q v e t ∙ sym (ap outcome z), rw h)
+
+-- a result that carries a value, with the value left out
+module _ {A : Type 0} (q : Result A Verdict) where
+  pub judged_ok : (x : A) → q ≡ Ok x → judged q ≡ Ok tt
+  unfolding judged
+  judged_ok x h = rw h
+
+  pub judged_err : (v : Verdict) → q ≡ Err v → judged q ≡ Err v
+  unfolding judged
+  judged_err v h = rw h
+
+  pub holds_of : (P : A → Type 0) (x : A) → q ≡ Ok x → IfOk q P → P x
+  holds_of P x h k = subst (λ r. IfOk r P) h k

@@ -5,7 +5,7 @@ use Rattle.rooms.specs.Rooms.{rule_words}
 use Rattle.model.specs.declared.Sizes.{Sizes}
 use Rattle.model.specs.Rows.{program}
 use Rattle.model.specs.Tables.{tables}
-use Rattle.model.specs.Limits.{max_branches, max_counters}
+use Rattle.model.specs.Limits.{max_rows, max_branches, max_counters}
 use Rattle.model.specs.Closed.{open_check}
 use Rattle.model.specs.Counters.{letter_count_of, counter_count}
 use Rattle.model.specs.Ceilings.{ceilings_of, ceiling_entries}
@@ -94,3 +94,24 @@ pub record RulesFit (ws : List ℕ) (s : Sizes) (spare room : ℕ) : Type 0 wher
   pub values : spare + s.rows < room
   pub letters : spare + max_branches * letter_count_of (program ws s) (tables ws s) ≤ room
   pub counters : spare + max_counters ≤ room
+
+-- cleared lists of so many words have room for the rules of any state of a message of n counters
+pub record ListsFit (n list : ℕ) : Type 0 where
+  pub values : max_rows < list
+  pub letters : max_branches * n ≤ list
+  pub counters : max_counters ≤ list
+  pub most : list ≤ 65536
+
+-- tables of these lengths have room for the limits of n counters, a sum for each, and sets of ceilings as in MaskRoom
+pub record LimitsFit (s : Sizes) (n cells counts triples pairs : ℕ) : Type 0 where
+  pub limited : n * s.ceilings ≤ cells
+  pub summed : n < counts
+  pub held : n * 12 ≤ triples
+  pub beside : n * 8 ≤ pairs
+  pub most : cells + counts + triples + pairs ≤ 1048576
+
+-- tables of these lengths have room for the weights of n counters on each line, and a count for each
+pub record WeightsFit (s : Sizes) (n cells counts : ℕ) : Type 0 where
+  pub weighed : n * s.lines ≤ cells
+  pub counted : n ≤ counts
+  pub most : cells + counts ≤ 1048576

@@ -9,7 +9,7 @@ ghost use Rattle.model.specs.Closed.{start_state};
 ghost use Rattle.model.specs.Ceilings.{ceilings_of, start_check_of, met_check_of};
 ghost use Rattle.model.specs.Weights.{lines_of, light_check_of};
 ghost use Rattle.model.specs.Limits.{max_counters};
-ghost use Rattle.model.specs.Verify.{answer};
+ghost use Rattle.model.specs.Verify.{outcome};
 ghost use Rattle.lists.specs.Ready.{Ready};
 ghost use Rattle.layout.specs.Tables.{Ends};
 ghost use Rattle.ceilings_form.specs.Parts.{Whole};
@@ -25,17 +25,17 @@ use ceilings_met::{Sum, met_check, start_check};
 use lists::state_index;
 use model::{Sizes, Verdict};
 use opening::start;
-use rooms::words16_258;
+use rooms::words16;
 use system_items::fill_items;
 use weights_form::weight_check;
 use weights_least::Count;
 use weights_light::light_check;
 
 // Refusal 10, or 16 where the message has lines of weights.
-pub fn form_verdict(ws: &[u16], s: Sizes, n: usize) -> Verdict
+pub fn form_verdict(ws: &[u16], s: Sizes, n: usize) -> Result<(), Verdict>
     requires whole { Whole ws.now s }
     requires n_le_max_counters { n ≤ max_counters }
-    ensures { result ≡ answer (form_check ws.now s n) }
+    ensures { result ≡ outcome (form_check ws.now s n) }
 {
     if s.lines == 0 {
         return ceiling_check(ws, s, n);
@@ -54,11 +54,17 @@ fn start_counter(ws: &[u16], s: Sizes, afters: &[u16]) -> usize
 }
 
 // Refusal 11, by the counter of the start.
-pub fn start_verdict(ws: &[u16], s: Sizes, afters: &[u16], n: usize, limits: &[u16]) -> Verdict
+pub fn start_verdict(
+    ws: &[u16],
+    s: Sizes,
+    afters: &[u16],
+    n: usize,
+    limits: &[u16],
+) -> Result<(), Verdict>
     requires startable { Startable ws.now s afters.now n }
     requires limits_table { LimitsTable (ceilings_of ws.now s n) limits.now }
     ensures { result ≡
-        answer (start_check_of s (program ws.now s) (tables ws.now s)
+        outcome (start_check_of s (program ws.now s) (tables ws.now s)
         (ceilings_of ws.now s n)) }
 {
     let counter = start_counter(ws, s, afters);
@@ -74,16 +80,16 @@ pub fn met_verdict(
     n: usize,
     limits: &[u16],
     sums: &mut [Sum],
-) -> Verdict
+) -> Result<(), Verdict>
     requires letters_filled { LettersFilled ws.now s letter_at.now letters.now × BadsInForm ws.now s }
     requires counted { Counted ws.now s n × LimitsTable (ceilings_of ws.now s n) limits.now }
     requires n_in_bounds { n < length sums.old }
     ensures { result ≡
-        answer (met_check_of s (program ws.now s) (tables ws.now s)
+        outcome (met_check_of s (program ws.now s) (tables ws.now s)
         (ceilings_of ws.now s n) (bad_rows ws.now s)) }
 {
-    let mut froms = words16_258();
-    let mut tos = words16_258();
+    let mut froms = words16::<258>();
+    let mut tos = words16::<258>();
     fill_items(ws, s, letter_at, letters, &mut froms, &mut tos);
     met_check(ws, s, n, limits, &froms, &tos, sums)
 }
@@ -98,17 +104,17 @@ pub fn light_verdict(
     n: usize,
     weights: &[u16],
     counts: &mut [Count],
-) -> Verdict
+) -> Result<(), Verdict>
     requires startable { Startable ws.now s afters.now n }
     requires letters_filled { LettersFilled ws.now s letter_at.now letters.now × BadsInForm ws.now s }
     requires weights_table { WeightsTable (lines_of ws.now s n) weights.now × (n ≤ length counts.old) }
     ensures { result ≡
-        answer (light_check_of s (program ws.now s) (tables ws.now s)
+        outcome (light_check_of s (program ws.now s) (tables ws.now s)
         (lines_of ws.now s n) (bad_rows ws.now s)) }
 {
     let counter = start_counter(ws, s, afters);
-    let mut froms = words16_258();
-    let mut tos = words16_258();
+    let mut froms = words16::<258>();
+    let mut tos = words16::<258>();
     fill_items(ws, s, letter_at, letters, &mut froms, &mut tos);
     light_check(ws, s, n, weights, &froms, &tos, counter, counts)
 }

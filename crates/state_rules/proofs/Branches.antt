@@ -6,9 +6,10 @@ use mathlib.Core.Path.{◌≡◌, refl, sym, ◌∙◌, ap}
 use mathlib.Core.Bool.{Bool, true, false, not}
 use mathlib.Core.List.{List, []}
 use lib.ListN.{length, get_or}
+use Rattle.std.proofs.Common.{Option}
 use lib.Dec.{eqb}
 use borrow.Author.Tests.{eqb-true, not-true}
-use Rattle.bits.specs.Bits.{bit, Row}
+use Rattle.bits.specs.Bits.{bit}
 use Rattle.model.specs.declared.Sizes.{Sizes}
 use Rattle.model.specs.Index.{gather}
 use Rattle.model.specs.Limits.{max_depth, max_branches, max_counters}
@@ -33,7 +34,7 @@ use Rattle.values.proofs.Members.{each_none}
 use Rattle.matching.specs.Patterns.{Pattern}
 use Rattle.system_letters.specs.Letters.{ClassLetters, letter_width_of, Found}
 use Rattle.rules.specs.Derived.{RuleRoom, LetterTables}
-use Rattle.rules.specs.Within.{only_passing}
+use Rattle.rules.specs.Within.{only_passing, AskedRow}
 use Rattle.rules.specs.Listed.{kind_effect}
 use Rattle.rules.proofs.States.{class_low}
 use Rattle.rules.proofs.Gather.{gather_none, rows_range}
@@ -106,7 +107,7 @@ module _ {ws : List ℕ} {s : Sizes} (h : Ready ws s) where
   next_most : (L b : ℕ) → (b + 1) * L ≡ b * L + L
   next_most L b = let z : b + 1 ≡ suc b = omega arith in rw z (suc-mul b L)
 
-  pub receive_room : (starts letters : List ℕ) (g : LetterTables ws s starts letters) (within part found tos₀ others₀ tos others : List ℕ) → Row within (letter_width_of p t) 0 → length part ≡ 17 → length found ≡ 17 → RuleRoom ws s tos₀ others₀ → length tos ≡ length tos₀ → length others ≡ length others₀ → (n b m c : ℕ) → c ≤ s.rows → b < m → m ≤ max_branches → n ≤ b * letter_count_of p t → ClassRoom ws s starts within part found tos others n c
+  pub receive_room : (starts letters : List ℕ) (g : LetterTables ws s starts letters) (within : Option (List ℕ)) (part found tos₀ others₀ tos others : List ℕ) → AskedRow within (letter_width_of p t) → length part ≡ 17 → length found ≡ 17 → RuleRoom ws s tos₀ others₀ → length tos ≡ length tos₀ → length others ≡ length others₀ → (n b m c : ℕ) → c ≤ s.rows → b < m → m ≤ max_branches → n ≤ b * letter_count_of p t → ClassRoom ws s starts within part found tos others n c
   unfolding program columns counter_count
   receive_room starts letters g within part found tos₀ others₀ tos others row u v room e f n b m c low l k most =
       let few = g.few in

@@ -4,13 +4,14 @@ use native.Mathlib.Omega.{arith}
 use mathlib.Core.Path.{◌≡◌}
 use mathlib.Core.List.{List}
 use lib.ListN.{length, get_or}
-use Rattle.bits.specs.Bits.{Row}
+use Rattle.std.proofs.Common.{Option}
 use Rattle.model.specs.declared.Sizes.{Sizes}
 use Rattle.model.specs.Rows.{Program, program}
 use Rattle.model.specs.Tables.{Tables, tables}
 use Rattle.lists.specs.Ready.{Ready}
 use Rattle.system_letters.specs.Letters.{letter_width_of}
 use Rattle.rules.specs.Derived.{RuleRoom, RuleTables, LetterTables}
+use Rattle.rules.specs.Within.{AskedRow}
 use Rattle.lettered_rules.specs.Turns.{ClassRoom}
 use Rattle.lettered_rules.proofs.Letters.{set_room}
 use Rattle.state_rules.specs.Heads.{SendTables, ReceiveTables}
@@ -40,7 +41,7 @@ module _ {ws : List ℕ} {s : Sizes} {afters flow-at : List ℕ} {w : ℕ} {fitt
   }
 
 -- the arrays of a send or receive have room for sets, and its lists for the rules of a class's letters
-pub class_room : {ws : List ℕ} {s : Sizes} (h : Ready ws s) (starts letters : List ℕ) → LetterTables ws s starts letters → (within part found tos₀ others₀ tos others : List ℕ) → Row within (letter_width_of (program ws s) (tables ws s)) 0 → length part ≡ 17 → length found ≡ 17 → RuleRoom ws s tos₀ others₀ → length tos ≡ length tos₀ → length others ≡ length others₀ → (n d : ℕ) → d ≤ s.rows → n + get_or starts (d + 1) 0 ≤ length tos + get_or starts d 0 → n ≤ 65536 → ClassRoom ws s starts within part found tos others n d
+pub class_room : {ws : List ℕ} {s : Sizes} (h : Ready ws s) (starts letters : List ℕ) → LetterTables ws s starts letters → (within : Option (List ℕ)) (part found tos₀ others₀ tos others : List ℕ) → AskedRow within (letter_width_of (program ws s) (tables ws s)) → length part ≡ 17 → length found ≡ 17 → RuleRoom ws s tos₀ others₀ → length tos ≡ length tos₀ → length others ≡ length others₀ → (n d : ℕ) → d ≤ s.rows → n + get_or starts (d + 1) 0 ≤ length tos + get_or starts d 0 → n ≤ 65536 → ClassRoom ws s starts within part found tos others n d
 class_room h starts letters g within part found tos₀ others₀ tos others row u v room e f n d low fits small =
     record {
       value = low;

@@ -6,6 +6,7 @@ use mathlib.Core.Bool.{Bool, true, false, not}
 use mathlib.Core.List.{List, []}
 use mathlib.Core.Logic.{⊎_elim}
 use lib.ListN.{length, get_or}
+use Rattle.std.proofs.Common.{Option}
 use borrow.Author.Tests.{not-true, not-false}
 use Rattle.model.specs.declared.Sizes.{Sizes}
 use Rattle.model.specs.Index.{gather}
@@ -21,7 +22,6 @@ use Rattle.model.specs.Rules.{state_rules_of, from_each, puts}
 use Rattle.model.specs.Wanted.{Member}
 use Rattle.model.proofs.Logic.{and_left, implies_elim}
 use Rattle.model.proofs.Heads.{head_send}
-use Rattle.bits.specs.Bits.{Row}
 use Rattle.lists.specs.Lists.{range_from, range_to}
 use Rattle.lists.specs.Ready.{Ready}
 use Rattle.lists.proofs.Facts.{flow_form, flow_rises}
@@ -30,7 +30,7 @@ use Rattle.values.proofs.Members.{each_at, at_each}
 use Rattle.system_letters.specs.Letters.{ClassLetters, letter_width_of, Found}
 use Rattle.system_letters.proofs.Classes.{before_upto}
 use Rattle.rules.specs.Derived.{RuleRoom, LetterTables}
-use Rattle.rules.specs.Within.{only_passing}
+use Rattle.rules.specs.Within.{only_passing, AskedRow}
 use Rattle.rules.specs.Listed.{kind_effect}
 use Rattle.rules.proofs.Gather.{each_range}
 use Rattle.rules.proofs.Entries.{entry_in}
@@ -83,7 +83,7 @@ module _ {ws : List ℕ} {s : Sizes} (h : Ready ws s) where
       (sym (each_range t.flow (num p (r + 1)) (λ d. elim (is_class_of p d) [ true ↦ letter_rules p t puts (state_index_of t (onward (state_at t x) (rest p r))) d (from_each t.flow (num p (r + 2)) (letters_allowed p t)) i | false ↦ [] ]) (flow_rises h)))
 
   -- the letters of a class are no more than the counters, and those of later entries stand behind them
-  pub send_room : (starts letters : List ℕ) (g : LetterTables ws s starts letters) (within part found tos₀ others₀ tos others : List ℕ) → Row within (letter_width_of p t) 0 → length part ≡ 17 → length found ≡ 17 → RuleRoom ws s tos₀ others₀ → length tos ≡ length tos₀ → length others ≡ length others₀ → (n j d : ℕ) → d ≡ right t.flow j → d ≤ s.rows → n ≤ get_or starts (right t.flow j) 0 → ClassRoom ws s starts within part found tos others n d
+  pub send_room : (starts letters : List ℕ) (g : LetterTables ws s starts letters) (within : Option (List ℕ)) (part found tos₀ others₀ tos others : List ℕ) → AskedRow within (letter_width_of p t) → length part ≡ 17 → length found ≡ 17 → RuleRoom ws s tos₀ others₀ → length tos ≡ length tos₀ → length others ≡ length others₀ → (n j d : ℕ) → d ≡ right t.flow j → d ≤ s.rows → n ≤ get_or starts (right t.flow j) 0 → ClassRoom ws s starts within part found tos others n d
   unfolding program columns counter_count
   send_room starts letters g within part found tos₀ others₀ tos others row u v room e f n j d same low upto =
       let few = g.few in

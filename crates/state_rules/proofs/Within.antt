@@ -5,24 +5,16 @@ use mathlib.Core.Path.{◌≡◌, sym, ◌∙◌, ap}
 use mathlib.Core.Bool.{Bool, true}
 use mathlib.Core.List.{List, ◌++◌}
 use lib.ListN.{length}
-use Rattle.bits.specs.Bits.{Row}
 use Rattle.model.specs.Words.{right}
 use Rattle.model.specs.Rows.{Program, Kind, tag, kind, send, receive}
-use Rattle.model.specs.Letters.{head_count}
 use Rattle.model.specs.Tables.{Tables, state_at}
 use Rattle.model.specs.Rules.{state_rules_of}
 use Rattle.model.proofs.Heads.{by_kind, tag_is}
-use Rattle.system_letters.specs.Letters.{letter_width_of, allowed_set, LetterSets}
 use Rattle.rules.specs.Listed.{kind_effect, StateRules}
 use Rattle.rules.specs.Added.{Added}
 use Rattle.rules.specs.Within.{letter_passes, only_passing, RulesWithin}
 use Rattle.rules.proofs.Adding.{listed_none}
 use Rattle.rules.proofs.Within.{listed_pass}
-
--- a table of sets of letters has a first set
-pub letters_row : {p : Program} {t : Tables} {letters : List ℕ} → LetterSets p t letters → Row letters (letter_width_of p t) 0
-unfolding allowed_set head_count
-letters_row h = h.room 0 (omega arith)
 
 -- the rules of a state from those of its head
 module _ (p : Program) (t : Tables) (f : ℕ → Bool) (i m : ℕ) (tos others tos' others' : List ℕ) where

@@ -1,8 +1,7 @@
 -- The rules of a send and of a receive, turn by turn of their loops, and what they are read from. e is the number of
 -- the state s that the rules are told from.
-use Rattle.std.specs.Prelude.{ℕ, ◌≡◌, List}
+use Rattle.std.specs.Prelude.{ℕ, ◌≡◌, List, Option}
 use Rattle.std.proofs.Math.Option.{none}
-use Rattle.bits.specs.Bits.{Row}
 use Rattle.model.specs.declared.Sizes.{Sizes}
 use Rattle.model.specs.Words.{right}
 use Rattle.model.specs.Rows.{Program, program}
@@ -15,6 +14,7 @@ use Rattle.positions.specs.Positions.{branch_row}
 use Rattle.positions.specs.Branches.{BranchBits}
 use Rattle.system_letters.specs.Letters.{letter_width_of}
 use Rattle.rules.specs.Derived.{RuleRoom, SentTables, StateHead}
+use Rattle.rules.specs.Within.{AskedRow}
 use Rattle.branch_letters.specs.Kept.{ReadTables}
 use Rattle.lettered_rules.specs.Turns.{sent_turn, read_turn}
 
@@ -39,8 +39,9 @@ pub record ReceiveTables (ws : List ℕ) (s : Sizes) (afters : List ℕ) (w : �
   pub branch_bits : BranchBits (program ws s) (tables ws s) branches
   pub read_tables : ReadTables ws s afters w fitting names letter_at letters
 
--- State i, at row r, goes by letters, as its tag k says; there is a set of letters, and room for the rules.
-pub record LetteredState (ws : List ℕ) (s : Sizes) (i r k : ℕ) (within tos others : List ℕ) : Type 0 where
+-- State i, at row r, goes by letters, as its tag k says; the set of letters, if one is asked for, has room for all, and there is room for the rules.
+pub record LetteredState (ws : List ℕ) (s : Sizes) (i r k : ℕ) (within : Option (List ℕ))
+    (tos others : List ℕ) : Type 0 where
   pub state : StateHead ws s i r k
-  pub within_row : Row within (letter_width_of (program ws s) (tables ws s)) 0
+  pub within_row : AskedRow within (letter_width_of (program ws s) (tables ws s))
   pub room : RuleRoom ws s tos others

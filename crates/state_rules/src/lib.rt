@@ -1,7 +1,7 @@
 // The rules of a state, all at once: where they lead, and the other counter. All rules of a state are of one kind.
 #![tactic(auto)]
 
-ghost use Rattle.std.specs.Prelude.{◌≡◌, Bool, true, ℕ, ◌<◌};
+ghost use Rattle.std.specs.Prelude.{◌≡◌, Bool, true, ℕ, ◌<◌, option_copied};
 ghost use Rattle.bits.specs.Bits.{Row};
 ghost use Rattle.model.specs.Rows.{program, send, receive};
 ghost use Rattle.model.specs.Tables.{tables, state_at};
@@ -9,7 +9,7 @@ ghost use Rattle.model.specs.Rules.{state_rules_of};
 ghost use Rattle.rules.specs.Listed.{StateRules};
 ghost use Rattle.rules.specs.Added.{Added};
 ghost use Rattle.rules.specs.Derived.{RuleRoom, RuleTables};
-ghost use Rattle.rules.specs.Within.{only_passing, AskedLetters, RulesWithin};
+ghost use Rattle.rules.specs.Within.{only_passing, AskedLetters, AskedOf, RulesWithin};
 ghost use Rattle.system_letters.specs.Letters.{letter_width_of};
 ghost use Rattle.state_rules.specs.Heads.{SendTables, ReceiveTables, LetteredState};
 
@@ -35,15 +35,14 @@ fn send_rules(
     at: &[u16],
     i: usize,
     r: usize,
-    narrow: bool,
-    within: &[u64],
+    within: Option<&[u64]>,
     tos: &mut [u16],
     others: &mut [u16],
 ) -> usize
     requires send_tables { SendTables ws.now s afters.now flow_at.now letter_at.now letters.now }
-    requires lettered_state { LetteredState ws.now s i r 5 within.now tos.old others.old }
+    requires lettered_state { LetteredState ws.now s i r 5 (option_copied within) tos.old others.old }
     ensures { (f : ℕ → Bool) →
-        AskedLetters (program ws.now s) (tables ws.now s) narrow within.now f →
+        AskedOf (program ws.now s) (tables ws.now s) (option_copied within.entry) f →
         Added send tos.old others.old 0 tos.new others.new result
         (λ e. only_passing f (state_rules_of (program ws.now s) (tables ws.now s) e
         (state_at (tables ws.now s) i))) }
@@ -59,8 +58,8 @@ fn send_rules(
     for j in from..to {
         let d = flow_value(ws, s, j);
         n = sent_rules(
-            ws, s, flow_at, letter_at, letters, message, d, next, narrow, within, n, &mut part,
-            &mut found, tos, others,
+            ws, s, flow_at, letter_at, letters, message, d, next, within, n, &mut part, &mut found,
+            tos, others,
         );
     }
     n
@@ -81,16 +80,15 @@ fn receive_rules(
     at: &[u16],
     i: usize,
     r: usize,
-    narrow: bool,
-    within: &[u64],
+    within: Option<&[u64]>,
     tos: &mut [u16],
     others: &mut [u16],
 ) -> usize
     requires receive_tables { ReceiveTables ws.now s afters.now w fitting.now names.now letter_at.now letters.now
         branches.now }
-    requires lettered_state { LetteredState ws.now s i r 9 within.now tos.old others.old }
+    requires lettered_state { LetteredState ws.now s i r 9 (option_copied within) tos.old others.old }
     ensures { (f : ℕ → Bool) →
-        AskedLetters (program ws.now s) (tables ws.now s) narrow within.now f →
+        AskedOf (program ws.now s) (tables ws.now s) (option_copied within.entry) f →
         Added receive tos.old others.old 0 tos.new others.new result
         (λ e. only_passing f (state_rules_of (program ws.now s) (tables ws.now s) e
         (state_at (tables ws.now s) i))) }
@@ -110,7 +108,7 @@ fn receive_rules(
         }
         let next = onto(ws, s, at, i, e);
         n = read_rules(
-            ws, s, afters, w, fitting, names, letter_at, letters, c, row, next, narrow, within, n,
+            ws, s, afters, w, fitting, names, letter_at, letters, c, row, next, within, n,
             &mut part, &mut found, tos, others,
         );
     }
@@ -147,13 +145,13 @@ pub fn state_rules(
         TAG_GIVE => give_rules(ws, s, afters, at, i, tos),
         TAG_CALL => call_rules(ws, s, flow_at, at, i, r, tos),
         TAG_SEND => send_rules(
-            ws, s, afters, flow_at, letter_at, letters, at, i, r, false, letters, tos, others,
+            ws, s, afters, flow_at, letter_at, letters, at, i, r, None, tos, others,
         ),
         TAG_SPAWN => spawn_rules(ws, s, afters, flow_at, at, i, r, tos, others),
         TAG_CASE => case_rules(ws, s, afters, branches, at, i, r, tos),
         TAG_RECEIVE => receive_rules(
-            ws, s, afters, w, fitting, names, letter_at, letters, branches, at, i, r, false,
-            letters, tos, others,
+            ws, s, afters, w, fitting, names, letter_at, letters, branches, at, i, r, None, tos,
+            others,
         ),
         // build, function and self
         _ => rest_rules(ws, s, afters, at, i, r, tos),
@@ -192,11 +190,35 @@ pub fn rules_within(
     let row = state_location(ws, s, i);
     match tag(ws, s, row) {
         TAG_SEND => send_rules(
-            ws, s, afters, flow_at, letter_at, letters, at, i, row, true, within, tos, others,
+            ws,
+            s,
+            afters,
+            flow_at,
+            letter_at,
+            letters,
+            at,
+            i,
+            row,
+            Some(within),
+            tos,
+            others,
         ),
         TAG_RECEIVE => receive_rules(
-            ws, s, afters, w, fitting, names, letter_at, letters, branches, at, i, row, true,
-            within, tos, others,
+            ws,
+            s,
+            afters,
+            w,
+            fitting,
+            names,
+            letter_at,
+            letters,
+            branches,
+            at,
+            i,
+            row,
+            Some(within),
+            tos,
+            others,
         ),
         _ => state_rules(
             ws, s, afters, flow_at, w, fitting, names, letter_at, letters, branches, at, i, tos,

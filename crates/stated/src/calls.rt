@@ -41,14 +41,13 @@ pub fn callees_here(ws: &[u16], s: Sizes, starts: &[u16], at: &[u16], i: usize, 
 {
     let callee = num(ws, s, r + 1);
     let count = num(ws, s, r + 2);
-    let mut j = word(starts, callee);
+    let from = word(starts, callee);
     let to = word(starts, callee + 1);
-    while j < to {
+    for j in from..to {
         let f = flow_value(ws, s, j);
         if !callee_here(ws, s, at, i, f, count) {
             return false;
         }
-        j += 1;
     }
     true
 }

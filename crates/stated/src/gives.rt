@@ -21,12 +21,10 @@ fn go_on(ws: &[u16], s: Sizes, at: &[u16], from: usize, to: usize, r: usize) -> 
     requires to_le_states { to ≤ s.states }
     ensures { result ≡ all from to (goes_on (tables ws.now s) r) }
 {
-    let mut j = from;
-    while j < to {
+    for j in from..to {
         if onward(ws, s, at, j, r) >= s.states {
             return false;
         }
-        j += 1;
     }
     true
 }

@@ -9,7 +9,7 @@ ghost use Rattle.steps.specs.Steps.{raised, one_more_if, limit_from_sum, limit_a
 use model::{OMEGA, TAG_RECEIVE, TAG_SEND, TAG_SPAWN};
 
 // A rule: from a counter to a counter, and by its kind nothing (0), another counter read (1) or put (2), or a new
-// state (3).
+// state (3). The kind is a number, since the clauses of `effect_kind` and of the crates that build steps count it so.
 #[derive(Clone, Copy)]
 pub struct Step {
     pub from: usize,
@@ -65,7 +65,7 @@ pub fn as_limit(count: usize) -> u16
 pub fn one_less(count: usize) -> usize
     ensures { result ≡ count - 1 }
 {
-    if count == 0 { 0 } else { count - 1 }
+    count.saturating_sub(1)
 }
 
 fn less_if(test: bool, count: usize) -> usize

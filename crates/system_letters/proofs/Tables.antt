@@ -1,16 +1,14 @@
 -- The heads of values, which of them the values of a name have, and how many letters there are.
 use Prim.Native.Nat.{ℕ, zero, suc, ◌+◌, ◌*◌, ◌/◌, ◌%◌, ◌≤◌, ◌<◌}
-use native.Mathlib.Decide.{ℕ_discrete}
 use native.Mathlib.Numerals.{add-one}
 use native.Mathlib.Omega.{arith}
 use mathlib.Core.Path.{◌≡◌, sym, ◌∙◌, ap}
 use mathlib.Core.Bool.{Bool, true, ◌&&◌, ◌||◌}
 use mathlib.Core.List.{List, []}
 use mathlib.Core.Logic.{◌⊎◌, inl, inr, ⊎_elim}
-use lib.ListN.{length, get_or, set}
-use lib.Seq.{get_or-set_same, get_or-set_other}
+use lib.ListN.{length, get_or}
 use lib.Dec.{eqb}
-use borrow.Author.Tests.{eqb-true, eq-eqb, ne_eqb, lt-ltb, ltb-true}
+use borrow.Author.Tests.{eq-eqb, ne_eqb, lt-ltb, ltb-true}
 use Rattle.bits.specs.Bits.{member, Row, Put}
 use Rattle.bits.proofs.Bits.{bit_zero}
 use Rattle.bits.proofs.Loops.{any_split}
@@ -151,9 +149,3 @@ module _ {ws : List ℕ} {s : Sizes} (h : Ready ws s) where
   pub headed_all : (i : ℕ) (names : List ℕ) → Headed ws s i names → i ≡ s.flows → NameHeads (program ws s) (tables ws s) names
   unfolding some_of program head_count tables entries columns
   headed_all i names g e = record { room = g.room; has = λ n l a b. g.has n l a b ∙ ap (λ k. any 0 k (name_head ws s n l)) e }
-
-pub cleared_next : (n : ℕ) (ws : List ℕ) → ((q : ℕ) → q < n → get_or ws q 0 ≡ 0) → n < length ws → (q : ℕ) → q < n + 1 → get_or (set ws n 0) q 0 ≡ 0
-cleared_next n ws f l q b = elim (ℕ_discrete q n) [
-  | yes e ↦ ap (λ i. get_or (set ws n 0) i 0) e ∙ get_or-set_same ws n 0 0 l
-  | no e ↦ get_or-set_other ws n q 0 0 e ∙ f q (omega arith)
-]

@@ -1,7 +1,7 @@
 // The heads of values, which of them the values of each name have, and how many letters and counters there are.
 #![tactic(auto)]
 
-ghost use Rattle.std.specs.Prelude.{◌≡◌, ℕ, ◌*◌, ◌≤◌, ◌<◌, length, get_or};
+ghost use Rattle.std.specs.Prelude.{◌≡◌, ◌*◌, ◌≤◌, ◌<◌, length};
 ghost use Rattle.model.specs.Rows.{program};
 ghost use Rattle.model.specs.Letters.{row_head_of};
 ghost use Rattle.model.specs.Tables.{tables};
@@ -30,24 +30,13 @@ pub fn row_head(ws: &[u16], s: Sizes, v: usize) -> usize
     }
 }
 
-// The first n words are 0.
-fn clear(words: &mut [u64], n: usize)
-    requires n_in_bounds { n ≤ length words.old }
-    requires n_bound { n ≤ 65536 }
-    ensures { (k : ℕ) → k < n → get_or words.new k 0 ≡ 0 }
-{
-    for k in 0..n {
-        words[k] = 0;
-    }
-}
-
 // Which heads the values of each name have.
 pub fn fill_names(ws: &[u16], s: Sizes, names: &mut [u64])
     requires ready { Ready ws.now s }
     requires names_in_bounds { s.names * 2 ≤ length names.old }
     ensures { NameHeads (program ws.now s) (tables ws.now s) names.new }
 {
-    clear(names, s.names * 2);
+    names[..s.names * 2].fill(0);
     let list = flow(s);
     for i in 0..s.flows {
         let n = left(ws, list, i);

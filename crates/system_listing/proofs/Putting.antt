@@ -1,18 +1,18 @@
 -- Laws of putting rows into the words: rows after rows, and the rows of rules one after the other.
-use Prim.Native.Nat.{ℕ, zero, suc, ◌+◌, ◌*◌, ◌≤◌, ◌<◌}
+use Prim.Native.Nat.{ℕ, suc, ◌+◌, ◌*◌, ◌≤◌, ◌<◌}
 use native.Mathlib.Omega.{arith}
 use mathlib.Core.Path.{◌≡◌, refl, sym, ◌∙◌, ap}
 use mathlib.Core.List.{List, [], ◌∷◌, ◌++◌}
+use Rattle.std.proofs.Common.{Option, Some, None}
 use lib.ListN.{length, get_or, set, length-set, length-append}
-use borrow.Author.Tests.{ne_eqb}
 use Rattle.model.specs.Index.{gather, from_all}
 use Rattle.model.specs.Words.{right}
 use Rattle.model.specs.Rows.{Program, tag, Kind, kind}
 use Rattle.model.specs.Tables.{Tables, state_at}
-use Rattle.model.specs.Rules.{Rule, rule, state_rules_of}
+use Rattle.model.specs.Rules.{Rule, state_rules_of}
 use Rattle.model.specs.Listing.{Line, line}
 use Rattle.model.proofs.Index.{gather_end}
-use Rattle.rules.specs.Listed.{kind_effect, listed_rule, listed_rules, StateRules}
+use Rattle.rules.specs.Listed.{listed_rule, listed_rules, StateRules}
 use Rattle.rules.proofs.Gather.{gather_split, gather_last}
 use Rattle.system_totals.specs.Lines.{lines, third_tag_of, third_lines}
 use Rattle.system_totals.proofs.Lined.{lines_append, rows_more, one_lines}
@@ -66,36 +66,32 @@ module _ (f : ℕ → List Rule) (out₀ out : List ℕ) (n x₀ x a k : ℕ) (h
 pub put_ends : (f : ℕ → List Rule) (out out' : List ℕ) (n x e a k k' : ℕ) → Put out out' n x e (lines (gather a k f)) → k ≡ k' → Put out out' n x e (lines (gather a k' f))
 put_ends f out out' n x e a k k' h end = rw (← end) h
 
--- the rows of one rule, by the test of the third tag
-module _ (out : List ℕ) (n x from to third z : ℕ) where
+-- the rows of one rule, by the third tag
+module _ (out : List ℕ) (n x from to z : ℕ) (third : Option ℕ) where
   pub two_room : Room out n x (rows_of from to third z) → (x + 2 ≤ n) × (4 + 2 * n ≤ length out)
   unfolding rows_of
   two_room r = (omega (arith, r.rows), r.words)
 
-  pub two_put : (mid end : List ℕ) → third ≡ 0 → mid ≡ put_line out n x (line 50 from) → end ≡ put_line mid n (x + 1) (line 51 to) → Put out end n x (x + 2) (rows_of from to third z)
+  pub two_put : (mid end : List ℕ) → third ≡ None → mid ≡ put_line out n x (line 50 from) → end ≡ put_line mid n (x + 1) (line 51 to) → Put out end n x (x + 2) (rows_of from to third z)
   unfolding rows_of third_lines put_lines
   two_put mid end none a b = rw none (record { next = refl; put = b ∙ ap (λ o. put_line o n (x + 1) (line 51 to)) a })
 
-  three : ¬ (third ≡ 0) → third_lines third z ≡ line third z ∷ []
-  unfolding third_lines
-  three some = rw (ne_eqb third 0 some, third_lines)
+  pub three_room : (k : ℕ) → Room out n x (rows_of from to third z) → third ≡ Some k → x + 3 ≤ n
+  unfolding rows_of third_lines
+  three_room k r some = let e = ap (λ l. length (third_lines l z)) some in omega (arith, r.rows)
 
-  pub three_room : Room out n x (rows_of from to third z) → ¬ (third ≡ 0) → x + 3 ≤ n
-  unfolding rows_of
-  three_room r some = let e = ap length (three some) in omega (arith, r.rows)
-
-  pub three_put : (mid next end : List ℕ) → ¬ (third ≡ 0) → mid ≡ put_line out n x (line 50 from) → next ≡ put_line mid n (x + 1) (line 51 to) → end ≡ put_line next n (x + 2) (line third z) → Put out end n x (x + 3) (rows_of from to third z)
-  unfolding rows_of put_lines
-  three_put mid next end some a b c =
+  pub three_put : (k : ℕ) (mid next end : List ℕ) → third ≡ Some k → mid ≡ put_line out n x (line 50 from) → next ≡ put_line mid n (x + 1) (line 51 to) → end ≡ put_line next n (x + 2) (line k z) → Put out end n x (x + 3) (rows_of from to third z)
+  unfolding rows_of third_lines put_lines
+  three_put k mid next end some a b c =
       let two : x + 2 ≡ x + 1 + 1 = omega arith in
-      rw (three some) (record {
+      rw some (record {
         next = refl;
-        put = c ∙ (ap (λ o. put_line o n (x + 2) (line third z)) (b ∙ ap (λ o. put_line o n (x + 1) (line 51 to)) a) ∙
-            ap (λ k. put_line (put_line (put_line out n x (line 50 from)) n (x + 1) (line 51 to)) n k (line third z)) two);
+        put = c ∙ (ap (λ o. put_line o n (x + 2) (line k z)) (b ∙ ap (λ o. put_line o n (x + 1) (line 51 to)) a) ∙
+            ap (λ j. put_line (put_line (put_line out n x (line 50 from)) n (x + 1) (line 51 to)) n j (line k z)) two);
       })
 
 -- rule k of those in the two lists, from the numbers that the code has
-module _ (h : Kind) (i : ℕ) (tos others : List ℕ) (k third to z : ℕ) (t : third ≡ third_tag_of h) (a : to ≡ get_or tos k 0) (b : z ≡ get_or others k 0) where
+module _ (h : Kind) (i : ℕ) (tos others : List ℕ) (k to z : ℕ) (third : Option ℕ) (t : third ≡ third_tag_of h) (a : to ≡ get_or tos k 0) (b : z ≡ get_or others k 0) where
   rule_rows : lines (listed_rule h i tos others k ∷ []) ≡ rows_of i to third z
   unfolding listed_rule rows_of
   rule_rows = rw (t, a, b) (one_lines h i (get_or tos k 0) (get_or others k 0))

@@ -1,5 +1,5 @@
 -- The rows of rules, put into the words one by one.
-use Rattle.std.specs.Prelude.{ℕ, ◌+◌, ◌*◌, ◌≤◌, ◌≡◌, List, [], ◌∷◌, length, set}
+use Rattle.std.specs.Prelude.{ℕ, ◌+◌, ◌*◌, ◌≤◌, ◌≡◌, List, [], ◌∷◌, length, set, Option}
 use Rattle.model.specs.Listing.{Line, line}
 use Rattle.system_totals.specs.Lines.{third_lines}
 
@@ -12,8 +12,8 @@ unfoldable pub put_lines : List ℕ → ℕ → ℕ → List Line → List ℕ
 put_lines out n x [] = out
 put_lines out n x (l ∷ ls) = put_lines (put_line out n x l) n (x + 1) ls
 
--- the rows of a rule whose third row has this tag, or none for 0
-unfoldable pub rows_of : ℕ → ℕ → ℕ → ℕ → List Line
+-- the rows of a rule whose third row, if it has one, has this tag
+unfoldable pub rows_of : ℕ → ℕ → Option ℕ → ℕ → List Line
 rows_of from to third z = line 50 from ∷ line 51 to ∷ third_lines third z
 
 -- there is room for these rows from row x on, of n rows

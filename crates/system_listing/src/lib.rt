@@ -38,7 +38,7 @@ fn put_rule(
     x: usize,
     from: usize,
     to: usize,
-    third: u32,
+    third: Option<u32>,
     z: usize,
 ) -> usize
     requires room { Room out.old n x (rows_of from to third z) }
@@ -49,11 +49,13 @@ fn put_rule(
     let second = x + 1;
     put(out, n, second, TAG_TO, to);
     let behind = x + 2;
-    if third == 0 {
-        return behind;
+    match third {
+        None => behind,
+        Some(tag) => {
+            put(out, n, behind, tag, z);
+            x + 3
+        }
     }
-    put(out, n, behind, third, z);
-    x + 3
 }
 
 // The rows of the m rules of state i in the two lists, whose head has this tag; the next row.
@@ -75,12 +77,10 @@ fn put_rules(
 {
     let third = third_tag(head);
     let mut e = x;
-    let mut k = 0;
-    while k < m {
+    for k in 0..m {
         let to = word(tos, k);
         let other = word(others, k);
         e = put_rule(out, n, e, i, to, third, other);
-        k += 1;
     }
     e
 }
@@ -106,13 +106,11 @@ fn write_rules(
         (lines (rules (program ws.now s) (tables ws.now s))) }
 {
     let mut e = 0;
-    let mut i = 0;
-    while i < s.states {
+    for i in 0..s.states {
         guess_class(ws, s, at, i);
         let m = rules_of(ws, s, narrow, fitting, names, letters, at, i, tos, others);
         let head = state_head(ws, s, i);
         e = put_rules(out, n, e, head, i, tos, others, m);
-        i += 1;
     }
     e
 }

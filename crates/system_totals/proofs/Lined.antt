@@ -5,8 +5,8 @@ use native.Mathlib.Numerals.{add-one}
 use native.Mathlib.Omega.{arith}
 use mathlib.Core.Path.{◌≡◌, refl, sym, ◌∙◌, ap}
 use mathlib.Core.List.{List, [], ◌∷◌, ◌++◌, append_assoc, append-nil}
+use Rattle.std.proofs.Common.{Option, Some, None}
 use lib.ListN.{length, get_or, length-append}
-use borrow.Author.Tests.{ne_eqb}
 use Rattle.model.specs.Limits.{max_states}
 use Rattle.model.specs.Index.{gather, from_all}
 use Rattle.model.specs.Words.{right}
@@ -32,7 +32,7 @@ lines_append [] ys = refl
 lines_append (ρ ∷ xs) ys = ap (λ ls. rule_lines ρ ++ ls) (lines_append xs ys) ∙ sym (append_assoc (rule_lines ρ) (lines xs) (lines ys))
 
 -- by the tag of the head
-pub no_third : (t : ℕ) → ¬ (t ≡ 5) → ¬ (t ≡ 6) → ¬ (t ≡ 9) → 0 ≡ third_tag_of (kind t)
+pub no_third : (t : ℕ) → ¬ (t ≡ 5) → ¬ (t ≡ 6) → ¬ (t ≡ 9) → None ≡ third_tag_of (kind t)
 unfolding third_tag_of kind
 no_third zero a b c = refl
 no_third (suc zero) a b c = refl
@@ -154,17 +154,14 @@ module _ (p : Program) (t : Tables) where
         few_rows = omega (arith, s.rows_low);
       }
 
--- the rows of n rules, by the test of the third tag
-pub two_rows : (head n third : ℕ) → third ≡ third_tag_of (kind head) → third ≡ 0 → (n * 2 ≡ n * row_count (third_tag_of (kind head))) × (n * 2 ≤ 3 * n)
+-- the rows of n rules, by the third tag
+pub two_rows : (n : ℕ) (third tag : Option ℕ) → third ≡ tag → third ≡ None → (n * 2 ≡ n * row_count tag) × (n * 2 ≤ 3 * n)
 unfolding row_count
-two_rows head n third e z = (rw (← e, z), omega arith)
+two_rows n third tag e z = (rw (← e, z), omega arith)
 
-three : (third : ℕ) → ¬ (third ≡ 0) → 3 ≡ row_count third
+pub three_rows : (n k : ℕ) (third tag : Option ℕ) → third ≡ tag → third ≡ Some k → (n * 3 ≡ n * row_count tag) × (n * 3 ≤ 3 * n)
 unfolding row_count
-three third z = rw (ne_eqb third 0 z, row_count)
-
-pub three_rows : (head n third : ℕ) → third ≡ third_tag_of (kind head) → ¬ (third ≡ 0) → (n * 3 ≡ n * row_count (third_tag_of (kind head))) × (n * 3 ≤ 3 * n)
-three_rows head n third e z = (ap (λ m. n * m) (three third z) ∙ ap (λ x. n * row_count x) e, omega arith)
+three_rows n k third tag e z = (rw (← e, z), omega arith)
 
 -- the words of the listing
 pub words_told : (p : Program) (t : Tables) (n : Totals) → n ≡ counted (rules p t) → 4 + 2 * n.rows ≡ length (system_words p t)

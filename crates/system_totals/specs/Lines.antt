@@ -1,5 +1,5 @@
 -- The rows of rules, and how many rules and rows there are.
-use Rattle.std.specs.Prelude.{ℕ, ◌*◌, ◌≤◌, ◌≡◌, true, false, List, [], ◌∷◌, length, eqb}
+use Rattle.std.specs.Prelude.{ℕ, ◌*◌, ◌≤◌, ◌≡◌, List, [], ◌∷◌, length, Option, Some, None}
 use Rattle.model.specs.Limits.{max_states}
 use Rattle.model.specs.Rows.{Program, Kind, give, build, function, call, send, spawn, self, case, receive, other}
 use Rattle.model.specs.Tables.{Tables}
@@ -24,23 +24,25 @@ pub record Totalled (p : Program) (t : Tables) (n : Totals) : Type 0 where
   pub few_rows : n.rows ≤ 3 * 65536 * max_states
 
 -- "then nothing, (52, letter counter read), (53, letter counter put) or (54, new state)":
--- the tag that the rules at a head of this kind have there, and 0 for nothing
-unfoldable pub third_tag_of : Kind → ℕ
-third_tag_of give = 0
-third_tag_of build = 0
-third_tag_of function = 0
-third_tag_of call = 0
-third_tag_of send = 53
-third_tag_of spawn = 54
-third_tag_of self = 0
-third_tag_of case = 0
-third_tag_of receive = 52
-third_tag_of other = 0
+-- the tag that the rules at a head of this kind have there, and none for nothing
+unfoldable pub third_tag_of : Kind → Option ℕ
+third_tag_of give = None
+third_tag_of build = None
+third_tag_of function = None
+third_tag_of call = None
+third_tag_of send = Some 53
+third_tag_of spawn = Some 54
+third_tag_of self = None
+third_tag_of case = None
+third_tag_of receive = Some 52
+third_tag_of other = None
 
 -- the row behind the two that every rule has
-unfoldable pub third_lines : ℕ → ℕ → List Line
-third_lines third x = elim (eqb third 0) [ true ↦ [] | false ↦ line third x ∷ [] ]
+unfoldable pub third_lines : Option ℕ → ℕ → List Line
+third_lines None x = []
+third_lines (Some tag) x = line tag x ∷ []
 
 -- the rows of such a rule
-unfoldable pub row_count : ℕ → ℕ
-row_count third = elim (eqb third 0) [ true ↦ 2 | false ↦ 3 ]
+unfoldable pub row_count : Option ℕ → ℕ
+row_count None = 2
+row_count (Some tag) = 3

@@ -26,15 +26,15 @@ pub fn state_head(ws: &[u16], s: Sizes, i: usize) -> usize
     tag(ws, s, state_location(ws, s, i))
 }
 
-// The tag of the third row of each rule at a head of this tag, and 0 where its rules have two rows.
-pub fn third_tag(head: usize) -> u32
+// The tag of the third row of each rule at a head of this tag, and none where its rules have two rows.
+pub fn third_tag(head: usize) -> Option<u32>
     ensures { result ≡ third_tag_of (kind head) }
 {
     match head {
-        TAG_SEND => TAG_PUTS,
-        TAG_SPAWN => TAG_STARTS,
-        TAG_RECEIVE => TAG_READS,
-        _ => 0,
+        TAG_SEND => Some(TAG_PUTS),
+        TAG_SPAWN => Some(TAG_STARTS),
+        TAG_RECEIVE => Some(TAG_READS),
+        _ => None,
     }
 }
 
@@ -43,5 +43,8 @@ pub fn row_total(head: usize, n: usize) -> usize
     requires { n ≤ 65536 }
     ensures { (result ≡ n * row_count (third_tag_of (kind head))) × (result ≤ 3 * n) }
 {
-    if third_tag(head) == 0 { n * 2 } else { n * 3 }
+    match third_tag(head) {
+        None => n * 2,
+        Some(_) => n * 3,
+    }
 }

@@ -1,6 +1,6 @@
 -- Digits from the last to the first, and how many there are.
-use Prim.Native.Nat.{ℕ, zero, suc, ◌+◌, ◌-◌, ◌*◌, ◌/◌, ◌%◌, ◌≤◌, ◌<◌}
-use native.Mathlib.Nat.{mod-lt}
+use Prim.Native.Nat.{ℕ, zero, suc, ◌+◌, ◌-◌, ◌*◌, ◌/◌, ◌%◌, ◌≤◌, ◌<◌, ◌^◌, max}
+use native.Mathlib.Nat.{pow-suc}
 use native.Mathlib.Omega.{arith}
 use native.Mathlib.Numerals.{add-one}
 use mathlib.Core.Path.{◌≡◌, refl, sym, ◌∙◌, ap}
@@ -61,42 +61,33 @@ spelled_all b k n at i rest out₀ out s e =
     let z : at + i ≡ at = omega arith in
     s.put ∙ (ap (λ j. put_at j s.done out₀) z ∙ ap (λ l. put_at at l out₀) t)
 
--- how many digits there are, by the first of them
-pub width_one : (m n : ℕ) → n < 10 → width_in m n ≡ 1
+-- a power of ten has one digit more than its exponent says, and so has what lies between it and the next
+ten_positive : (k : ℕ) → 0 < 10 ^ k
+ten_positive zero = omega arith
+ten_positive (suc k) = let h = ten_positive k in omega (arith, pow-suc 10 k)
+
+width_between : (m k n : ℕ) → k ≤ m → 10 ^ k ≤ n → n < 10 * 10 ^ k → width_in m n ≡ k + 1
 unfolding width_in
-width_one zero n h = refl
-width_one (suc m) n h = rw (lt-ltb n 10 h, width_in)
+width_between zero zero n l b a = refl
+width_between zero (suc k) n l b a = absurd (omega arith)
+width_between (suc m) zero n l b a = rw (lt-ltb n 10 (omega arith), width_in)
+width_between (suc m) (suc k) n l b a =
+    let p = pow-suc 10 k in
+    let o = ten_positive k in
+    let z = width_between m k (n / 10) (omega arith) (omega arith) (omega arith) in
+    rw (le-ltb n 10 (omega arith), width_in) (omega arith)
 
-pub width_more : (m n : ℕ) → 10 ≤ n → width_in (suc m) n ≡ 1 + width_in m (n / 10)
-unfolding width_in
-width_more m n h = rw (le-ltb n 10 h, width_in)
-
-pub width_last : (n : ℕ) → width_in 0 n ≡ 1
-unfolding width_in
-width_last n = refl
-
--- k digits are known, and those of `rest` but one are to come
-abbrev pub Widened : ℕ → ℕ → ℕ → Type 0
-Widened n k rest = width_in 19 n + 1 ≡ k + width_in (20 - k) rest
-
-pub widened_none : (n : ℕ) → Widened n 1 n
-widened_none n = omega arith
-
-pub widened_more : (n k rest : ℕ) → Widened n k rest → k < 20 → 10 ≤ rest → Widened n (k + 1) (rest / 10)
-widened_more n k rest h l b =
-    let z : 20 - k ≡ suc (20 - (k + 1)) = omega arith in
-    let y : width_in (20 - k) rest ≡ 1 + width_in (20 - (k + 1)) (rest / 10) = rw z (width_more (20 - (k + 1)) rest b) in
-    omega arith
-
-pub widened_small : (n k rest : ℕ) → Widened n k rest → rest < 10 → k ≡ width n
-unfolding width
-widened_small n k rest h b = let z = width_one (20 - k) rest b in omega arith
-
-pub widened_all : (n k rest : ℕ) → Widened n k rest → k ≡ 20 → k ≡ width n
-unfolding width
-widened_all n k rest h e =
-    let z : width_in (20 - k) rest ≡ 1 = rw e (width_last rest) in
-    omega arith
+-- 0 has as many digits as 1
+pub width_logged : (n x k : ℕ) → x ≡ max n 1 → 10 ^ k ≤ x → x < 10 * 10 ^ k → k < 20 → k + 1 ≡ width n
+unfolding width width_in
+width_logged zero x k e b a l =
+    let z = width_between 19 k x (omega arith) b a in
+    let y : x ≡ 1 = omega arith in
+    sym (rw y at z)
+width_logged (suc n) x k e b a l =
+    let z = width_between 19 k x (omega arith) b a in
+    let y : x ≡ suc n = omega arith in
+    sym (rw y at z)
 
 -- 20 at the most
 pick : {A : Type 0} (b : Bool) → (b ≡ true → A) → (b ≡ false → A) → A
@@ -132,10 +123,6 @@ pair_most a b =
 pub decimal_put : (at k end n : ℕ) (out₀ out : List ℕ) → k ≡ width n → (out ≡ put_at at (digits 10 k n) out₀) × (end ≡ at + k) → (out ≡ put_at at (decimal n) out₀) × (end ≡ at + length (decimal n))
 unfolding decimal
 decimal_put at k end n out₀ out e h = (h.0 ∙ ap (λ j. put_at at (digits 10 j n) out₀) e, (let z = length_decimal n in let y = h.1 in omega arith))
-
--- a digit lies below the base
-pub below_base : (n b : ℕ) → 1 < b → b ≤ 16 → n % b < 16
-below_base n b h l = omega (arith, mod-lt n {m = b} (omega arith))
 
 -- a line of two numbers
 pub line_most : (a b : ℕ) → length (line a b) ≤ 42

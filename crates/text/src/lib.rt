@@ -1,11 +1,12 @@
 // Numbers as text, put into a lent slice from a position on. Each function gives the position behind what it put.
+// The slice and the position are no struct: put_digits, which is public, keeps both, and each method of a struct would
+// have to promise besides that its slice is still the one that was lent, and is as long.
+// Nothing is printed by `Display`: the clauses `out_after` tell the bytes, and of what `write!` puts into a slice
+// std's clauses tell only the room that is left.
 #![tactic(auto)]
 
 ghost use Rattle.std.specs.Prelude.{◌≡◌, ◌+◌, ◌≤◌, ◌<◌, [], ◌∷◌, length};
 ghost use Rattle.text.specs.Text.{put_at, width, digit, digits, decimal, pair, line_end, line};
-
-// The digits in which no more than 64 bits are written.
-const MOST_DIGITS: usize = 20;
 
 // One byte.
 pub fn put_byte(out: &mut [u8], at: usize, byte: u8) -> usize
@@ -22,20 +23,22 @@ fn digit_of(n: u64) -> u8
     requires { n < 16 }
     ensures { result ≡ digit n }
 {
-    if n < 10 { 48 + n as u8 } else { 87 + n as u8 }
+    if n < 10 {
+        b'0' + n as u8
+    } else {
+        b'a' - 10 + n as u8
+    }
 }
 
-// The last k digits of a number, by its base.
+// The last k digits of a number, by its base. The library prints the fewest digits, and by some bases alone.
 pub fn put_digits(out: &mut [u8], at: usize, base: u64, k: usize, n: u64) -> usize
     requires lt_base { (1 < base) × (base ≤ 16) }
     requires k_in_bounds { at + k ≤ length out.old }
     ensures out_after { out.new ≡ put_at at (digits base k n) out.old }
     ensures value { result ≡ at + k }
 {
-    let mut i = k;
     let mut rest = n;
-    while i > 0 {
-        i -= 1;
+    for i in (0..k).rev() {
         out[at + i] = digit_of(rest % base);
         rest /= base;
     }
@@ -46,19 +49,11 @@ pub fn put_digits(out: &mut [u8], at: usize, base: u64, k: usize, n: u64) -> usi
 fn width_of(n: u64) -> usize
     ensures { result ≡ width n }
 {
-    let mut rest = n;
-    let mut k: usize = 1;
-    while k < MOST_DIGITS {
-        if rest < 10 {
-            return k;
-        }
-        rest /= 10;
-        k += 1;
-    }
-    k
+    n.max(1).ilog10() as usize + 1
 }
 
 // A number in decimal digits.
+#[tactic(auto, using(crate::proofs::Digits::width_most))]
 fn put_decimal(out: &mut [u8], at: usize, n: u64) -> usize
     requires { at + 20 ≤ length out.old }
     ensures out_after { out.new ≡ put_at at (decimal n) out.old }
@@ -68,6 +63,7 @@ fn put_decimal(out: &mut [u8], at: usize, n: u64) -> usize
 }
 
 // Two numbers with a space between.
+#[tactic(auto, using(crate::proofs::Digits::decimal_most))]
 pub fn put_pair(out: &mut [u8], at: usize, a: u64, b: u64) -> usize
     requires { at + 41 ≤ length out.old }
     ensures out_after { out.new ≡ put_at at (pair a b) out.old }
@@ -88,6 +84,7 @@ pub fn put_end(out: &mut [u8], at: usize) -> usize
 }
 
 // Two numbers on a line.
+#[tactic(auto, using(crate::proofs::Digits::pair_most))]
 pub fn put_line(out: &mut [u8], at: usize, a: u64, b: u64) -> usize
     requires { at + 42 ≤ length out.old }
     ensures out_after { out.new ≡ put_at at (line a b) out.old }

@@ -52,6 +52,7 @@ fn extend(
     let name = num(ws, s, v + 2 + i);
     let heads = s.constructors + OTHER_HEADS;
     let mut m = n;
+    // From head to head of the set: each turn seeks the next one, which no range does.
     let mut h = next_of_two(names, name, 0, heads);
     while h < heads {
         m = extend(

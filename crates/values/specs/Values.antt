@@ -1,7 +1,7 @@
 -- The values of names and of classes as sets of bits, and where each name's entries begin.
-use Rattle.std.specs.Prelude.{ℕ, ◌+◌, ◌*◌, ◌/◌, ◌≤◌, ◌<◌, ◌≡◌, Bool, true, false, List, eqb, leb}
+use Rattle.std.specs.Prelude.{ℕ, ◌+◌, ◌*◌, ◌/◌, ◌<◌, ◌≡◌, true, false, List, eqb}
 use Rattle.model.specs.declared.Sizes.{Sizes}
-use Rattle.model.specs.Words.{Columns, left, right}
+use Rattle.model.specs.Words.{Columns, right}
 use Rattle.model.specs.Rows.{Program, program, size, num}
 use Rattle.model.specs.Heads.{is_class_of}
 use Rattle.model.specs.Tables.{Tables, tables, has}
@@ -44,7 +44,3 @@ pub record MailSets (p : Program) (t : Tables) (mail : List ℕ) : Type 0 where
 pub record FlowReady (ws : List ℕ) (s : Sizes) (flow : List ℕ) : Type 0 where
   pub ready : Ready ws s
   pub names : FlowSets (program ws s) (tables ws s) flow
-
--- entry i begins with n or a number behind it
-unfoldable pub reaches : Columns → ℕ → ℕ → Bool
-reaches c n i = leb n (left c i)

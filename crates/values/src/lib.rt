@@ -1,16 +1,15 @@
 // The values of names and of classes as sets of bits: one set of `width` words for each, which refusal 8 stands on.
 #![tactic(auto)]
 
-ghost use Rattle.std.specs.Prelude.{◌≡◌, ◌+◌, ◌≤◌, ◌<◌, length};
-ghost use Rattle.model.specs.Index.{first};
+ghost use Rattle.std.specs.Prelude.{◌≡◌, ◌+◌, ◌<◌, length};
 ghost use Rattle.model.specs.Rows.{program};
 ghost use Rattle.model.specs.Tables.{tables};
 ghost use Rattle.program.specs.Rows.{Whole};
-ghost use Rattle.lists.specs.Lists.{Held, listed, Starts};
+ghost use Rattle.lists.specs.Lists.{Starts};
 ghost use Rattle.lists.specs.Ready.{Ready};
-ghost use Rattle.values.specs.Values.{width, mail_set_of, Empty, Room, FlowSets, MailSets, reaches};
+ghost use Rattle.values.specs.Values.{width, mail_set_of, Empty, Room, FlowSets, MailSets};
 
-use lists::{Span, flow, left, mail, right};
+use lists::{flow, left, mail, reach, right};
 use model::Sizes;
 use program::rows::num;
 use sets::put;
@@ -63,22 +62,6 @@ pub fn fill_mail(ws: &[u16], s: Sizes, sets: &mut [u64])
     }
 }
 
-// The first entry from i on that begins with n or a number behind it.
-fn reach(ws: &[u16], l: Span, n: usize, i: usize) -> usize
-    requires held { Held ws.now l }
-    requires i_le_size { i ≤ l.size }
-    ensures { result ≡ first i l.size (reaches (listed ws.now l) n) }
-{
-    let mut k = i;
-    while k < l.size {
-        if left(ws, l, k) >= n {
-            return k;
-        }
-        k += 1;
-    }
-    k
-}
-
 // Where the entries of each name begin, and behind them where those of the last end.
 pub fn fill_starts(ws: &[u16], s: Sizes, starts: &mut [u16])
     requires ready { Ready ws.now s }
@@ -87,10 +70,8 @@ pub fn fill_starts(ws: &[u16], s: Sizes, starts: &mut [u16])
 {
     let l = flow(s);
     let mut i = 0;
-    let mut n = 0;
-    while n <= s.names {
+    for n in 0..s.names + 1 {
         i = reach(ws, l, n, i);
         starts[n] = i as u16;
-        n += 1;
     }
 }

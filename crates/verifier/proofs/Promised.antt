@@ -1,12 +1,9 @@
 -- The demands, the table of refusals, what is kept of the former gate, that no function is mailed and no bad met, of what the entry gives back.
 use Prim.Native.Nat.{ℕ, ◌≤◌}
 use native.Mathlib.Omega.{arith}
-use mathlib.Core.Logic.{◌↔◌}
 use mathlib.Core.Path.{◌≡◌, refl, sym, ap, subst, ◌∙◌}
 use mathlib.Core.List.{List, [], ◌∷◌}
 use lib.ListN.{length}
-use lib.Dec.{eqb}
-use borrow.Author.Tests.{eq-eqb}
 use Rattle.model.specs.declared.Verdict.{Verdict}
 use Rattle.model.specs.declared.Verdict.TheVariants.{Safe, Length, Size, Row, Name, Scope, Bad, Entry, Open, Counters, Ceiling, Start, Met, Leak, Space, FunctionMailed, Weights, Rise, Light}
 use Rattle.model.specs.Verdict.{number, place}
@@ -20,9 +17,7 @@ use Rattle.model.proofs.Longer.{messages_kept, longer_turned_away}
 use Rattle.model.proofs.Mailed.{no_function_mailed}
 use Rattle.model.proofs.Sums.{no_run_meets_a_bad}
 use Rattle.model.proofs.Demands.{safe_number}
-use Rattle.answers.specs.Safe.{is_safe_of}
 use Rattle.verifier.specs.Promises.{RefusalChangesNothing, SafeExactlyWhenSound, SystemIsWritten, RunsAreFollowed, RefusedExactlyByTheTable, AsTheFormerGate, MailboxesHoldNoFunction, RunsMeetNoBad}
-use Rattle.answers.proofs.Passing.{safe_only}
 
 safe_zero : (v : Verdict) → v ≡ Safe → number v ≡ 0
 unfolding number

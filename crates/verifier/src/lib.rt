@@ -9,7 +9,7 @@ ghost use Rattle.verifier.specs.Promises.{RefusalChangesNothing, SafeExactlyWhen
 ghost use Rattle.verifier.specs.Promises.{RunsAreFollowed, RefusedExactlyByTheTable, AsTheFormerGate};
 ghost use Rattle.verifier.specs.Promises.{MailboxesHoldNoFunction, RunsMeetNoBad};
 
-use answers::told_of;
+use answers::{Told, told_of};
 use checks_sized::verdict::verdict_of;
 use handed::part_of;
 
@@ -36,9 +36,7 @@ pub fn verify<'a>(message: &'a [u8], lent: &mut [u32], answer: &mut [usize; 2]) 
 {
     let words = lent.len();
     let v = verdict_of(message, lent);
-    let told = told_of(v);
-    let number = told.number;
-    let place = told.place;
+    let Told { number, place } = told_of(v);
     *answer = [number, place];
     part_of(message, words, v)
 }

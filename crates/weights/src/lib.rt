@@ -14,7 +14,8 @@ use ceilings::{fill_bounds, limit};
 use model::Sizes;
 use weights_form::weights_part;
 
-// The weights of all lines, and where each begins. As many words as there are weights are lent blank.
+// The weights of all lines, and where each begins. As many words as there are weights are lent blank. (Its twin for
+// ceilings is `ceilings::fill_limits`: docs/ARCHITECTURE.md names both, and what they share is `fill_bounds`.)
 pub fn fill_weights(ws: &[u16], s: Sizes, n: usize, weights: &mut [u16], starts: &mut [u16])
     requires whole { Whole ws.now s × (1 ≤ s.lines) × WeightsInForm ws.now s n }
     requires bounds_room { BoundsRoom n s.lines weights.old starts.old }
@@ -24,7 +25,8 @@ pub fn fill_weights(ws: &[u16], s: Sizes, n: usize, weights: &mut [u16], starts:
     fill_bounds(ws, weights_part(s), n, s.lines, weights, starts);
 }
 
-// The weight of counter x in line k of so many.
+// The weight of counter x in line k of so many: read as a limit is. (It stays a public function beside `limit`, for its
+// must-fail edit and the words of its callers.)
 pub fn weight(weights: &[u16], lines: usize, k: usize, x: usize) -> usize
     requires k_lt_lines { k < lines }
     requires row { Row weights.now lines x }

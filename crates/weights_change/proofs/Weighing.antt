@@ -1,22 +1,22 @@
 -- What a rule puts and takes by its kind, and the change as a signed number.
 use Prim.Native.Nat.{ℕ, zero, suc, ◌+◌, ◌^◌, ◌-◌, ◌≤◌, ◌<◌}
 use native.Mathlib.Omega.{arith}
-use mathlib.Core.Path.{◌≡◌, refl, ap}
-use mathlib.Core.Bool.{false}
+use mathlib.Core.Path.{◌≡◌, refl, sym, ap, ap₂}
+use mathlib.Core.Bool.{Bool, true, false}
 use mathlib.Core.List.{List}
-use lib.Dec.{ltb}
+use lib.Dec.{ltb, leb, eqb}
 use lib.IntN.{ℤ, pos, negsuc, sub_ℕ, ◌-ℤ◌}
 use lib.Signed.{mag, lt_z}
 use mir.Syntax.{w32}
 use mir.Val.{SFits, to_z, of_z}
 use mir.Facts.{to_z-of_z}
-use borrow.Author.Tests.{lt-ltb, le-ltb, ltb-true, ltb-false}
+use borrow.Author.Tests.{lt-ltb, le-ltb, ltb-true, ltb-false, leb-true, leb-false, eqb-true, eqb-false}
 use Rattle.model.specs.Weights.{Line, effect_put, effect_took, weight_put_of, weight_taken_of, above_zero}
 use Rattle.model.proofs.Logic.{test}
 use Rattle.steps.specs.declared.Step.{Step}
 use Rattle.steps.specs.Steps.{effect_of, rule_of_step}
 use Rattle.ceilings.specs.Table.{held}
-use Rattle.weights_change.specs.Changes.{weight_of}
+use Rattle.weights_change.specs.Changes.{weight_of, weight_with_of}
 
 -- the weight of a counter
 pub weight_below : (weights : List ℕ) (lines n k x : ℕ) → x < n → held weights lines k x ≡ weight_of weights lines n k x
@@ -54,22 +54,30 @@ took_other : (w : Line) (kind x : ℕ) → kind ≡ 1 → effect_took w (effect_
 unfolding effect_took effect_of
 took_other w kind x h = rw h
 
-module _ (w : Line) (σ : Step) where
-  pub puts_alone : (a : ℕ) → a ≡ w σ.to → σ.kind < 2 → a ≡ weight_put_of w (rule_of_step σ)
-  unfolding weight_put_of rule_of_step
-  puts_alone a e h = omega (arith, e, put_none w σ.kind σ.other h)
+-- the weight of one counter or of two
+module _ (w : Line) (x y a : ℕ) (one : a ≡ w x) where
+  pub with_none : (b : Bool) → b ≡ false → a ≡ weight_with_of w x b y
+  unfolding weight_with_of
+  with_none b f = rw f one
 
-  pub puts_both : (a b : ℕ) → a ≡ w σ.to → b ≡ w σ.other → 2 ≤ σ.kind → σ.kind ≤ 3 → a + b ≡ weight_put_of w (rule_of_step σ)
-  unfolding weight_put_of rule_of_step
-  puts_both a b e f h l = omega (arith, e, f, put_other w σ.kind σ.other h l)
+  pub with_both : (b : Bool) (o : ℕ) → b ≡ true → o ≡ w y → a + o ≡ weight_with_of w x b y
+  unfolding weight_with_of
+  with_both b o t e = rw t (ap₂ (λ u v. u + v) one e)
 
-  pub takes_alone : (a : ℕ) → a ≡ w σ.from → (σ.kind ≡ 1 → ⊥) → σ.kind ≤ 3 → a ≡ weight_taken_of w (rule_of_step σ)
-  unfolding weight_taken_of rule_of_step
-  takes_alone a e h l = omega (arith, e, took_none w σ.kind σ.other h l)
+module _ (w : Line) (σ : Step) (small : σ.kind ≤ 3) where
+  pub puts : weight_with_of w σ.to (leb 2 σ.kind) σ.other ≡ weight_put_of w (rule_of_step σ)
+  unfolding weight_put_of rule_of_step weight_with_of
+  puts =
+      test (leb 2 σ.kind)
+      (λ t. rw t (ap (λ z. w σ.to + z) (sym (put_other w σ.kind σ.other (leb-true _ _ t) small))))
+      (λ f. let low = leb-false 2 σ.kind f in rw f (omega (arith, put_none w σ.kind σ.other low)))
 
-  pub takes_both : (a b : ℕ) → a ≡ w σ.from → b ≡ w σ.other → σ.kind ≡ 1 → a + b ≡ weight_taken_of w (rule_of_step σ)
-  unfolding weight_taken_of rule_of_step
-  takes_both a b e f h = omega (arith, e, f, took_other w σ.kind σ.other h)
+  pub takes : weight_with_of w σ.from (eqb σ.kind 1) σ.other ≡ weight_taken_of w (rule_of_step σ)
+  unfolding weight_taken_of rule_of_step weight_with_of
+  takes =
+      test (eqb σ.kind 1)
+      (λ t. rw t (ap (λ z. w σ.from + z) (sym (took_other w σ.kind σ.other (eqb-true _ _ t)))))
+      (λ f. rw f (omega (arith, took_none w σ.kind σ.other (eqb-false _ _ f) small)))
 
 -- Signed numbers
 

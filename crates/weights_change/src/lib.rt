@@ -7,7 +7,7 @@ ghost use Rattle.model.specs.Limits.{omega_limit};
 ghost use Rattle.model.specs.Index.{first};
 ghost use Rattle.model.specs.Weights.{weight_put_of, weight_taken_of, change, above_zero, raised};
 ghost use Rattle.steps.specs.Steps.{rule_of_step};
-ghost use Rattle.weights_change.specs.Changes.{weight_of, step_rules};
+ghost use Rattle.weights_change.specs.Changes.{weight_of, weight_with_of, step_rules};
 
 use lists::word;
 use steps::Step;
@@ -26,6 +26,28 @@ fn weight_at(weights: &[u16], lines: usize, n: usize, k: usize, x: usize) -> usi
     }
 }
 
+// The weight of counter x in line k, and with it that of counter y where a rule of this kind names both.
+fn weight_with(
+    weights: &[u16],
+    lines: usize,
+    n: usize,
+    k: usize,
+    x: usize,
+    is_both: bool,
+    y: usize,
+) -> usize
+    requires { (k < lines) × (n * lines ≤ length weights.now) }
+    ensures value { result ≡ weight_with_of (weight_of weights.now lines n k) x is_both y }
+    ensures upper_bound { result ≤ 2 * omega_limit }
+{
+    let first = weight_at(weights, lines, n, k, x);
+    if is_both {
+        first + weight_at(weights, lines, n, k, y)
+    } else {
+        first
+    }
+}
+
 // The weights that a rule puts: that of its to counter, and that of the letter put or of the new state.
 fn weight_put(weights: &[u16], lines: usize, n: usize, k: usize, step: Step) -> usize
     requires k_lt_lines { (k < lines) × (n * lines ≤ length weights.now) }
@@ -33,11 +55,7 @@ fn weight_put(weights: &[u16], lines: usize, n: usize, k: usize, step: Step) -> 
     ensures value { result ≡ weight_put_of (weight_of weights.now lines n k) (rule_of_step step) }
     ensures upper_bound { result ≤ 2 * omega_limit }
 {
-    let to = weight_at(weights, lines, n, k, step.to);
-    if step.kind < 2 {
-        return to;
-    }
-    to + weight_at(weights, lines, n, k, step.other)
+    weight_with(weights, lines, n, k, step.to, 2 <= step.kind, step.other)
 }
 
 // The weights that a rule takes: that of its from counter, and that of the letter read.
@@ -47,11 +65,7 @@ fn weight_taken(weights: &[u16], lines: usize, n: usize, k: usize, step: Step) -
     ensures value { result ≡ weight_taken_of (weight_of weights.now lines n k) (rule_of_step step) }
     ensures upper_bound { result ≤ 2 * omega_limit }
 {
-    let from = weight_at(weights, lines, n, k, step.from);
-    if step.kind != 1 {
-        return from;
-    }
-    from + weight_at(weights, lines, n, k, step.other)
+    weight_with(weights, lines, n, k, step.from, step.kind == 1, step.other)
 }
 
 // What is put minus what is taken, signed: neither is more than two words, so that it fits.

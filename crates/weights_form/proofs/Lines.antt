@@ -4,22 +4,21 @@ use native.Mathlib.Decide.{dec_lt}
 use native.Mathlib.Omega.{arith}
 use mathlib.Core.Path.{◌≡◌, refl, sym, ◌∙◌, ap}
 use mathlib.Core.List.{List}
+use Rattle.std.proofs.Common.{Option, Some, None, Ok, Err}
 use Rattle.model.specs.Limits.{present, max_weight}
 use Rattle.model.specs.declared.Sizes.{Sizes}
-use Rattle.model.specs.declared.Verdict.TheVariants.{Safe, Weights}
+use Rattle.model.specs.declared.Verdict.TheVariants.{Weights}
 use Rattle.model.specs.Words.{left, right, columns}
 use Rattle.model.specs.Message.{ceilings_offset, weights_offset}
 use Rattle.model.specs.Reader.{first_wrong_of}
 use Rattle.model.specs.Ceilings.{Ahead, ceiling_step, ceilings_ahead, ceiling_entry}
 use Rattle.model.specs.Weights.{weight_entries, weight_step, weight_check_of, line_entry}
-use Rattle.model.specs.Verify.{answer}
+use Rattle.model.specs.Verify.{outcome}
 use Rattle.model.specs.Demands.{WithinLimits}
 use Rattle.model.proofs.Exact.Parts.{end_some}
 use Rattle.model.proofs.Weighed.Form.{entry_small}
 use Rattle.program.proofs.Columns.{part_past}
 use Rattle.ceilings_form.specs.declared.entries.Part.{Part}
-use Rattle.ceilings_form.specs.declared.entries.Form.{Form}
-use Rattle.ceilings_form.specs.declared.entries.Form.TheVariants.{Right, Wrong}
 use Rattle.ceilings_form.specs.Parts.{Whole, part_entries, PartHeld, told}
 use Rattle.ceilings_form.specs.Limits.{FormOf}
 use Rattle.ceilings_form.proofs.Agreeing.{after_same, first_wrong_same, as_ceilings}
@@ -45,19 +44,19 @@ unfolding weights_offset ceilings_offset
 begins_low s h = omega arith
 
 module _ (ws : List ℕ) (s : Sizes) (n : ℕ) where
-  module _ (part : Part) (f : Form) (here : part ≡ weights_part_of s) (h : told f ≡ first_wrong_of (weight_step n) (part_entries ws part) (ceilings_ahead s.lines)) where
+  module _ (part : Part) (f : Option ℕ) (here : part ≡ weights_part_of s) (h : told f ≡ first_wrong_of (weight_step n) (part_entries ws part) (ceilings_ahead s.lines)) where
     by_weights : told f ≡ first_wrong_of (weight_step n) (weight_entries ws s) (ceilings_ahead s.lines)
     by_weights = rw (here, part_of ws s) at h
 
-    pub weights_pass : f ≡ Right → Safe ≡ answer (weight_check_of ws s n)
+    pub weights_pass : f ≡ None → Ok tt ≡ outcome (weight_check_of ws s n)
     unfolding weight_check_of
     weights_pass e = passed (λ i. Weights (weights_offset s + 2 + i)) _ f by_weights e
 
-    pub weight_wrong : (e : ℕ) → f ≡ Wrong e → Weights (part.at + e) ≡ answer (weight_check_of ws s n)
+    pub weight_wrong : (e : ℕ) → f ≡ Some e → Err (Weights (part.at + e)) ≡ outcome (weight_check_of ws s n)
     unfolding weight_check_of weights_part_of
     weight_wrong e q = rw here (refused (λ i. Weights (weights_offset s + 2 + i)) _ f by_weights e q)
 
-    pub place_low : WithinLimits present s → (e : ℕ) → f ≡ Wrong e → part.at + e < 2 ^ 32
+    pub place_low : WithinLimits present s → (e : ℕ) → f ≡ Some e → part.at + e < 2 ^ 32
     unfolding weights_part_of weight_entries columns
     place_low limits e q =
         let a : part.at ≡ weights_offset s + 2 = ap (λ (k : Part). k.at) here in

@@ -6,7 +6,9 @@ use native.Mathlib.Nat.{mul-add, mul-zero, mul-le-mul_left, mul-le-mul_right}
 use mathlib.Core.Path.{◌≡◌, refl, sym, ◌∙◌, ap}
 use mathlib.Core.Bool.{Bool, true, false}
 use mathlib.Core.List.{List}
-use lib.ListN.{length, get_or, set}
+use mathlib.Core.List.{◌++◌}
+use lib.ListN.{length, get_or, set, replicate, get_or-append}
+use Rattle.std.proofs.lemmas.List.{get_or-replicate, length-replicate}
 use lib.Seq.{get_or-set_same, get_or-set_other}
 use lib.Dec.{eqb}
 use borrow.Author.Tests.{lt-ltb, le-ltb, eqb-true, eq-eqb, ne_eqb}
@@ -165,3 +167,9 @@ module _ (p : Program) (t : Tables) (w w' : Line) (i : Item) (from to : ℕ) (ra
       let a = fill_weighs p t w' i (counts_in all before) y y_is y_below in
       let b : weight ≡ w' y * (i.minimum - sum_in p t (counts_in all before) i.subject) = put.weighs ∙ rw (same y put.lightest.above put.lightest.below, lacks) refl in
       rw b (a ∙ ap (weighed all w') (sym filled_in))
+
+-- words filled with 0, and those behind them
+pub none_filled : (filled rest : List ℕ) (k m : ℕ) → length filled ≡ k → filled ≡ replicate m 0 → (x : ℕ) → x < k → get_or (filled ++ rest) x 0 ≡ 0
+none_filled filled rest k m l e x h =
+    let low : x < m = omega (arith, h, l, ap length e, length-replicate {A = ℕ} m 0) in
+    get_or-append filled rest 0 x (omega (arith, h, l)) ∙ (ap (λ t. get_or t x 0) e ∙ get_or-replicate m x 0 0 low)

@@ -31,9 +31,7 @@ fn clear(n: usize, counts: &mut [Count])
     requires { n ≤ length counts.old }
     ensures { counts_in n counts.new ≡ (λ x. 0) }
 {
-    for x in 0..n {
-        counts[x] = 0;
-    }
+    counts[..n].fill(0);
 }
 
 // The sum of the counts from `from` below `to`.
@@ -41,6 +39,7 @@ fn sum_over(counts: &[Count], from: usize, to: usize) -> usize
     requires { (to ≤ max_counters) × (to ≤ length counts.now) }
     ensures { result ≡ total from to (λ x. get_or counts.now x 0) }
 {
+    // (`counts[from..to].iter().map(..).sum()` was tried: its proof, over the iterator's runs, did not close.)
     let mut sum: usize = 0;
     for x in from..to {
         sum += counts[x] as usize;
@@ -54,6 +53,7 @@ fn lightest_of(weights: &[u16], lines: usize, k: usize, from: usize, to: usize) 
     requires lines_in_bounds { to * lines ≤ length weights.now }
     ensures { LightestIn (held weights.now lines k) from to result }
 {
+    // (The range is not empty, which `min_by_key` can't say: it gives an `Option`.)
     let mut best = from;
     let mut least = weight(weights, lines, k, from);
     for x in from + 1..to {
@@ -178,6 +178,7 @@ fn put_items(
         (counts_in (counters_of ws.now s) counts.new) result }
     ensures upper_bound { result ≤ 260 * most_put }
 {
+    // A walk from item to item, which are of several lengths: no index is counted.
     let mut i = r;
     let mut total: Weight = 0;
     loop {

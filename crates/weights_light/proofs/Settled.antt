@@ -4,11 +4,12 @@ use native.Mathlib.Omega.{arith}
 use mathlib.Core.Path.{◌≡◌, refl, sym, ◌∙◌, ap}
 use mathlib.Core.Bool.{Bool, true, false, not}
 use mathlib.Core.List.{List}
+use Rattle.std.proofs.Common.{Ok, Err}
 use lib.ListN.{length, get_or}
 use lib.Dec.{ltb}
 use borrow.Author.Tests.{lt-ltb, le-ltb}
 use Rattle.model.specs.declared.Sizes.{Sizes}
-use Rattle.model.specs.declared.Verdict.TheVariants.{Safe, Light}
+use Rattle.model.specs.declared.Verdict.TheVariants.{Light}
 use Rattle.model.specs.Index.{any, first}
 use Rattle.model.specs.Words.{Columns, left}
 use Rattle.model.specs.Message.{bads_offset}
@@ -18,7 +19,7 @@ use Rattle.model.specs.Closed.{start_state}
 use Rattle.model.specs.Bads.{bad_rows, bad_row_of, past_heads_of, items}
 use Rattle.model.specs.Counters.{counter_count, counts}
 use Rattle.model.specs.Weights.{lines_of, start_weight, least_weight_of, without_counter, is_settled_of, light_check_of}
-use Rattle.model.specs.Verify.{answer}
+use Rattle.model.specs.Verify.{outcome}
 use Rattle.model.proofs.Index.{any_intro, any_hit, any_miss, none_any}
 use Rattle.model.proofs.Weighed.Form.{start_weighs}
 use Rattle.ceilings.specs.Table.{held}
@@ -115,10 +116,10 @@ module _ (ws : List ℕ) (s : Sizes) where
     unfolding items items_at
     unsettled_at j r b w e = rw (← bads_row ws s j r w) (ap not (sym e))
 
-    pub light_refused : (j r at : ℕ) → first 0 s.bads unsettled ≡ j → j < s.bads → BadsWalked ws s j r → at ≡ bads_offset s + 2 → Light (at + r) ≡ answer (light_check_of s p t (lines_of ws s n) rows)
+    pub light_refused : (j r at : ℕ) → first 0 s.bads unsettled ≡ j → j < s.bads → BadsWalked ws s j r → at ≡ bads_offset s + 2 → Err (Light (at + r)) ≡ outcome (light_check_of s p t (lines_of ws s n) rows)
     unfolding light_check_of
     light_refused j r at e below w z = rw (z, bads_row ws s j r w) (first_refused (first 0 s.bads unsettled) j s.bads (λ i. Light (bads_offset s + 2 + bad_row_of p rows i)) e (λ q. omega arith))
 
-    pub light_passed : first 0 s.bads unsettled ≡ s.bads → Safe ≡ answer (light_check_of s p t (lines_of ws s n) rows)
+    pub light_passed : first 0 s.bads unsettled ≡ s.bads → Ok tt ≡ outcome (light_check_of s p t (lines_of ws s n) rows)
     unfolding light_check_of
     light_passed e = first_passed (first 0 s.bads unsettled) s.bads (λ i. Light (bads_offset s + 2 + bad_row_of p rows i)) e

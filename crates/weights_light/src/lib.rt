@@ -6,7 +6,7 @@ ghost use Rattle.model.specs.Rows.{program};
 ghost use Rattle.model.specs.Tables.{tables};
 ghost use Rattle.model.specs.Bads.{bad_rows};
 ghost use Rattle.model.specs.Weights.{lines_of, without_counter, is_settled_of, light_check_of};
-ghost use Rattle.model.specs.Verify.{answer};
+ghost use Rattle.model.specs.Verify.{outcome};
 ghost use Rattle.bits.specs.Bits.{Row};
 ghost use Rattle.ceilings_form.specs.Parts.{Whole};
 ghost use Rattle.ceilings.specs.Table.{held};
@@ -26,6 +26,7 @@ fn lacks_counter(ws: &[u16], s: Sizes, froms: &[u16], tos: &[u16], r: usize) -> 
     ensures { result ≡ without_counter (program ws.now s) (tables ws.now s)
         (items_at (bad_rows ws.now s) r) }
 {
+    // A walk from item to item, which are of several lengths: no index is counted.
     let mut i = r;
     loop {
         if bad_tag(ws, s, i) != TAG_CLASS {
@@ -88,11 +89,11 @@ pub fn light_check(
     tos: &[u16],
     x0: usize,
     counts: &mut [Count],
-) -> Verdict
+) -> Result<(), Verdict>
     requires weighing { Weighing ws.now s n weights.now froms.now tos.now x0 }
     requires bads_in_form { BadsInForm ws.now s }
     requires n_in_bounds { n ≤ length counts.old }
-    ensures { result ≡ answer (light_check_of s (program ws.now s) (tables ws.now s)
+    ensures { result ≡ outcome (light_check_of s (program ws.now s) (tables ws.now s)
         (lines_of ws.now s n) (bad_rows ws.now s)) }
 {
     let at = 4 + 2 * s.rows + 2;
@@ -100,9 +101,9 @@ pub fn light_check(
     for j in 0..s.bads {
         if !is_settled(ws, s, n, weights, froms, tos, x0, r, counts) {
             let here = at + r;
-            return Verdict::Light(here);
+            return Err(Verdict::Light(here));
         }
         r = next_bad(ws, s, r);
     }
-    Verdict::Safe
+    Ok(())
 }

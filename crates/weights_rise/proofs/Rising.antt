@@ -3,18 +3,17 @@ use Prim.Native.Nat.{ℕ, ◌+◌, ◌*◌, ◌≤◌, ◌<◌, zero-le}
 use native.Mathlib.Decide.{dec_lt}
 use native.Mathlib.Omega.{arith}
 use mathlib.Core.Path.{◌≡◌, refl, sym, ◌∙◌, ap, ap₂}
-use mathlib.Core.Bool.{Bool, true, false, ◌||◌}
+use mathlib.Core.Bool.{Bool, ◌||◌}
 use mathlib.Core.List.{List, [], ◌∷◌, ◌++◌, Memᴰ}
 use lib.ListN.{length, get_or}
 use lib.Dec.{eqb}
 use lib.IntN.{sub_ℕ}
-use borrow.Author.Tests.{eq-eqb, ne_eqb}
+use borrow.Author.Tests.{eq-eqb}
 use Rattle.model.specs.declared.Sizes.{Sizes}
-use Rattle.model.specs.declared.Verdict.{Verdict}
-use Rattle.model.specs.declared.Verdict.TheVariants.{Safe, Rise}
+use Rattle.model.specs.declared.Verdict.TheVariants.{Rise}
 use Rattle.model.specs.Verdict.{unless}
 use Rattle.model.specs.Message.{weights_offset}
-use Rattle.model.specs.Verify.{answer}
+use Rattle.model.specs.Verify.{outcome}
 use Rattle.model.specs.Index.{first, gather}
 use Rattle.model.specs.Words.{right}
 use Rattle.model.specs.Rows.{Program, program, tag}
@@ -22,6 +21,7 @@ use Rattle.model.specs.Tables.{Tables, tables, state_at}
 use Rattle.model.specs.Counters.{counter_count}
 use Rattle.model.specs.Rules.{Effect, quiet, reads, puts, starts, Rule, state_rules_of, rules}
 use Rattle.model.specs.Weights.{weight_entries, Line, lines_of, effect_put, effect_took, weight_put_of, weight_taken_of, change, above_zero, raised, rise_check_of}
+use Rattle.model.proofs.Outcome.{passes_unless}
 use Rattle.model.proofs.Index.{first_is, first_unique, gather_end, gather_turn}
 use Rattle.model.proofs.Bounded.Fire.{Apart, Shaped}
 use Rattle.model.proofs.Bounded.Shaped.{rules_shaped}
@@ -137,24 +137,14 @@ module _ (ws : List ℕ) (s : Sizes) (n : ℕ) (weights : List ℕ) (table : Wei
       (λ k h. raised_same (weight_of weights s.lines n k) ((lines_of ws s n).weight k) (rules (program ws s) (tables ws s))
       (λ ρ m. change_same n _ _ (λ x l. weighs k x h l) ρ (rw counted (rules_shaped (program ws s) (tables ws s) ρ m)) (rw counted (rules_low (program ws s) (tables ws s) ρ m))))
 
--- the answer by the first line raised
-module _ (line lines : ℕ) (v : Verdict) where
-  pub safe_at : line ≡ lines → Safe ≡ answer (unless (eqb line lines) v)
-  unfolding unless answer
-  safe_at e = rw (eq-eqb line lines e)
-
-  pub raised_at : (line ≡ lines → ⊥) → v ≡ answer (unless (eqb line lines) v)
-  unfolding unless answer
-  raised_at e = rw (ne_eqb line lines e)
-
 module _ (ws : List ℕ) (s : Sizes) (n : ℕ) (starts' : List ℕ) (begins : BeginsTable n (weight_entries ws s) s.lines starts') (ρs : List Rule) where
-  pub rise_told : (line : ℕ) → line ≡ first 0 s.lines (λ k. raised ((lines_of ws s n).weight k) ρs) → line ≤ s.lines → answer (unless (eqb line s.lines) (Rise (weights_offset s + 2 + get_or starts' line 0))) ≡ answer (rise_check_of ws s (lines_of ws s n) ρs)
+  pub rise_told : (line : ℕ) → line ≡ first 0 s.lines (λ k. raised ((lines_of ws s n).weight k) ρs) → line ≤ s.lines → outcome (unless (eqb line s.lines) (Rise (weights_offset s + 2 + get_or starts' line 0))) ≡ outcome (rise_check_of ws s (lines_of ws s n) ρs)
   unfolding rise_check_of lines_of
   rise_told line e l =
       rw (← e)
       (elim (dec_lt line s.lines) [
-        | yes b ↦ ap (λ x. answer (unless (eqb line s.lines) (Rise (weights_offset s + 2 + x)))) (begins.start line b)
+        | yes b ↦ ap (λ x. outcome (unless (eqb line s.lines) (Rise (weights_offset s + 2 + x)))) (begins.start line b)
         | no b ↦
             let z : line ≡ s.lines = omega arith in
-            sym (safe_at line s.lines _ z) ∙ safe_at line s.lines _ z
+            sym (passes_unless _ _ (eq-eqb line s.lines z)) ∙ passes_unless _ _ (eq-eqb line s.lines z)
       ])

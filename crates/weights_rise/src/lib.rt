@@ -1,7 +1,7 @@
 // Refusal 17: a rule raises a line's weighed sum. The rules are counted on the way.
 #![tactic(auto)]
 
-ghost use Rattle.std.specs.Prelude.{◌≡◌, ◌+◌, ◌≤◌, length, get_or, eqb};
+ghost use Rattle.std.specs.Prelude.{◌≡◌, ◌+◌, ◌≤◌, length, get_or, eqb, IfOk};
 ghost use Rattle.model.specs.declared.Verdict.TheVariants.{Rise};
 ghost use Rattle.model.specs.Limits.{present};
 ghost use Rattle.model.specs.Index.{first};
@@ -12,7 +12,7 @@ ghost use Rattle.model.specs.Tables.{tables};
 ghost use Rattle.model.specs.Counters.{counter_count};
 ghost use Rattle.model.specs.Rules.{rules};
 ghost use Rattle.model.specs.Weights.{lines_of, raised, rise_check_of};
-ghost use Rattle.model.specs.Verify.{answer};
+ghost use Rattle.model.specs.Verify.{judged, outcome};
 ghost use Rattle.model.specs.Demands.{WithinLimits};
 ghost use Rattle.rules.specs.Derived.{RuleRoom};
 ghost use Rattle.rule_tables.specs.Joined.{JoinedTables};
@@ -29,17 +29,12 @@ use system_totals::{Totals, row_total, state_head};
 use weights_change::first_raised_by;
 
 // How many rules and rows there are, and the first line that a rule raises; the number of lines where none is raised.
+// (That is the model's `first`, and the bound below which the next state is tested: an `Option` would be taken apart
+// for either.)
 #[derive(Clone, Copy)]
 struct Risen {
     totals: Totals,
     line: usize,
-}
-
-// The verdict, and the totals of the rules.
-#[derive(Clone, Copy)]
-pub struct Rises {
-    pub verdict: Verdict,
-    pub totals: Totals,
 }
 
 // The states one after the other, each with all its rules: a line is tested only below the first one raised so far.
@@ -82,18 +77,18 @@ fn raised_line(
 }
 
 // The place of the first line raised: its first entry.
-fn verdict_at(s: Sizes, starts: &[u16], line: usize) -> Verdict
+fn verdict_at(s: Sizes, starts: &[u16], line: usize) -> Result<(), Verdict>
     requires within_limits { WithinLimits present s }
     requires line_le_lines { (line ≤ s.lines) × (s.lines ≤ length starts.now) }
     ensures { result ≡
-        answer (unless (eqb line s.lines) (Rise (weights_offset s + 2 + get_or starts.now line 0))) }
+        outcome (unless (eqb line s.lines) (Rise (weights_offset s + 2 + get_or starts.now line 0))) }
 {
     if line == s.lines {
-        return Verdict::Safe;
+        return Ok(());
     }
     let first = starts[line] as usize;
     let place = weights_at(s) + 2 + first;
-    Verdict::Rise(place)
+    Err(Verdict::Rise(place))
 }
 
 // Refusal 17: the first line that a rule raises, at its first entry. Nothing is promised of the guesses and of the
@@ -111,19 +106,18 @@ pub fn rise_check(
     at: &mut [u16],
     tos: &mut [u16],
     others: &mut [u16],
-) -> Rises
+) -> Result<Totals, Verdict>
     requires joined_tables { JoinedTables ws.now s narrow.now fitting.now names.now letters.now }
     requires weights_ready { WeightsReady ws.now s n weights.now starts.now }
     requires rule_room { RuleRoom ws.now s tos.old others.old × (length tos.old ≤ 65536) }
-    ensures verdict_value { result.verdict ≡
-        answer (rise_check_of ws.now s (lines_of ws.now s n)
+    ensures value { judged result ≡
+        outcome (rise_check_of ws.now s (lines_of ws.now s n)
         (rules (program ws.now s) (tables ws.now s))) }
-    ensures totalled { Totalled (program ws.now s) (tables ws.now s) result.totals }
+    ensures totalled { IfOk result (Totalled (program ws.now s) (tables ws.now s)) }
 {
     let risen = raised_line(
         ws, s, narrow, fitting, names, letters, n, weights, at, tos, others,
     );
-    let verdict = verdict_at(s, starts, risen.line);
-    let totals = risen.totals;
-    Rises { verdict, totals }
+    verdict_at(s, starts, risen.line)?;
+    Ok(risen.totals)
 }

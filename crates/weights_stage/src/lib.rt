@@ -3,17 +3,16 @@
 #![tactic(auto)]
 
 ghost use Rattle.std.specs.Prelude.{◌≡◌, ◌≤◌, length};
-ghost use Rattle.model.specs.Verify.{answer};
+ghost use Rattle.model.specs.Verify.{outcome};
 ghost use Rattle.rules.specs.Derived.{RuleRoom};
 ghost use Rattle.rule_tables.specs.Joined.{JoinedTables};
 ghost use Rattle.system_space.specs.Space.{words_after};
 ghost use Rattle.stages.specs.Order.{below_weights};
 ghost use Rattle.ceilings.specs.Table.{BoundsRoom};
-ghost use Rattle.stages.specs.Scratch.{Lined};
+ghost use Rattle.stages.specs.Scratch.{Lined, ListsFit, WeightsFit};
 
-use answers::is_safe;
 use model::{Sizes, Verdict};
-use rooms::{row_words16, words16_66, words16_258, words16_2048, words16_16384};
+use rooms::{ROW_ROOM, row_words16, words16};
 use rule_tables::LETTER_AT;
 use stages::light_verdict;
 use system_space::space_verdict;
@@ -36,24 +35,20 @@ fn weights_on(
     tos: &mut [u16],
     others: &mut [u16],
     lent: &mut [u32],
-) -> Verdict
+) -> Result<(), Verdict>
     requires joined_tables { JoinedTables ws.now s narrow.now fitting.now names.now letters.now }
     requires lined { Lined ws.now s n }
     requires bounds_room { BoundsRoom n s.lines weights.old starts.old × (n ≤ length counts.old) }
     requires rule_room { RuleRoom ws.now s tos.old others.old × (length tos.old ≤ 65536) }
-    ensures value { result ≡ answer (below_weights ws.now s n (length lent.old)) }
+    ensures value { result ≡ outcome (below_weights ws.now s n (length lent.old)) }
     ensures lent_after { lent.new ≡ words_after result ws.now s lent.old }
 {
     fill_weights(ws, s, n, weights, starts);
     let mut at = row_words16();
-    let rises = rise_check(
+    let totals = rise_check(
         ws, s, narrow, fitting, names, letters, n, weights, starts, &mut at, tos, others,
-    );
-    let raised = rises.verdict;
-    if !is_safe(raised) {
-        return raised;
-    }
-    let light = light_verdict(
+    )?;
+    light_verdict(
         ws,
         s,
         narrow,
@@ -62,18 +57,14 @@ fn weights_on(
         n,
         weights,
         counts,
-    );
-    if !is_safe(light) {
-        return light;
-    }
-    let totals = rises.totals;
+    )?;
     space_verdict(
         ws, s, narrow, fitting, names, letters, totals, &mut at, tos, others, lent,
     )
 }
 
-// Refusals 17, 18 and 14 of few counters.
-fn few_weights(
+// Refusals 17, 18 and 14 over weights, counts and lists of rules of these lengths.
+fn weights_over<const WEIGHTS: usize, const COUNTS: usize, const LIST: usize>(
     ws: &[u16],
     s: Sizes,
     narrow: &[u16],
@@ -82,56 +73,19 @@ fn few_weights(
     letters: &[u64],
     n: usize,
     lent: &mut [u32],
-) -> Verdict
+) -> Result<(), Verdict>
     requires joined_tables { JoinedTables ws.now s narrow.now fitting.now names.now letters.now }
     requires lined { Lined ws.now s n }
-    requires n_bound { n ≤ 96 }
-    ensures value { result ≡ answer (below_weights ws.now s n (length lent.old)) }
+    requires weights_fit { WeightsFit s n WEIGHTS COUNTS }
+    requires lists_fit { ListsFit n LIST }
+    ensures value { result ≡ outcome (below_weights ws.now s n (length lent.old)) }
     ensures lent_after { lent.new ≡ words_after result ws.now s lent.old }
 {
-    let mut weights = words16_2048();
-    let mut starts = words16_66();
-    let mut counts = words16_258();
-    let mut tos = row_words16();
-    let mut others = row_words16();
-    weights_on(
-        ws,
-        s,
-        narrow,
-        fitting,
-        names,
-        letters,
-        n,
-        &mut weights,
-        &mut starts,
-        &mut counts,
-        &mut tos,
-        &mut others,
-        lent,
-    )
-}
-
-// Refusals 17, 18 and 14 of any number.
-fn all_weights(
-    ws: &[u16],
-    s: Sizes,
-    narrow: &[u16],
-    fitting: &[u64],
-    names: &[u64],
-    letters: &[u64],
-    n: usize,
-    lent: &mut [u32],
-) -> Verdict
-    requires joined_tables { JoinedTables ws.now s narrow.now fitting.now names.now letters.now }
-    requires lined { Lined ws.now s n }
-    ensures value { result ≡ answer (below_weights ws.now s n (length lent.old)) }
-    ensures lent_after { lent.new ≡ words_after result ws.now s lent.old }
-{
-    let mut weights = words16_16384();
-    let mut starts = words16_66();
-    let mut counts = words16_2048();
-    let mut tos = words16_16384();
-    let mut others = words16_16384();
+    let mut weights = words16::<WEIGHTS>();
+    let mut starts = words16::<66>();
+    let mut counts = words16::<COUNTS>();
+    let mut tos = words16::<LIST>();
+    let mut others = words16::<LIST>();
     weights_on(
         ws,
         s,
@@ -162,18 +116,18 @@ pub fn weights_verdict(
     letters: &[u64],
     n: usize,
     lent: &mut [u32],
-) -> Verdict
+) -> Result<(), Verdict>
     requires le_most { 1 ≤ most }
     requires joined_tables { JoinedTables ws.now s narrow.now fitting.now names.now letters.now }
     requires lined { Lined ws.now s n }
-    ensures value { result ≡ answer (below_weights ws.now s n (length lent.old)) }
+    ensures value { result ≡ outcome (below_weights ws.now s n (length lent.old)) }
     ensures lent_after { lent.new ≡ words_after result ws.now s lent.old }
 {
     if most > 96 {
-        return all_weights(ws, s, narrow, fitting, names, letters, n, lent);
+        return weights_over::<16384, 2048, 16384>(ws, s, narrow, fitting, names, letters, n, lent);
     }
     if n <= most {
-        return few_weights(ws, s, narrow, fitting, names, letters, n, lent);
+        return weights_over::<2048, 258, ROW_ROOM>(ws, s, narrow, fitting, names, letters, n, lent);
     }
     weights_verdict(4 * most, ws, s, narrow, fitting, names, letters, n, lent)
 }

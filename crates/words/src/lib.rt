@@ -8,7 +8,7 @@ ghost use Rattle.model.specs.Words.{words};
 fn joined(low: u8, high: u8) -> u16
     ensures { result ≡ low + 256 * high }
 {
-    low as u16 + 256 * (high as u16)
+    u16::from_le_bytes([low, high])
 }
 
 // Word i of the bytes, which have it.
@@ -28,9 +28,7 @@ pub fn decode(bytes: &[u8], into: &mut [u16])
         words bytes.now ++ drop (length (words bytes.now)) into.old }
 {
     let count = bytes.len() / 2;
-    let mut i = 0;
-    while i < count {
+    for i in 0..count {
         into[i] = word(bytes, i);
-        i += 1;
     }
 }

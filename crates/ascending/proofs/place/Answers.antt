@@ -1,18 +1,10 @@
-use Prim.Native.Nat.{◌-◌}
-use native.Mathlib.Omega.{arith}
-use borrow.Author.Tests.{lt-ltb, le-ltb}
-use Rattle.lists.proofs.Halving.{between_all, between_up, between_down}
-use Rattle.ascending.proofs.Numbers.{words_fall, between_placed}
+use borrow.Author.Rules.{rules}
+use lib.Dec.{ltb}
+use Rattle.std.proofs.lemmas.List.Sorted.{IsPartitionPoint-from_clause}
+use Rattle.ascending.proofs.Numbers.{parted, part_placed}
 use Rattle.ascending.proofs.place.Goals as goal
 
-pub loop-low-init : goal.loop-low-init
-loop-low-init c = between_all _ _ _ c.requires.from_le_n.0
-
-pub loop-low-preserved-then-codes-mid : goal.loop-low-preserved-then-codes-mid
-loop-low-preserved-then-codes-mid c = between_up _ _ _ (words_fall _ c.requires.rising) _ _ _ c.loop-low.invariant (omega arith) (omega arith) (lt-ltb _ _ c.if-codes-mid.true)
-
-pub loop-low-preserved : goal.loop-low-preserved
-loop-low-preserved c = between_down _ _ _ (words_fall _ c.requires.rising) _ _ _ c.loop-low.invariant (omega arith) (omega arith) (le-ltb _ _ c.if-codes-mid.false)
-
 pub returns : goal.returns
-returns c = between_placed _ c.loop-low.invariant (omega (arith, c.loop-low-test.false))
+returns c =
+    let point = IsPartitionPoint-from_clause (λ y. ltb y c.args.x) _ _ c.partition_point.ensures.partitioned (parted c.args.codes.now c.requires.from_le_n.0 c.requires.from_le_n.2 c.args.x c.requires.rising) (λ a r q k. search rules) in
+    part_placed c.args.codes.now c.requires.from_le_n.0 c.requires.from_le_n.2 c.args.x _ c.partition_point.ensures.bound point

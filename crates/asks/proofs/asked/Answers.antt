@@ -15,9 +15,9 @@ overflow_add-r c = omega (arith, (row_below c.requires.mail_ready.ready c.args.r
 pub num-name-requires : goal.num-name-requires
 num-name-requires c = c.requires.mail_ready.ready.whole
 
-pub word-j-requires : goal.word-j-requires
+pub word-from-requires : goal.word-from-requires
 unfolding program
-word-j-requires c = omega (arith, (read_name c.requires.mail_ready.ready _ _ c.requires.starts.1.0 c.requires.starts.1.1 c.num-name.ensures), c.requires.starts.0.room)
+word-from-requires c = omega (arith, (read_name c.requires.mail_ready.ready _ _ c.requires.starts.1.0 c.requires.starts.1.1 c.num-name.ensures), c.requires.starts.0.room)
 
 pub overflow_add-name : goal.overflow_add-name
 unfolding program
@@ -28,7 +28,7 @@ unfolding program
 word-to-requires c = omega (arith, (read_name c.requires.mail_ready.ready _ _ c.requires.starts.1.0 c.requires.starts.1.1 c.num-name.ensures), c.requires.starts.0.room)
 
 pub loop-j-init : goal.loop-j-init
-loop-j-init c = (worst_begin _ _ (λ there. name_range _ _ _ _ _ c.num-name.ensures (starts_range c.requires.mail_ready.ready c.requires.starts.0 _ _ _ (read_name c.requires.mail_ready.ready _ _ c.requires.starts.1.0 c.requires.starts.1.1 c.num-name.ensures) c.word-j.ensures.0 c.word-to.ensures.0 (λ x. code_closed (asks _ _ _ x) there)).0), omega (arith, c.word-to.ensures.1))
+loop-j-init c = (worst_begin _ _ (λ there. name_range _ _ _ _ _ c.num-name.ensures (starts_range c.requires.mail_ready.ready c.requires.starts.0 _ _ _ (read_name c.requires.mail_ready.ready _ _ c.requires.starts.1.0 c.requires.starts.1.1 c.num-name.ensures) c.word-from.ensures.0 c.word-to.ensures.0 (λ x. code_closed (asks _ _ _ x) there)).0), omega (arith, c.word-to.ensures.1))
 
 pub asks-code-requires : goal.asks-code-requires
 asks-code-requires c = record { mail_ready = c.requires.mail_ready; bound = c.requires.starts.1 }

@@ -9,6 +9,3 @@ use Rattle.asks.proofs.asked.Given as goal
 
 abbrev pub invariant-loop-j : goal.invariant-loop-j
 invariant-loop-j l = Worst (λ there. each (tables l.ws l.s).flow (num (program l.ws l.s) (l.r + 1)) (λ x. code_closed (asks (program l.ws l.s) (tables l.ws l.s) l.r x) there)) (λ i. asks (program l.ws l.s) (tables l.ws l.s) l.r (right (tables l.ws l.s).flow i)) l.to l.j l.worst × (l.to ≤ 65536)
-
-abbrev pub decreases-loop-j : goal.decreases-loop-j
-decreases-loop-j l = l.to - l.j

@@ -11,6 +11,3 @@ use Rattle.asks.proofs.passes.Given as goal
 
 abbrev pub invariant-loop-i : goal.invariant-loop-i
 invariant-loop-i l = (l.n < max_rows) × (passes (tables l.ws l.s) (call_at (program l.ws l.s) l.r) (parameters (program l.ws l.s) l.f) ≡ all l.i l.n (passing (program l.ws l.s) (tables l.ws l.s) l.r l.f))
-
-abbrev pub decreases-loop-i : goal.decreases-loop-i
-decreases-loop-i l = l.n - l.i

@@ -1,10 +1,8 @@
+use Prim.Native.Nat.{◌-◌}
 use Rattle.model.specs.Rows.{program}
 use Rattle.model.specs.Tables.{tables, state_at}
 use Rattle.branches.proofs.Walk.{Bodies}
 use Rattle.branches.proofs.bodies_closed.Given as goal
 
-abbrev pub invariant-loop-left : goal.invariant-loop-left
-invariant-loop-left l = Bodies (program l.ws l.s) (tables l.ws l.s) (state_at (tables l.ws l.s) l.i) l.count l.q l.bits l.row l.left l.more
-
-abbrev pub decreases-loop-left : goal.decreases-loop-left
-decreases-loop-left l = l.left
+abbrev pub invariant-loop : goal.invariant-loop
+invariant-loop l = Bodies (program l.ws l.s) (tables l.ws l.s) (state_at (tables l.ws l.s) l.i) l.count l.q l.bits l.row (l.count - l.counter) l.more

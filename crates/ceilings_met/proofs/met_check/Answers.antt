@@ -1,4 +1,3 @@
-use Prim.Native.Nat.{◌-◌}
 use mathlib.Core.Path.{◌≡◌, refl}
 use Rattle.model.specs.Message.{bads_offset}
 use Rattle.ceilings_met.proofs.Meeting.{allows, first_none, first_upto, limits_room, summed, allowed_next, met_safe, met_refused}

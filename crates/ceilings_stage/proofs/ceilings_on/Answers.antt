@@ -1,11 +1,10 @@
 use native.Mathlib.Omega.{arith}
-use mathlib.Core.Path.{refl, sym, ap, ◌∙◌}
-use Rattle.model.specs.Verify.{answer}
-use Rattle.model.proofs.Exact.Answer.{start_refuses, met_refuses}
-use Rattle.answers.proofs.Passing.{passed}
+use mathlib.Core.Path.{◌≡◌, refl, sym, ap, ◌∙◌}
+use Rattle.std.proofs.Common.{Err}
+use Rattle.model.specs.Verify.{outcome}
 use Rattle.system_totals.proofs.Walk.{room_kept}
 use Rattle.stages.specs.Order.{below_ceilings}
-use Rattle.stages.proofs.Answering.{goes_by, ends_with, leak_refuses}
+use Rattle.stages.proofs.Answering.{goes_past, ends_at, judged_ok, judged_err, holds_of}
 use Rattle.rule_tables.proofs.Joining.{long, lent_letters}
 use Rattle.stages.proofs.Laying.{ceilings_of_ready}
 use borrow.Author.Rules.{rules}
@@ -14,18 +13,20 @@ use Rattle.ceilings_stage.proofs.ceilings_on.Goals as goal
 pub fill_limits-requires : goal.fill_limits-requires
 fill_limits-requires c = record { whole = (ceilings_of_ready _ _ c.requires.joined_tables.ready, c.requires.numbered.in_form); bounds_room = c.requires.bounds_room.0 }
 
-pub start_verdict-begins-requires : goal.start_verdict-begins-requires
-start_verdict-begins-requires c =
+pub start_verdict-requires : goal.start_verdict-requires
+start_verdict-requires c =
     let t = c.requires.joined_tables in
     record {
       startable = record { ready = t.ready; ends = t.ends; closed = t.closed; counted = record { counters = c.requires.numbered.counted; few = omega (arith, c.requires.numbered.counted, t.few) } };
       limits_table = c.fill_limits.ensures.limits_table;
     }
 
-pub returns-then-not-is_safe : goal.returns-then-not-is_safe
+pub returns-in_err-start_verdict : goal.returns-in_err-start_verdict
 unfolding below_ceilings
-returns-then-not-is_safe c =
-    let z = ends_with _ _ _ _ _ _ _ _ refl c.start_verdict-begins.ensures c.is_safe.ensures c.if-not-is_safe.true in record { value = z.0; lent_after = z.1 }
+returns-in_err-start_verdict c =
+    let v = c.in_err-start_verdict.field-0.0 in
+    let b : c.from_residual.result ≡ Err v = search rules in
+    let z = ends_at _ _ _ _ _ v _ _ _ refl c.start_verdict.ensures c.in_err-start_verdict.was b in record { value = z.0; lent_after = z.1 }
 
 pub slice_bounds-met_verdict-start : goal.slice_bounds-met_verdict-start
 slice_bounds-met_verdict-start c = let l = long _ _ _ _ _ _ c.requires.joined_tables in search rules
@@ -33,8 +34,8 @@ slice_bounds-met_verdict-start c = let l = long _ _ _ _ _ _ c.requires.joined_ta
 pub slice_bounds-met_verdict-count : goal.slice_bounds-met_verdict-count
 slice_bounds-met_verdict-count c = omega (arith, long _ _ _ _ _ _ c.requires.joined_tables)
 
-pub met_verdict-met-requires : goal.met_verdict-met-requires
-met_verdict-met-requires c =
+pub met_verdict-requires : goal.met_verdict-requires
+met_verdict-requires c =
     let t = c.requires.joined_tables in
     record {
       letters_filled = (record { ready = t.ready; class_letters = lent_letters _ _ _ _ _ _ t; letter_sets_of = t.letter_sets_of }, c.requires.numbered.bads);
@@ -42,13 +43,15 @@ met_verdict-met-requires c =
       n_in_bounds = c.requires.bounds_room.1;
     }
 
-pub returns-then-not-is_safe-2 : goal.returns-then-not-is_safe-2
+pub returns-in_err-met_verdict : goal.returns-in_err-met_verdict
 unfolding below_ceilings
-returns-then-not-is_safe-2 c =
-    let z = ends_with _ _ _ _ _ _ _ _ (goes_by _ _ _ refl (passed _ _ _ (start_refuses _ _ _ _) c.start_verdict-begins.ensures c.is_safe.ensures c.if-not-is_safe.false)) c.met_verdict-met.ensures c.is_safe-2.ensures c.if-not-is_safe-2.true in record { value = z.0; lent_after = z.1 }
+returns-in_err-met_verdict c =
+    let v = c.in_err-met_verdict.field-0.0 in
+    let b : c.from_residual-in_err-met_verdict.result ≡ Err v = search rules in
+    let z = ends_at _ _ _ _ _ v _ _ _ (goes_past _ _ _ _ refl c.start_verdict.ensures c.in_ok-start_verdict.was) c.met_verdict.ensures c.in_err-met_verdict.was b in record { value = z.0; lent_after = z.1 }
 
-pub leaks_on-leaks-requires : goal.leaks_on-leaks-requires
-leaks_on-leaks-requires c =
+pub leaks_on-requires : goal.leaks_on-requires
+leaks_on-requires c =
     let n = c.requires.numbered in
     record {
       joined_tables = c.requires.joined_tables;
@@ -57,25 +60,25 @@ leaks_on-leaks-requires c =
       rule_room = c.requires.rule_room;
     }
 
-pub returns-then-not-is_safe-3 : goal.returns-then-not-is_safe-3
+pub returns-in_err-totals : goal.returns-in_err-totals
 unfolding below_ceilings
-returns-then-not-is_safe-3 c =
-    let z = ends_with _ _ _ _ _ _ _ _ (goes_by _ _ _ (goes_by _ _ _ refl (passed _ _ _ (start_refuses _ _ _ _) c.start_verdict-begins.ensures c.is_safe.ensures c.if-not-is_safe.false)) (passed _ _ _ (met_refuses _ _ _ _ _) c.met_verdict-met.ensures c.is_safe-2.ensures c.if-not-is_safe-2.false)) c.leaks_on-leaks.ensures.verdict_value c.is_safe-3.ensures c.if-not-is_safe-3.true in record { value = z.0; lent_after = z.1 }
+returns-in_err-totals c =
+    let v = c.in_err-totals.field-0.0 in
+    let b : c.from_residual-in_err-totals.result ≡ Err v = search rules in
+    let z = ends_at _ _ _ _ _ v _ _ _ (goes_past _ _ _ _ (goes_past _ _ _ _ refl c.start_verdict.ensures c.in_ok-start_verdict.was) c.met_verdict.ensures c.in_ok-met_verdict.was) c.leaks_on.ensures.value (judged_err _ v c.in_err-totals.was) b in record { value = z.0; lent_after = z.1 }
 
 pub space_verdict-requires : goal.space_verdict-requires
-space_verdict-requires c = record {
-  joined_tables = c.requires.joined_tables;
-  rule_room = room_kept _ _ _ _ _ _ c.requires.rule_room.0 c.leaks_on-leaks.auto.tos c.leaks_on-leaks.auto.others;
-  totalled = c.leaks_on-leaks.ensures.totalled;
-}
+space_verdict-requires c =
+    record {
+      joined_tables = c.requires.joined_tables;
+      rule_room = room_kept _ _ _ _ _ _ c.requires.rule_room.0 c.leaks_on.auto.tos c.leaks_on.auto.others;
+      totalled = holds_of _ _ _ c.in_ok-totals.was c.leaks_on.ensures.totalled;
+    }
 
 pub returns : goal.returns
 unfolding below_ceilings
 returns c =
-    let start = passed _ _ _ (start_refuses _ _ _ _) c.start_verdict-begins.ensures c.is_safe.ensures c.if-not-is_safe.false in
-    let met = passed _ _ _ (met_refuses _ _ _ _ _) c.met_verdict-met.ensures c.is_safe-2.ensures c.if-not-is_safe-2.false in
-    let leak = passed _ _ _ (leak_refuses _ _ _ c.requires.numbered start met) c.leaks_on-leaks.ensures.verdict_value c.is_safe-3.ensures c.if-not-is_safe-3.false in
     record {
-      value = c.space_verdict.ensures.value ∙ sym (ap answer (goes_by _ _ _ (goes_by _ _ _ (goes_by _ _ _ refl start) met) leak));
+      value = c.space_verdict.ensures.value ∙ sym (ap outcome (goes_past _ _ _ _ (goes_past _ _ _ _ (goes_past _ _ _ _ refl c.start_verdict.ensures c.in_ok-start_verdict.was) c.met_verdict.ensures c.in_ok-met_verdict.was) c.leaks_on.ensures.value (judged_ok _ _ c.in_ok-totals.was)));
       lent_after = c.space_verdict.ensures.lent_after;
     }

@@ -1,33 +1,13 @@
-use Prim.Native.Nat.{◌-◌}
-use native.Mathlib.Omega.{arith}
-use mathlib.Core.Path.{refl, sym, ◌∙◌, ap}
-use mathlib.Core.Bool.{not}
-use Rattle.model.proofs.Index.{any_end, any_hit, any_miss}
+use mathlib.Core.Path.{ap}
+use Rattle.std.specs.Prelude.{option_copied}
+use Rattle.class_rules.proofs.Asking.{wide_class, narrow_class}
 use Rattle.class_rules.proofs.asks_class.Goals as goal
 
-pub returns-then-not-narrow : goal.returns-then-not-narrow
-returns-then-not-narrow c = rw (ap not c.if-not-narrow.true)
+pub returns-in-None : goal.returns-in-None
+returns-in-None c = wide_class _ _ _ _ (ap option_copied c.in-None.is)
 
-pub word-from-requires : goal.word-from-requires
-word-from-requires c = omega (arith, c.requires.d_in_bounds)
+pub has_letter-requires : goal.has_letter-requires
+has_letter-requires c = record { d_in_bounds = c.requires.d_in_bounds; d_bound = c.requires.d_bound; row = c.requires.row.row _ (ap option_copied c.in-Some.is) }
 
-pub overflow_add-d : goal.overflow_add-d
-overflow_add-d c = record { fits = omega (arith, c.requires.d_in_bounds, c.well_formed) }
-
-pub word-to-requires : goal.word-to-requires
-word-to-requires c = omega (arith, c.requires.d_in_bounds)
-
-pub loop-y-init : goal.loop-y-init
-loop-y-init c = (refl, omega arith)
-
-pub holds-requires : goal.holds-requires
-holds-requires c = record { v_bound = omega (arith, c.loop-y-test.true, c.word-to.ensures.0, c.requires.d_bound); row = c.requires.row }
-
-pub returns-then-holds : goal.returns-then-holds
-returns-then-holds c = rw ((ap not c.if-not-narrow.false), ← c.word-from.ensures.0, ← c.word-to.ensures.0) (sym (c.loop-y.invariant.0 ∙ any_hit _ _ _ c.loop-y-test.true (sym c.holds.ensures ∙ c.if-holds.true)))
-
-pub loop-y-preserved : goal.loop-y-preserved
-loop-y-preserved c = (c.loop-y.invariant.0 ∙ any_miss _ _ _ c.loop-y-test.true (sym c.holds.ensures ∙ c.if-holds.false), omega (arith, c.loop-y.invariant.1))
-
-pub returns : goal.returns
-returns c = rw ((ap not c.if-not-narrow.false), ← c.word-from.ensures.0, ← c.word-to.ensures.0) (sym (c.loop-y.invariant.0 ∙ any_end _ _ _ (omega (arith, c.loop-y-test.false))))
+pub returns-in-Some : goal.returns-in-Some
+returns-in-Some c = narrow_class _ _ _ _ _ _ (ap option_copied c.in-Some.is) c.has_letter.ensures

@@ -1,14 +1,15 @@
-use borrow.Author.Rules.{rules}
-use Prim.Native.Nat.{ℕ, ◌+◌, ◌-◌, ◌<◌}
+use Rattle.std.proofs.Common.{rules, Ok, Err}
+use Prim.Native.Nat.{◌+◌, ◌-◌}
 use native.Mathlib.Omega.{arith}
 use mathlib.Core.Path.{◌≡◌, refl, sym, ◌∙◌, ap}
-use mathlib.Core.List.{[], ◌∷◌, ◌++◌}
+use mathlib.Core.List.{[], ◌∷◌}
 use borrow.Author.Tests.{lt-ltb, le-ltb}
-use Rattle.model.specs.Rows.{program, tag, kind, pattern, header, expression, branches, lead, branch_items}
+use Rattle.model.specs.Rows.{kind, pattern, header, expression, branches, lead}
 use Rattle.model.specs.Limits.{max_depth}
-use Rattle.program.specs.Rows.{from, listed, listed_item, counted_items}
+use Rattle.program.specs.Rows.{listed, listed_item, counted_items}
 use Rattle.program.proofs.Items.{give_says, bound_says, case_says, lead_of, lead_none, receive_says, no_head_says, branches_25, branches_other}
-use Rattle.program.proofs.Reading.{past_answer, wrong_answer, came_past, came_wrong, items_by, branches_past, branches_no_pattern, branches_no_body, branches_none, from_none, past_upto, past_behind, takes_row, last_row, refuses_row, then_past, then_wrong, yes_fits, no_fits}
+use Rattle.program.proofs.Reading.{past_answer, handed_on, came_past, came_wrong, items_by, branches_past, branches_no_pattern, branches_no_body, branches_none, from_none, past_upto, past_behind, last_row, refuses_row, then_past, then_wrong, yes_fits, no_fits}
+use Rattle.grammar.proofs.Follows.{lead_follows, case_follows, receive_follows, branches_follow}
 use Rattle.grammar.proofs.+body_form_branches_case_branches_expression_lead.Goals as goal
 
 pub body_form-counted-requires : goal.body_form-counted-requires
@@ -17,115 +18,101 @@ body_form-counted-requires t c = record { whole = search rules; r_le_rows = (sea
 
 pub body_form-expression-requires : goal.body_form-expression-requires
 body_form-expression-requires t c =
-    let w = past_behind _ _ (counted_items 23) [] _ _ _ (search rules) c.counted.ensures c.in-Past.is in
+    let past : c.counted.result ≡ Ok c.in_ok-body.body = search rules in
+    let w = past_behind _ _ (counted_items 23) [] _ _ _ c.requires.r_le_rows c.counted.ensures past in
     (omega arith, (search rules, w.1))
 
-pub body_form-returns-in-Past : goal.body_form-returns-in-Past
+pub body_form-returns-in_err-body : goal.body_form-returns-in_err-body
 unfolding counted_items
-body_form-returns-in-Past t c =
-    c.expression.ensures ∙
-    sym (then_past _ (header ∷ []) (expression ∷ []) _ _ _ c.counted.ensures c.in-Past.is)
+body_form-returns-in_err-body t c =
+    let wrong : c.counted.result ≡ Err c.in_err-body.field-0.0 = search rules in
+    handed_on _ _ (search rules) (then_wrong _ (header ∷ []) (expression ∷ []) _ _ _ c.counted.ensures wrong)
 
-pub body_form-returns-in-Wrong : goal.body_form-returns-in-Wrong
+pub body_form-returns : goal.body_form-returns
 unfolding counted_items
-body_form-returns-in-Wrong t c = then_wrong _ (header ∷ []) (expression ∷ []) _ _ _ c.counted.ensures c.in-Wrong.is
+body_form-returns t c =
+    let past : c.counted.result ≡ Ok c.in_ok-body.body = search rules in
+    c.expression.ensures ∙ sym (then_past _ (header ∷ []) (expression ∷ []) _ _ _ c.counted.ensures past)
 
-pub branches-loop-left-init : goal.branches-loop-left-init
-branches-loop-left-init t c = (search rules, search rules, refl)
-
-pub branches-returns-in-Wrong : goal.branches-returns-in-Wrong
-branches-returns-in-Wrong t c =
-    let l = c.loop-left in
-    wrong_answer _
-    (l.invariant.2 ∙ branches_no_pattern _ l.left l.q _ (search rules) (came_wrong _ _ c.pattern.ensures c.in-Wrong.is))
+pub branches-returns-in_err-body : goal.branches-returns-in_err-body
+branches-returns-in_err-body t c =
+    let l = c.loop in
+    let wrong : c.pattern.result ≡ Err c.in_err-body.field-0.0 = search rules in
+    handed_on _ _ (search rules)
+    (l.invariant.2 ∙ branches_no_pattern _ _ (c.args.n - (l.counter + 1)) l.q _ (omega arith) (came_wrong _ _ c.pattern.ensures wrong))
 
 pub branches-expression-requires : goal.branches-expression-requires
 branches-expression-requires t c =
-    let l = c.loop-left in
-    let w = past_behind _ _ (pattern max_depth) [] _ l.q _ (search rules) c.pattern.ensures c.in-Past.is in
+    let l = c.loop in
+    let past : c.pattern.result ≡ Ok c.in_ok-body.body = search rules in
+    let w = past_behind _ _ (pattern max_depth) [] _ l.q _ l.invariant.1 c.pattern.ensures past in
     (omega arith, (search rules, w.1))
 
-pub branches-returns-in-Wrong-expression : goal.branches-returns-in-Wrong-expression
-branches-returns-in-Wrong-expression t c =
-    let l = c.loop-left in
-    wrong_answer _
+pub branches-returns-in_err-q : goal.branches-returns-in_err-q
+branches-returns-in_err-q t c =
+    let l = c.loop in
+    let past : c.pattern.result ≡ Ok c.in_ok-body.body = search rules in
+    let wrong : c.expression.result ≡ Err c.in_err-q.field-0.0 = search rules in
+    handed_on _ _ (search rules)
     (l.invariant.2 ∙
-    branches_no_body _ l.left l.q _ _ (search rules)
-    (came_past _ _ c.pattern.ensures c.in-Past.is)
-    (came_wrong _ _ c.expression.ensures c.in-Wrong-expression.is))
+    branches_no_body _ _ (c.args.n - (l.counter + 1)) l.q _ _ (omega arith)
+    (came_past _ _ c.pattern.ensures past)
+    (came_wrong _ _ c.expression.ensures wrong))
 
-pub branches-loop-left-preserved : goal.branches-loop-left-preserved
-branches-loop-left-preserved t c =
-    let l = c.loop-left in
-    let b = c.expression in
+pub branches-loop-preserved : goal.branches-loop-preserved
+branches-loop-preserved t c =
+    let l = c.loop in
     let x = c.pattern in
-    let w = past_behind _ _ (pattern max_depth) [] _ l.q _ (search rules) x.ensures c.in-Past.is in
-    let v = past_upto _ _ (expression ∷ []) _ _ _ w.1 b.ensures c.in-Past-expression.is in (
+    let b = c.expression in
+    let past : x.result ≡ Ok c.in_ok-body.body = search rules in
+    let past_body : b.result ≡ Ok c.in_ok-q.q = search rules in
+    let w = past_behind _ _ (pattern max_depth) [] _ l.q _ l.invariant.1 x.ensures past in
+    let v = past_upto _ _ (expression ∷ []) _ _ _ w.1 b.ensures past_body in (
       omega arith,
       v.1,
-      l.invariant.2 ∙
-          branches_past _ l.left l.q _ _ (search rules) (came_past _ _ x.ensures c.in-Past.is) (came_past _ _ b.ensures c.in-Past-expression.is),
+      l.invariant.2 ∙ branches_past _ _ _ l.q _ _ (omega arith) (came_past _ _ x.ensures past) (came_past _ _ b.ensures past_body),
     )
 
 pub branches-returns : goal.branches-returns
-branches-returns t c = let l = c.loop-left in past_answer l.q (l.invariant.2 ∙ branches_none _ l.left l.q (search rules))
+branches-returns t c = let l = c.loop in past_answer l.q (l.invariant.2 ∙ branches_none _ _ l.q (omega arith))
 
 pub case_branches-returns-then-tag-ne-TAG_BRANCHES : goal.case_branches-returns-then-tag-ne-TAG_BRANCHES
 case_branches-returns-then-tag-ne-TAG_BRANCHES t c = refuses_row _ _ branches _ _ _ c.tag.ensures c.num-n.ensures (branches_other _ _ _ _ c.if-tag-ne-TAG_BRANCHES.true)
 
--- the count fits, and the branches follow
-case-entered : (t : ℕ) (c : goal.case_branches-Then-is_branch_count t) → let a = c.args in let p = program a.ws.now a.s in (a.r < a.s.rows) × (from p (branches ∷ []) a.r ≡ from p (branch_items c.num-n.result) (a.r + 1))
-case-entered t c =
-    takes_row _ _ branches _ _ _ _ c.tag.ensures c.num-n.ensures
-    (branches_25 _ _ _ _ c.if-tag-ne-TAG_BRANCHES.false ∙ yes_fits _ (sym c.is_branch_count.ensures ∙ c.if-is_branch_count.true))
-
 pub case_branches-branches-requires : goal.case_branches-branches-requires
-case_branches-branches-requires t c = let w = case-entered t c in (omega (arith, w.0, c.requires.whole), (c.requires.whole, omega (arith, w.0)))
+case_branches-branches-requires t c =
+    let (there, _) = branches_follow _ _ _ _ _ c.tag.ensures c.num-n.ensures c.if-tag-ne-TAG_BRANCHES.false (sym c.is_branch_count.ensures ∙ c.if-is_branch_count.true) in (omega (arith, there), (c.requires.whole, omega (arith, there)))
 
 pub case_branches-returns-then-is_branch_count : goal.case_branches-returns-then-is_branch_count
 case_branches-returns-then-is_branch_count t c =
-    let case-entered-here : let a = c.args in let p = program a.ws.now a.s in (a.r < a.s.rows) × (from p (branches ∷ []) a.r ≡ from p (branch_items c.num-n.result) (a.r + 1)) = takes_row _ _ branches _ _ _ _ c.tag.ensures c.num-n.ensures
-    (branches_25 _ _ _ _ c.if-tag-ne-TAG_BRANCHES.false ∙ yes_fits _ (sym c.is_branch_count.ensures ∙ c.if-is_branch_count.true)) in c.branches.ensures ∙ sym case-entered-here.1
+    let (_, follow) = branches_follow _ _ _ _ _ c.tag.ensures c.num-n.ensures c.if-tag-ne-TAG_BRANCHES.false (sym c.is_branch_count.ensures ∙ c.if-is_branch_count.true) in c.branches.ensures ∙ sym follow
 
 pub case_branches-returns-else-is_branch_count : goal.case_branches-returns-else-is_branch_count
 case_branches-returns-else-is_branch_count t c =
     refuses_row _ _ branches _ _ _ c.tag.ensures c.num-n.ensures
     (branches_25 _ _ _ _ c.if-tag-ne-TAG_BRANCHES.false ∙ no_fits _ (sym c.is_branch_count.ensures ∙ c.if-is_branch_count.false))
 
--- what follows the head of a case, of a receive, and of an expression that binds a name
-case-follows : (t : ℕ) (c : goal.expression-Then-n-s-2 t) → let a = c.args in let p = program a.ws.now a.s in (a.r < a.s.rows) × (from p (expression ∷ []) a.r ≡ from p (branches ∷ []) (a.r + 1))
-case-follows t c =
-    takes_row _ _ expression _ _ _ _ c.tag.ensures c.num-n.ensures (case_says _ _ _ _ c.in-8.is ∙ yes_fits _ (lt-ltb _ _ c.if-n-s-2.true))
-
-receive-follows : (t : ℕ) (c : goal.expression-Then-is_branch_count t) → let a = c.args in let p = program a.ws.now a.s in (a.r < a.s.rows) × (from p (expression ∷ []) a.r ≡ from p (branch_items c.num-n.result) (a.r + 1))
-receive-follows t c =
-    takes_row _ _ expression _ _ _ _ c.tag.ensures c.num-n.ensures
-    (receive_says _ _ _ _ c.in-9.is ∙ yes_fits _ (sym c.is_branch_count.ensures ∙ c.if-is_branch_count.true))
-
-lead-follows : (t : ℕ) (c : goal.expression-Else-n-s-3 t) → let a = c.args in let p = program a.ws.now a.s in (a.r < a.s.rows) × (from p (expression ∷ []) a.r ≡ from p (lead (kind (tag p a.r)) ++ expression ∷ []) (a.r + 1))
-lead-follows t c =
-    let e = c.tag.ensures in
-    takes_row _ _ expression _ _ _ _ refl c.num-n.ensures (bound_says _ _ _ _ (omega (arith, e, c.in-2-to-7.if-this-lt1-own.false)) (omega (arith, e, c.in-2-to-7.if-this-lt8-own.true)) ∙ yes_fits _ (lt-ltb _ _ c.if-n-s-3.false))
-
 pub expression-case_branches-requires : goal.expression-case_branches-requires
-expression-case_branches-requires t c = let w = case-follows t c in (omega (arith, w.0, c.requires.whole), (c.requires.whole, omega (arith, w.0)))
+expression-case_branches-requires t c =
+    let (there, _) = case_follows _ _ _ _ _ c.tag.ensures c.num-n.ensures c.in-8.is c.if-n-s-2.true in (omega (arith, there), (c.requires.whole, omega (arith, there)))
 
 pub expression-branches-requires : goal.expression-branches-requires
-expression-branches-requires t c = let w = receive-follows t c in (omega (arith, w.0, c.requires.whole), (c.requires.whole, omega (arith, w.0)))
+expression-branches-requires t c =
+    let (there, _) = receive_follows _ _ _ _ _ c.tag.ensures c.num-n.ensures c.in-9.is (sym c.is_branch_count.ensures ∙ c.if-is_branch_count.true) in (omega (arith, there), (c.requires.whole, omega (arith, there)))
 
 pub expression-returns-then-n-s-3 : goal.expression-returns-then-n-s-3
 expression-returns-then-n-s-3 t c = let e = c.tag.ensures in refuses_row _ _ expression _ _ _ c.tag.ensures c.num-n.ensures (bound_says _ _ _ _ (omega (arith, c.in-2-to-7.if-this-lt1-own.false)) (omega (arith, c.in-2-to-7.if-this-lt8-own.true)) ∙ no_fits _ (le-ltb _ _ c.if-n-s-3.true))
 
 pub expression-lead-requires : goal.expression-lead-requires
-expression-lead-requires t c = let w = lead-follows t c in (omega (arith, w.0, c.requires.whole), (c.requires.whole, w.0))
+expression-lead-requires t c =
+    let (there, _) = lead_follows _ _ _ _ _ c.tag.ensures c.num-n.ensures (omega (arith, c.in-2-to-7.if-this-lt1-own.false)) (omega (arith, c.in-2-to-7.if-this-lt8-own.true)) c.if-n-s-3.false in (omega (arith, there), (c.requires.whole, there))
 
 pub expression-expression-requires : goal.expression-expression-requires
 expression-expression-requires t c =
-    let lead-follows-here : let a = c.args in let p = program a.ws.now a.s in (a.r < a.s.rows) × (from p (expression ∷ []) a.r ≡ from p (lead (kind (tag p a.r)) ++ expression ∷ []) (a.r + 1)) = let e = c.tag.ensures in
-    takes_row _ _ expression _ _ _ _ refl c.num-n.ensures (bound_says _ _ _ _ (omega (arith, e, c.in-2-to-7.if-this-lt1-own.false)) (omega (arith, e, c.in-2-to-7.if-this-lt8-own.true)) ∙ yes_fits _ (lt-ltb _ _ c.if-n-s-3.false)) in
-    let w = lead-follows-here in
+    let (there, _) = lead_follows _ _ _ _ _ c.tag.ensures c.num-n.ensures (omega (arith, c.in-2-to-7.if-this-lt1-own.false)) (omega (arith, c.in-2-to-7.if-this-lt8-own.true)) c.if-n-s-3.false in
     let a = c.args in
-    let v = past_upto a.ws.now a.s (lead _) _ (a.r + 1) _ (omega (arith, w.0)) c.lead.ensures c.in-Past.is in
+    let past : c.lead.result ≡ Ok c.in_ok-rest-in-2-to-7.rest = search rules in
+    let v = past_upto a.ws.now a.s (lead _) _ (a.r + 1) _ (omega (arith, there)) c.lead.ensures past in
     (omega arith, (search rules, v.1))
 
 pub expression-returns-then-n-s : goal.expression-returns-then-n-s
@@ -136,31 +123,29 @@ expression-returns-else-n-s t c = refuses_row _ _ expression _ _ _ c.tag.ensures
 
 pub expression-returns-then-n-s-2 : goal.expression-returns-then-n-s-2
 expression-returns-then-n-s-2 t c =
-    let case-follows-here : let a = c.args in let p = program a.ws.now a.s in (a.r < a.s.rows) × (from p (expression ∷ []) a.r ≡ from p (branches ∷ []) (a.r + 1)) = takes_row _ _ expression _ _ _ _ c.tag.ensures c.num-n.ensures (case_says _ _ _ _ c.in-8.is ∙ yes_fits _ (lt-ltb _ _ c.if-n-s-2.true)) in c.case_branches.ensures ∙ sym case-follows-here.1
+    let (_, follow) = case_follows _ _ _ _ _ c.tag.ensures c.num-n.ensures c.in-8.is c.if-n-s-2.true in c.case_branches.ensures ∙ sym follow
 
 pub expression-returns-else-n-s-2 : goal.expression-returns-else-n-s-2
 expression-returns-else-n-s-2 t c = refuses_row _ _ expression _ _ _ c.tag.ensures c.num-n.ensures (case_says _ _ _ _ c.in-8.is ∙ no_fits _ (le-ltb _ _ c.if-n-s-2.false))
 
 pub expression-returns-then-is_branch_count : goal.expression-returns-then-is_branch_count
 expression-returns-then-is_branch_count t c =
-    let receive-follows-here : let a = c.args in let p = program a.ws.now a.s in (a.r < a.s.rows) × (from p (expression ∷ []) a.r ≡ from p (branch_items c.num-n.result) (a.r + 1)) = takes_row _ _ expression _ _ _ _ c.tag.ensures c.num-n.ensures
-    (receive_says _ _ _ _ c.in-9.is ∙ yes_fits _ (sym c.is_branch_count.ensures ∙ c.if-is_branch_count.true)) in c.branches.ensures ∙ sym receive-follows-here.1
+    let (_, follow) = receive_follows _ _ _ _ _ c.tag.ensures c.num-n.ensures c.in-9.is (sym c.is_branch_count.ensures ∙ c.if-is_branch_count.true) in c.branches.ensures ∙ sym follow
 
 pub expression-returns-else-is_branch_count : goal.expression-returns-else-is_branch_count
 expression-returns-else-is_branch_count t c = refuses_row _ _ expression _ _ _ c.tag.ensures c.num-n.ensures (receive_says _ _ _ _ c.in-9.is ∙ no_fits _ (sym c.is_branch_count.ensures ∙ c.if-is_branch_count.false))
 
-pub expression-returns-in-Past : goal.expression-returns-in-Past
-expression-returns-in-Past t c =
-    let lead-follows-here : let a = c.args in let p = program a.ws.now a.s in (a.r < a.s.rows) × (from p (expression ∷ []) a.r ≡ from p (lead (kind (tag p a.r)) ++ expression ∷ []) (a.r + 1)) = let e = c.tag.ensures in
-    takes_row _ _ expression _ _ _ _ refl c.num-n.ensures (bound_says _ _ _ _ (omega (arith, e, c.in-2-to-7.if-this-lt1-own.false)) (omega (arith, e, c.in-2-to-7.if-this-lt8-own.true)) ∙ yes_fits _ (lt-ltb _ _ c.if-n-s-3.false)) in
-    c.expression.ensures ∙
-    sym (lead-follows-here.1 ∙ then_past _ (lead _) (expression ∷ []) _ _ _ c.lead.ensures c.in-Past.is)
+pub expression-returns-in_ok-rest-in-2-to-7 : goal.expression-returns-in_ok-rest-in-2-to-7
+expression-returns-in_ok-rest-in-2-to-7 t c =
+    let (_, follow) = lead_follows _ _ _ _ _ c.tag.ensures c.num-n.ensures (omega (arith, c.in-2-to-7.if-this-lt1-own.false)) (omega (arith, c.in-2-to-7.if-this-lt8-own.true)) c.if-n-s-3.false in
+    let past : c.lead.result ≡ Ok c.in_ok-rest-in-2-to-7.rest = search rules in
+    c.expression.ensures ∙ sym (follow ∙ then_past _ (lead _) (expression ∷ []) _ _ _ c.lead.ensures past)
 
-pub expression-returns-in-Wrong : goal.expression-returns-in-Wrong
-expression-returns-in-Wrong t c =
-    let lead-follows-here : let a = c.args in let p = program a.ws.now a.s in (a.r < a.s.rows) × (from p (expression ∷ []) a.r ≡ from p (lead (kind (tag p a.r)) ++ expression ∷ []) (a.r + 1)) = let e = c.tag.ensures in
-    takes_row _ _ expression _ _ _ _ refl c.num-n.ensures (bound_says _ _ _ _ (omega (arith, e, c.in-2-to-7.if-this-lt1-own.false)) (omega (arith, e, c.in-2-to-7.if-this-lt8-own.true)) ∙ yes_fits _ (lt-ltb _ _ c.if-n-s-3.false)) in
-    then_wrong _ (lead _) (expression ∷ []) _ _ _ c.lead.ensures c.in-Wrong.is ∙ sym lead-follows-here.1
+pub expression-returns-in_err-rest-in-2-to-7 : goal.expression-returns-in_err-rest-in-2-to-7
+expression-returns-in_err-rest-in-2-to-7 t c =
+    let (_, follow) = lead_follows _ _ _ _ _ c.tag.ensures c.num-n.ensures (omega (arith, c.in-2-to-7.if-this-lt1-own.false)) (omega (arith, c.in-2-to-7.if-this-lt8-own.true)) c.if-n-s-3.false in
+    let wrong : c.lead.result ≡ Err c.in_err-rest-in-2-to-7.field-0.0 = search rules in
+    handed_on _ _ (search rules) (follow ∙ then_wrong _ (lead _) (expression ∷ []) _ _ _ c.lead.ensures wrong)
 
 pub expression-returns-in-10 : goal.expression-returns-in-10
 expression-returns-in-10 t c = refuses_row _ _ expression _ _ _ c.tag.ensures c.num-n.ensures (no_head_says _ _ _ _ (λ a. omega (arith, c.in-10.if-this-lt8-own.false, c.in-10.in_default-own.rest)))
@@ -182,9 +167,6 @@ expression-returns-in_default-3 t c = refuses_row _ _ expression _ _ _ c.tag.ens
 
 pub expression-returns-in_default-4 : goal.expression-returns-in_default-4
 expression-returns-in_default-4 t c = refuses_row _ _ expression _ _ _ c.tag.ensures c.num-n.ensures (no_head_says _ _ _ _ (λ a. omega (arith, c.in_default.if-this-lt8-own.false, c.in_default.in_default-own.rest)))
-
-pub lead-body_form-requires : goal.lead-body_form-requires
-lead-body_form-requires t c = (omega arith, (search rules, search rules))
 
 pub lead-names-requires : goal.lead-names-requires
 unfolding listed

@@ -19,9 +19,6 @@ decreases-expression l = 4 * (l.s.rows - l.r) + 3
 abbrev pub decreases-lead : goal.decreases-lead
 decreases-lead l = 4 * (l.s.rows - l.r) + 2
 
-abbrev pub invariant-branches-loop-left : goal.invariant-branches-loop-left
-invariant-branches-loop-left l =
-    (l.r ≤ l.q) × (l.q ≤ l.s.rows) × (from (program l.ws l.s) (branch_items l.n) l.r ≡ from (program l.ws l.s) (branch_items l.left) l.q)
-
-abbrev pub decreases-branches-loop-left : goal.decreases-branches-loop-left
-decreases-branches-loop-left l = l.left
+abbrev pub invariant-branches-loop : goal.invariant-branches-loop
+invariant-branches-loop l =
+    (l.r ≤ l.q) × (l.q ≤ l.s.rows) × (from (program l.ws l.s) (branch_items l.n) l.r ≡ from (program l.ws l.s) (branch_items (l.n - l.counter)) l.q)

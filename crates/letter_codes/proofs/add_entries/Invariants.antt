@@ -1,4 +1,3 @@
-use Prim.Native.Nat.{◌-◌, ◌≤◌}
 use Rattle.model.specs.Rows.{program}
 use Rattle.model.specs.Tables.{tables}
 use Rattle.ascending.specs.Numbers.{Added}
@@ -7,7 +6,4 @@ use Rattle.letter_codes.proofs.add_entries.Given as goal
 
 abbrev pub invariant-loop-j : goal.invariant-loop-j
 invariant-loop-j l =
-    Added (AllowedIn (program l.ws l.s) (tables l.ws l.s) l.first l.j) l.most l.n l.n l.initial.codes l.m l.codes × (l.first ≤ l.j) × (l.j ≤ l.to)
-
-abbrev pub decreases-loop-j : goal.decreases-loop-j
-decreases-loop-j l = l.to - l.j
+    Added (AllowedIn (program l.ws l.s) (tables l.ws l.s) l.first l.j) l.most l.n l.n l.initial.codes l.m l.codes

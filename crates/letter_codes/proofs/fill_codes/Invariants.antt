@@ -1,4 +1,3 @@
-use Prim.Native.Nat.{◌+◌, ◌-◌, ◌≤◌}
 use mathlib.Core.Path.{◌≡◌}
 use lib.ListN.{length}
 use Rattle.model.specs.Rows.{program}
@@ -9,7 +8,4 @@ use Rattle.letter_codes.proofs.fill_codes.Given as goal
 
 abbrev pub invariant-loop-c : goal.invariant-loop-c
 invariant-loop-c l =
-    Filled (program l.ws l.s) (tables l.ws l.s) l.most l.c l.n l.letter_at l.codes × (l.e ≡ range_from (tables l.ws l.s).mail l.c) × (l.c ≤ l.s.rows + 1) × (length l.letter_at ≡ length l.initial.letter_at) × (length l.codes ≡ length l.initial.codes)
-
-abbrev pub decreases-loop-c : goal.decreases-loop-c
-decreases-loop-c l = l.s.rows + 1 - l.c
+    Filled (program l.ws l.s) (tables l.ws l.s) l.most l.c l.n l.letter_at l.codes × (l.e ≡ range_from (tables l.ws l.s).mail l.c) × (length l.letter_at ≡ length l.initial.letter_at) × (length l.codes ≡ length l.initial.codes)

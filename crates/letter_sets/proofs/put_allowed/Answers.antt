@@ -1,7 +1,6 @@
-use Prim.Native.Nat.{◌+◌, ◌-◌, ◌≤◌, ◌<◌}
+use Prim.Native.Nat.{◌+◌, ◌≤◌, ◌<◌}
 use native.Mathlib.Omega.{arith}
 use mathlib.Core.Path.{◌≡◌, refl}
-use borrow.Author.Rules.{rules}
 use lib.ListN.{length}
 use Rattle.model.specs.Words.{left}
 use Rattle.model.specs.Tables.{tables}
@@ -47,7 +46,7 @@ range : (c : goal.After-word-to) → ClassRange c.requires.letters_known.heads.r
 range c = class_words c.requires.letters_known.heads.ready _ _ _ _ _ c.requires.letters_known.class_letters c.requires.j_lt_mails.0 (mail_class _ _ _ _ _ c.left-c.ensures c.mail-list.ensures) c.word-from.ensures.0 c.word-to.ensures.0
 
 pub loop-y-init : goal.loop-y-init
-loop-y-init c = (upto_start _ _ _ _, search rules, (range c).order)
+loop-y-init c = upto_start _ _ _ _
 
 pub bounds-codes-y : goal.bounds-codes-y
 bounds-codes-y c =
@@ -61,24 +60,22 @@ allows-requires c =
 pub put-requires : goal.put-requires
 put-requires c =
     let class_here : c.left-c.result ≡ left (tables c.args.ws.now c.args.s).mail c.args.j = mail_class _ _ _ _ _ c.left-c.ensures c.mail-list.ensures in
-    let range-here : ClassRange c.requires.letters_known.heads.ready c.args.j c.word-from.result c.word-to.result = class_words c.requires.letters_known.heads.ready _ _ _ _ _ c.requires.letters_known.class_letters c.requires.j_lt_mails.0 class_here c.word-from.ensures.0 c.word-to.ensures.0 in let z = allowed_row c.requires.letters_known.heads.ready _ _ _ _ _ _ _ _ c.letter_width-w.ensures refl c.requires.j_lt_mails.0 c.requires.j_lt_mails.1 c.loop-y.invariant.0.long range-here c.loop-y-test.true in record { v_bound = z.0; row = z.1 }
+    let range-here : ClassRange c.requires.letters_known.heads.ready c.args.j c.word-from.result c.word-to.result = class_words c.requires.letters_known.heads.ready _ _ _ _ _ c.requires.letters_known.class_letters c.requires.j_lt_mails.0 class_here c.word-from.ensures.0 c.word-to.ensures.0 in let z = allowed_row c.requires.letters_known.heads.ready _ _ _ _ _ _ _ _ c.letter_width-w.ensures refl c.requires.j_lt_mails.0 c.requires.j_lt_mails.1 c.loop-y.invariant.long range-here c.loop-y-test.true in record { v_bound = z.0; row = z.1 }
 
 pub loop-y-preserved : goal.loop-y-preserved
 loop-y-preserved c =
     let h = c.requires.letters_known.heads.ready in
-    let i = c.loop-y.invariant in (
-      elim c.if-allows.branch [
-        | then-allows z ↦ rw z.letters-is (allowed_put h _ _ _ _ _ _ _ _ _ _ _ _ _ i.0 i.1 c.mail_value-v.ensures refl refl c.allows.ensures z.if-allows.true z.put.ensures)
-        | else-allows z ↦ rw z.letters-is (allowed_left h _ _ _ _ _ _ _ _ _ _ _ i.0 i.1 c.mail_value-v.ensures refl c.allows.ensures z.if-allows.false)
-      ],
-      search rules,
-      search rules,
-    )
+    let i = c.loop-y.invariant in
+    let from : c.word-from.result ≤ c.loop-y.y = omega arith in
+    elim c.if-allows.branch [
+      | then-allows z ↦ rw z.letters-is (allowed_put h _ _ _ _ _ _ _ _ _ _ _ _ _ i from c.mail_value-v.ensures refl refl c.allows.ensures z.if-allows.true z.put.ensures)
+      | else-allows z ↦ rw z.letters-is (allowed_left h _ _ _ _ _ _ _ _ _ _ _ i from c.mail_value-v.ensures refl c.allows.ensures z.if-allows.false)
+    ]
 
 pub shape_of-letters : goal.shape_of-letters
-shape_of-letters c = c.loop-y.invariant.0.long
+shape_of-letters c = c.loop-y.invariant.long
 
 pub returns : goal.returns
 returns c =
     let class_here : c.left-c.result ≡ left (tables c.args.ws.now c.args.s).mail c.args.j = mail_class _ _ _ _ _ c.left-c.ensures c.mail-list.ensures in
-    let range-here : ClassRange c.requires.letters_known.heads.ready c.args.j c.word-from.result c.word-to.result = class_words c.requires.letters_known.heads.ready _ _ _ _ _ c.requires.letters_known.class_letters c.requires.j_lt_mails.0 class_here c.word-from.ensures.0 c.word-to.ensures.0 in allowed_over c.requires.letters_known.heads.ready _ _ _ _ _ _ _ _ _ c.letter_width-w.ensures range-here c.loop-y.invariant.0 (search rules)
+    let range-here : ClassRange c.requires.letters_known.heads.ready c.args.j c.word-from.result c.word-to.result = class_words c.requires.letters_known.heads.ready _ _ _ _ _ c.requires.letters_known.class_letters c.requires.j_lt_mails.0 class_here c.word-from.ensures.0 c.word-to.ensures.0 in allowed_over c.requires.letters_known.heads.ready _ _ _ _ _ _ _ _ _ c.letter_width-w.ensures range-here c.loop-y.invariant (let o = range-here.order in omega (arith, c.loop-y-test.false))

@@ -1,4 +1,3 @@
-use Prim.Native.Nat.{◌-◌, ◌≤◌}
 use Rattle.model.specs.Rows.{program}
 use Rattle.model.specs.Tables.{tables}
 use Rattle.letter_sets.specs.Sets.{is_allowed}
@@ -6,7 +5,4 @@ use Rattle.letter_sets.proofs.Putting.{PutUpto}
 use Rattle.letter_sets.proofs.put_allowed.Given as goal
 
 abbrev pub invariant-loop-y : goal.invariant-loop-y
-invariant-loop-y l = PutUpto l.w (is_allowed (program l.ws l.s) (tables l.ws l.s) l.names l.codes l.j) l.from l.y l.initial.letters l.letters × (l.from ≤ l.y) × (l.y ≤ l.to)
-
-abbrev pub decreases-loop-y : goal.decreases-loop-y
-decreases-loop-y l = l.to - l.y
+invariant-loop-y l = PutUpto l.w (is_allowed (program l.ws l.s) (tables l.ws l.s) l.names l.codes l.j) l.from l.y l.initial.letters l.letters

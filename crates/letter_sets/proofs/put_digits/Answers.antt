@@ -1,4 +1,3 @@
-use Prim.Native.Nat.{◌-◌}
 use native.Mathlib.Omega.{arith}
 use borrow.Author.Rules.{rules}
 use Rattle.letter_sets.proofs.Putting.{upto_start}
@@ -6,7 +5,7 @@ use Rattle.letter_sets.proofs.Told.{set_most, digit_most, digit_row, digit_put, 
 use Rattle.letter_sets.proofs.put_digits.Goals as goal
 
 pub loop-i-init : goal.loop-i-init
-loop-i-init c = (upto_start _ _ _ _, search rules)
+loop-i-init c = upto_start _ _ _ _
 
 pub overflow_mul-set : goal.overflow_mul-set
 overflow_mul-set c = record { fits = omega (arith, set_most c.loop-i.i c.args.heads (search rules) c.requires.few) }
@@ -16,13 +15,13 @@ overflow_add-set c = record { fits = omega (arith, set_most c.loop-i.i c.args.he
 
 pub put-requires : goal.put-requires
 put-requires c =
-    let z = digit_row c.args.heads c.args.w c.args.code c.args.y _ _ _ _ c.requires c.loop-i.invariant.0.long (search rules) c.digit.ensures in record { v_bound = z.0; row = z.1 }
+    let z = digit_row c.args.heads c.args.w c.args.code c.args.y _ _ _ _ c.requires c.loop-i.invariant.long (search rules) c.digit.ensures in record { v_bound = z.0; row = z.1 }
 
 pub loop-i-preserved : goal.loop-i-preserved
-loop-i-preserved c = (digit_put c.args.heads c.args.w c.args.code c.args.y _ _ _ _ _ c.loop-i.invariant.0 c.digit.ensures c.put.ensures, search rules)
+loop-i-preserved c = digit_put c.args.heads c.args.w c.args.code c.args.y _ _ _ _ _ c.loop-i.invariant c.digit.ensures c.put.ensures
 
 pub shape_of-letters : goal.shape_of-letters
-shape_of-letters c = c.loop-i.invariant.0.long
+shape_of-letters c = c.loop-i.invariant.long
 
 pub returns : goal.returns
-returns c = digits_over c.args.heads c.args.w c.args.code c.args.y _ _ _ c.loop-i.invariant.0 (search rules)
+returns c = digits_over c.args.heads c.args.w c.args.code c.args.y _ _ _ c.loop-i.invariant (search rules)

@@ -17,6 +17,6 @@ class_rules-requires c =
 
 pub returns : goal.returns
 returns c = record {
-  by_index = λ f o. added_same receive _ _ _ _ _ _ _ _ (c.class_rules.ensures.added receive) (read_asked _ _ c.requires.read_tables.pattern_tables.letter_tables _ c.letter_width-words.ensures _ _ _ f o _ _ c.requires.class_room.value _ c.branch_letters.ensures);
+  by_index = λ f o. added_same receive _ _ _ _ _ _ _ _ (c.class_rules.ensures.added receive) (read_asked _ _ c.requires.read_tables.pattern_tables.letter_tables _ c.letter_width-words.ensures _ _ f o _ _ c.requires.class_room.value _ c.branch_letters.ensures);
   c_bound = c.class_rules.ensures.d_bound;
 }

@@ -5,7 +5,7 @@ use Rattle.model.specs.Rows.{send}
 use Rattle.rules.specs.Derived.{SentTo}
 use Rattle.rules.proofs.Adding.{added_same, added_nothing}
 use Rattle.lettered_rules.proofs.Letters.{letter_room, before_room}
-use Rattle.lettered_rules.proofs.Unasked.{class_asked, sent_unasked}
+use Rattle.lettered_rules.proofs.Unasked.{class_wide, sent_unasked}
 use Rattle.lettered_rules.proofs.Turns.{sent_asked, sent_skipped}
 use borrow.Author.Rules.{rules}
 use Rattle.lettered_rules.proofs.sent_rules.Goals as goal
@@ -18,13 +18,13 @@ returns-then-not-is_class c = record {
 
 pub asks_class-requires : goal.asks_class-requires
 asks_class-requires c =
-    let z = class_asked c.requires.sent_tables.letter_tables.ready _ c.requires.sent_tables.letter_tables.class_letters _ c.requires.class_room.value _ c.letter_width-words.ensures _ c.requires.class_room.within_row in record { d_in_bounds = z.0; d_bound = z.1.0; row = z.1.1 }
+    let z = class_wide c.requires.sent_tables.letter_tables.ready _ c.requires.sent_tables.letter_tables.class_letters _ c.requires.class_room.value _ c.letter_width-words.ensures _ c.requires.class_room.within_row in record { d_in_bounds = z.0; d_bound = z.1.0; row = z.1.1 }
 
 pub returns-then-not-asks_class : goal.returns-then-not-asks_class
 returns-then-not-asks_class c =
     let mailed-here : SentTo c.args.ws.now c.args.s c.args.m c.args.d = c.requires.sent_to (sym c.is_class.ensures ∙ c.if-not-is_class.false) in
     record {
-      by_index = λ f o. added_same send _ _ _ _ _ _ _ _ (added_nothing send _ _ _ (before_room c.requires.sent_tables.letter_tables c.requires.class_room).0) (λ i. sym (sent_unasked c.requires.sent_tables.letter_tables.ready _ _ _ _ c.is_class.ensures f _ c.requires.sent_tables.letter_tables.class_letters _ _ _ _ c.letter_width-words.ensures o mailed-here.mailed (ap not c.if-not-is_class.false) c.asks_class.ensures (ap not c.if-not-asks_class.true) i));
+      by_index = λ f o. added_same send _ _ _ _ _ _ _ _ (added_nothing send _ _ _ (before_room c.requires.sent_tables.letter_tables c.requires.class_room).0) (λ i. sym (sent_unasked c.requires.sent_tables.letter_tables.ready _ _ _ _ c.is_class.ensures f _ c.requires.sent_tables.letter_tables.class_letters _ _ _ c.letter_width-words.ensures o mailed-here.mailed (ap not c.if-not-is_class.false) c.asks_class.ensures (ap not c.if-not-asks_class.true) i));
       d_bound = (before_room c.requires.sent_tables.letter_tables c.requires.class_room).1;
     }
 
@@ -40,6 +40,6 @@ pub returns : goal.returns
 returns c =
     let mailed-here : SentTo c.args.ws.now c.args.s c.args.m c.args.d = c.requires.sent_to (sym c.is_class.ensures ∙ c.if-not-is_class.false) in
     record {
-      by_index = λ f o. added_same send _ _ _ _ _ _ _ _ (c.class_rules.ensures.added send) (sent_asked _ _ c.requires.sent_tables.letter_tables _ c.letter_width-words.ensures _ _ _ f o _ _ c.requires.class_room.value _ _ c.is_class.ensures (ap not c.if-not-is_class.false) mailed-here.mailed c.sent_letters.ensures);
+      by_index = λ f o. added_same send _ _ _ _ _ _ _ _ (c.class_rules.ensures.added send) (sent_asked _ _ c.requires.sent_tables.letter_tables _ c.letter_width-words.ensures _ _ f o _ _ c.requires.class_room.value _ _ c.is_class.ensures (ap not c.if-not-is_class.false) mailed-here.mailed c.sent_letters.ensures);
       d_bound = c.class_rules.ensures.d_bound;
     }

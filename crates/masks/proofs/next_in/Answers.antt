@@ -1,4 +1,3 @@
-use Prim.Native.Nat.{◌-◌}
 use mathlib.Core.Path.{◌≡◌, refl, sym, ◌∙◌}
 use Rattle.model.proofs.Index.{first_end}
 use Rattle.masks.proofs.Masks.{next_hit, next_miss}

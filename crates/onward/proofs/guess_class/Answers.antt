@@ -1,4 +1,3 @@
-use Prim.Native.Nat.{◌-◌}
 use borrow.Author.Rules.{rules}
 use Rattle.onward.proofs.Guesses.{guessed_none, guessed_then}
 use Rattle.onward.proofs.guess_class.Goals as goal

@@ -1,4 +1,3 @@
-use Prim.Native.Nat.{◌-◌}
 use Rattle.opening.proofs.Openings.{openings_begin, openings_next, openings_fail, openings_over}
 use borrow.Author.Rules.{rules}
 use Rattle.opening.proofs.opening_closed.Goals as goal

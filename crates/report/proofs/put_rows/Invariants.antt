@@ -1,12 +1,6 @@
-use Prim.Native.Nat.{◌-◌, ◌≤◌}
-use mathlib.Core.Path.{◌≡◌}
-use lib.ListN.{length}
 use Rattle.report.specs.System.{rows_text}
 use Rattle.report.proofs.Rows.{Put}
 use Rattle.report.proofs.put_rows.Given as goal
 
 abbrev pub invariant-loop-r : goal.invariant-loop-r
-invariant-loop-r l = Put l.at (rows_text l.ws l.r) l.here l.initial.out l.out × (l.r ≤ l.rows) × (length l.out ≡ length l.initial.out)
-
-abbrev pub decreases-loop-r : goal.decreases-loop-r
-decreases-loop-r l = l.rows - l.r
+invariant-loop-r l = Put l.at (rows_text l.ws l.r) l.here l.initial.out l.out

@@ -1,10 +1,5 @@
-use borrow.Author.Rules.{rules}
-use Rattle.report.proofs.Rows.{system_put, sizes_most}
+use Rattle.report.proofs.Rows.{system_put}
 use Rattle.report.proofs.put_system.Goals as goal
-
-pub put_rows-requires : goal.put_rows-requires
-put_rows-requires c =
-    let z = sizes_most c.args.ws.now in let w = c.word-rows.ensures in record { rows_in_bounds = search rules; rows_value = (search rules, search rules) }
 
 pub returns : goal.returns
 returns c =

@@ -1,9 +1,5 @@
-use Prim.Native.Nat.{◌-◌, ◌≤◌}
 use Rattle.bits.specs.Bits.{Filled, renewed}
 use Rattle.sets.proofs.renew.Given as goal
 
 abbrev pub invariant-loop-z : goal.invariant-loop-z
-invariant-loop-z l = Filled l.initial.t l.t l.p l.z (renewed l.out l.into l.initial.t l.a l.p l.q) × (l.z ≤ l.w)
-
-abbrev pub decreases-loop-z : goal.decreases-loop-z
-decreases-loop-z l = l.w - l.z
+invariant-loop-z l = Filled l.initial.t l.t l.p l.z (renewed l.out l.into l.initial.t l.a l.p l.q)

@@ -12,7 +12,7 @@ fill_items-requires c =
     let n = c.requires.startable.counted in
     record {
       letters_filled = c.requires.letters_filled.0;
-      items_room = record { few = omega (arith, n.counters, n.few); from_room = omega (arith, rows, c.words16_258-froms.ensures.room); to_room = omega (arith, rows, c.words16_258-tos.ensures.room) };
+      items_room = record { few = omega (arith, n.counters, n.few); from_room = omega (arith, rows, c.words16-froms.ensures.room); to_room = omega (arith, rows, c.words16-tos.ensures.room) };
     }
 
 pub light_check-requires : goal.light_check-requires

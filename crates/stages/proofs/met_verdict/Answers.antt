@@ -7,7 +7,7 @@ fill_items-requires c =
     let rows = c.requires.letters_filled.0.ready.limits.badrows.1 in
     record {
       letters_filled = c.requires.letters_filled.0;
-      items_room = record { few = omega (arith, c.requires.counted.0.counters, c.requires.counted.0.few); from_room = omega (arith, rows, c.words16_258-froms.ensures.room); to_room = omega (arith, rows, c.words16_258-tos.ensures.room) };
+      items_room = record { few = omega (arith, c.requires.counted.0.counters, c.requires.counted.0.few); from_room = omega (arith, rows, c.words16-froms.ensures.room); to_room = omega (arith, rows, c.words16-tos.ensures.room) };
     }
 
 pub met_check-requires : goal.met_check-requires

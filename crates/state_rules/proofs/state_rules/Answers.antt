@@ -7,9 +7,8 @@ use Rattle.rules.proofs.States.{state_head}
 use Rattle.state_rules.proofs.Done.{quiet_done, loud_done, plain_done}
 use Rattle.plain_rules.specs.Heads.{Plain}
 use Rattle.rules.proofs.Adding.{added_same}
-use Rattle.rules.proofs.Within.{all_pass}
+use Rattle.rules.proofs.Within.{all_pass, all_row, all_asked}
 use Rattle.state_rules.proofs.Rooms.{send_tables, receive_tables}
-use Rattle.state_rules.proofs.Within.{letters_row}
 use Rattle.state_rules.proofs.state_rules.Goals as goal
 use Rattle.state_rules.proofs.state_rules.Goals.{In_default}
 
@@ -46,7 +45,7 @@ send_rules-requires c = record {
   send_tables = send_tables c.requires.rule_tables;
   lettered_state = record {
     state = record { low = c.requires.i_lt_states; row = c.state_location-r.ensures; head = sym c.tag.ensures ∙ c.in-5.is };
-    within_row = letters_row c.requires.rule_tables.letter_sets_of;
+    within_row = all_row _;
     room = c.requires.rule_room;
   };
 }
@@ -76,7 +75,7 @@ receive_rules-requires c = record {
   receive_tables = receive_tables c.requires.rule_tables;
   lettered_state = record {
     state = record { low = c.requires.i_lt_states; row = c.state_location-r.ensures; head = sym c.tag.ensures ∙ c.in-9.is };
-    within_row = letters_row c.requires.rule_tables.letter_sets_of;
+    within_row = all_row _;
     room = c.requires.rule_room;
   };
 }
@@ -102,7 +101,7 @@ returns-in-4 c = quiet_done c.requires.rule_tables.ready c.args.i _ _ c.state_lo
 
 pub returns-in-5 : goal.returns-in-5
 unfolding kind
-returns-in-5 c = loud_done c.requires.rule_tables.ready c.args.i _ _ c.state_location-r.ensures _ c.args.others.now _ _ c.requires.rule_room.alike send (rw (sym c.tag.ensures ∙ c.in-5.is)) (added_same send _ _ 0 _ _ _ _ _ (c.send_rules.ensures (λ x. true) (record { has = λ y l. refl })) (λ e. all_pass _))
+returns-in-5 c = loud_done c.requires.rule_tables.ready c.args.i _ _ c.state_location-r.ensures _ c.args.others.now _ _ c.requires.rule_room.alike send (rw (sym c.tag.ensures ∙ c.in-5.is)) (added_same send _ _ 0 _ _ _ _ _ (c.send_rules.ensures (λ x. true) (all_asked _ _)) (λ e. all_pass _))
 
 pub returns-in-6 : goal.returns-in-6
 unfolding kind
@@ -114,7 +113,7 @@ returns-in-8 c = quiet_done c.requires.rule_tables.ready c.args.i _ _ c.state_lo
 
 pub returns-in-9 : goal.returns-in-9
 unfolding kind
-returns-in-9 c = loud_done c.requires.rule_tables.ready c.args.i _ _ c.state_location-r.ensures _ c.args.others.now _ _ c.requires.rule_room.alike receive (rw (sym c.tag.ensures ∙ c.in-9.is)) (added_same receive _ _ 0 _ _ _ _ _ (c.receive_rules.ensures (λ x. true) (record { has = λ y l. refl })) (λ e. all_pass _))
+returns-in-9 c = loud_done c.requires.rule_tables.ready c.args.i _ _ c.state_location-r.ensures _ c.args.others.now _ _ c.requires.rule_room.alike receive (rw (sym c.tag.ensures ∙ c.in-9.is)) (added_same receive _ _ 0 _ _ _ _ _ (c.receive_rules.ensures (λ x. true) (all_asked _ _)) (λ e. all_pass _))
 
 pub returns-in_default : goal.returns-in_default
 returns-in_default c =

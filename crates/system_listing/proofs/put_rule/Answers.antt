@@ -21,17 +21,17 @@ put-requires-2 c = record {
 pub overflow_add-behind : goal.overflow_add-behind
 overflow_add-behind c = let r = two_room _ _ _ _ _ _ _ c.requires.room in search rules
 
-pub returns-then-third-eq0 : goal.returns-then-third-eq0
-returns-then-third-eq0 c = two_put _ _ _ _ _ _ _ _ _ c.if-third-eq0.true c.put.ensures c.put-2.ensures
+pub returns-in-None : goal.returns-in-None
+returns-in-None c = two_put _ _ _ _ _ _ _ _ _ c.in-None.is c.put.ensures c.put-2.ensures
 
-pub put-requires-3 : goal.put-requires-3
-put-requires-3 c = record {
-  x_lt_n = (omega (arith, three_room _ _ _ _ _ _ _ c.requires.room c.if-third-eq0.false), omega (arith, (two_room _ _ _ _ _ _ _ c.requires.room).1, c.put.auto.out, c.put-2.auto.out));
+pub put-requires-in-Some : goal.put-requires-in-Some
+put-requires-in-Some c = record {
+  x_lt_n = (omega (arith, three_room _ _ _ _ _ _ _ _ c.requires.room c.in-Some.is), omega (arith, (two_room _ _ _ _ _ _ _ c.requires.room).1, c.put.auto.out, c.put-2.auto.out));
   number_bound = c.requires.from_bound.2;
 }
 
 pub overflow_add-result : goal.overflow_add-result
 overflow_add-result c = let r = two_room _ _ _ _ _ _ _ c.requires.room in search rules
 
-pub returns : goal.returns
-returns c = three_put _ _ _ _ _ _ _ _ _ _ c.if-third-eq0.false c.put.ensures c.put-2.ensures c.put-3.ensures
+pub returns-in-Some : goal.returns-in-Some
+returns-in-Some c = three_put _ _ _ _ _ _ _ _ _ _ _ c.in-Some.is c.put.ensures c.put-2.ensures c.put-in-Some.ensures

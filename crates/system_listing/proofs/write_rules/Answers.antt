@@ -1,4 +1,3 @@
-use Prim.Native.Nat.{◌-◌}
 use native.Mathlib.Omega.{arith}
 use Rattle.model.specs.Words.{columns}
 use Rattle.model.specs.Tables.{tables, entries}
@@ -26,9 +25,6 @@ put_rules-e-requires c = record {
   i_bound = omega (arith, c.loop-i-test.true, c.requires.joined_tables.ready.limits.states);
   room = state_room _ _ _ _ _ _ _ c.rules_of-m.ensures c.state_head-head.ensures _ _ _ (put_room _ _ _ _ _ _ 0 c.loop-i.i c.loop-i.invariant.0 (omega arith) _ c.loop-i-test.true c.requires.room);
 }
-
-pub overflow_add-i : goal.overflow_add-i
-overflow_add-i c = record { fits = omega (arith, c.loop-i-test.true, c.requires.joined_tables.ready.limits.states) }
 
 pub loop-i-preserved : goal.loop-i-preserved
 loop-i-preserved c = (put_more _ _ _ _ _ _ 0 c.loop-i.i c.loop-i.invariant.0 (omega arith) _ _ (state_put _ _ _ _ _ _ _ c.rules_of-m.ensures c.state_head-head.ensures _ _ _ _ _ c.put_rules-e.ensures), walk_next _ _ _ _ _ _ c.loop-i.invariant.1 _ _ _ c.guess_class.auto.at c.rules_of-m.auto.tos c.rules_of-m.auto.others, omega (arith, c.loop-i-test.true))

@@ -1,5 +1,3 @@
-use borrow.Author.Rules.{rules}
-use Prim.Native.Nat.{◌-◌}
 use native.Mathlib.Omega.{arith}
 use mathlib.Core.Path.{refl}
 use Rattle.model.proofs.Logic.{true_false}
@@ -7,7 +5,7 @@ use Rattle.value_letters.proofs.Values.{argument_row, lacking, headed_next, head
 use Rattle.value_letters.proofs.lacks_head.Goals as goal
 
 pub loop-i-init : goal.loop-i-init
-loop-i-init c = (omega arith, λ k l. absurd (omega arith))
+loop-i-init c = λ k l. absurd (omega arith)
 
 pub overflow_add-v-in-loop-i : goal.overflow_add-v-in-loop-i
 overflow_add-v-in-loop-i c = record { fits = omega (arith, c.requires.value_of.arguments.few, c.requires.value_of.low) }
@@ -22,10 +20,10 @@ returns-then-not-meets c = record {
 }
 
 pub loop-i-preserved : goal.loop-i-preserved
-loop-i-preserved c = (search rules, headed_next _ _ _ _ _ c.num-argument.ensures c.meets.ensures c.if-not-meets.false c.loop-i.invariant.1)
+loop-i-preserved c = headed_next _ _ _ _ _ c.num-argument.ensures c.meets.ensures c.if-not-meets.false c.loop-i.invariant
 
 pub returns : goal.returns
 returns c = record {
   lacking = λ z. true_false z refl;
-  not_lacking = λ z. headed_all _ _ _ _ _ (omega arith) c.loop-i.invariant.1;
+  not_lacking = λ z. headed_all _ _ _ _ _ (omega arith) c.loop-i.invariant;
 }

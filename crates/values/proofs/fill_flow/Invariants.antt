@@ -1,4 +1,3 @@
-use Prim.Native.Nat.{◌-◌, ◌≤◌}
 use mathlib.Core.Path.{◌≡◌}
 use lib.ListN.{length}
 use Rattle.lists.specs.Lists.{listed}
@@ -6,7 +5,4 @@ use Rattle.values.proofs.Gathered.{Gathered}
 use Rattle.values.proofs.fill_flow.Given as goal
 
 abbrev pub invariant-loop-i : goal.invariant-loop-i
-invariant-loop-i l = Gathered (listed l.ws l.l) (λ n. n) l.w l.sets l.i × (length l.sets ≡ length l.initial.sets) × (l.i ≤ l.i-end)
-
-abbrev pub decreases-loop-i : goal.decreases-loop-i
-decreases-loop-i l = l.i-end - l.i
+invariant-loop-i l = Gathered (listed l.ws l.l) (λ n. n) l.w l.sets l.i × (length l.sets ≡ length l.initial.sets)

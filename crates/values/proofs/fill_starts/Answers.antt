@@ -1,4 +1,3 @@
-use Prim.Native.Nat.{◌-◌}
 use native.Mathlib.Omega.{arith}
 use mathlib.Core.Path.{refl}
 use borrow.Author.Rules.{rules}
@@ -9,7 +8,7 @@ use Rattle.values.proofs.Starts.{begun, begun_next, begun_over, reach_low}
 use Rattle.values.proofs.fill_starts.Goals as goal
 
 pub loop-n-init : goal.loop-n-init
-loop-n-init c = (begun _ _, refl, search rules)
+loop-n-init c = (begun _ _, refl)
 
 pub reach-i-requires : goal.reach-i-requires
 unfolding listed columns
@@ -20,7 +19,7 @@ overflow_cast-starts c = omega (arith, reach_low c.requires.ready _ _ _ _ _ c.fl
 
 pub loop-n-preserved : goal.loop-n-preserved
 unfolding listed columns
-loop-n-preserved c = (begun_next _ _ _ _ _ c.flow-l.result.size refl c.loop-n.invariant.0 c.reach-i.ensures (search rules), search rules, search rules)
+loop-n-preserved c = (begun_next _ _ _ _ _ c.flow-l.result.size refl c.loop-n.invariant.0 c.reach-i.ensures (search rules), search rules)
 
 pub returns : goal.returns
-returns c = begun_over _ _ _ _ _ _ _ c.flow-l.ensures c.requires.names_in_bounds c.loop-n.invariant.1 c.loop-n.invariant.0 (search rules)
+returns c = begun_over _ _ _ _ _ _ _ c.flow-l.ensures c.requires.names_in_bounds c.loop-n.invariant.1 c.loop-n.invariant.0 (omega (arith, c.loop-n-test.false))

@@ -1,4 +1,3 @@
-use Prim.Native.Nat.{◌+◌, ◌-◌, ◌≤◌}
 use mathlib.Core.Path.{◌≡◌}
 use lib.ListN.{length}
 use Rattle.lists.specs.Lists.{listed}
@@ -6,7 +5,4 @@ use Rattle.values.proofs.Starts.{Begun}
 use Rattle.values.proofs.fill_starts.Given as goal
 
 abbrev pub invariant-loop-n : goal.invariant-loop-n
-invariant-loop-n l = Begun (listed l.ws l.l) l.starts l.i l.n × (length l.starts ≡ length l.initial.starts) × (l.n ≤ l.s.names + 1)
-
-abbrev pub decreases-loop-n : goal.decreases-loop-n
-decreases-loop-n l = l.s.names + 1 - l.n
+invariant-loop-n l = Begun (listed l.ws l.l) l.starts l.i l.n × (length l.starts ≡ length l.initial.starts)

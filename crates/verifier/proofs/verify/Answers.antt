@@ -8,7 +8,7 @@ pub returns : goal.returns
 returns c =
     let b = c.args.message.now in
     let bytes : Bytes b = λ i. (c.type_inv.message i).fits in
-    let told = c.told_of-told.ensures in
+    let told = c.told_of-number.ensures in
     let v = c.verdict_of-v.ensures in
     let part = c.part_of.ensures in
     let n = told.0 ∙ ap number v.value in

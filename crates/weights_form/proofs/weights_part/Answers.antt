@@ -1,5 +1,4 @@
 use native.Mathlib.Omega.{arith}
-use borrow.Author.Rules.{rules}
 use Rattle.weights_form.specs.Form.{weights_part_of}
 use Rattle.weights_form.proofs.Lines.{begins_low}
 use Rattle.weights_form.proofs.weights_part.Goals as goal

@@ -3,11 +3,12 @@ use native.Mathlib.Omega.{arith}
 use lib.ListN.{length}
 use borrow.Author.Rules.{rules}
 use Rattle.weights_form.proofs.Lines.{begins_low}
-use Rattle.weights_rise.proofs.Rising.{safe_at, raised_at}
+use Rattle.model.proofs.Outcome.{passes_unless, refuses_unless}
+use borrow.Author.Tests.{eq-eqb, ne_eqb}
 use Rattle.weights_rise.proofs.verdict_at.Goals as goal
 
 pub returns-then-line-s : goal.returns-then-line-s
-returns-then-line-s c = safe_at _ _ _ c.if-line-s.true
+returns-then-line-s c = passes_unless _ _ (eq-eqb _ _ c.if-line-s.true)
 
 -- the line's first entry has its place
 inside : (c : goal.Else-line-s) → c.args.line < length c.args.starts.now
@@ -30,4 +31,4 @@ pub overflow_add-place-2 : goal.overflow_add-place-2
 overflow_add-place-2 c = record { fits = omega (arith, c.weights_at.ensures, begins_low _ c.requires.within_limits, c.type_inv.starts c.args.line) }
 
 pub returns : goal.returns
-returns c = rw c.weights_at.ensures (raised_at _ _ _ c.if-line-s.false)
+returns c = rw c.weights_at.ensures (refuses_unless _ _ (ne_eqb _ _ c.if-line-s.false))

@@ -1,12 +1,11 @@
 use native.Mathlib.Omega.{arith}
-use mathlib.Core.Path.{refl, sym, ap, ◌∙◌}
+use mathlib.Core.Path.{◌≡◌, refl, sym, ap, ◌∙◌}
+use Rattle.std.proofs.Common.{Err}
 use borrow.Author.Rules.{rules}
-use Rattle.model.specs.Verify.{answer}
-use Rattle.model.proofs.Exact.Answer.{rise_refuses, light_refuses}
-use Rattle.answers.proofs.Passing.{passed}
+use Rattle.model.specs.Verify.{outcome}
 use Rattle.system_totals.proofs.Walk.{room_kept}
 use Rattle.stages.specs.Order.{below_weights}
-use Rattle.stages.proofs.Answering.{goes_by, ends_with}
+use Rattle.stages.proofs.Answering.{goes_past, ends_at, judged_ok, judged_err, holds_of}
 use Rattle.rule_tables.proofs.Joining.{long, lent_letters}
 use Rattle.stages.proofs.Laying.{ceilings_of_ready}
 use Rattle.weights_stage.proofs.weights_on.Goals as goal
@@ -16,13 +15,15 @@ fill_weights-requires c =
     let l = c.requires.lined in
     let r = c.requires.bounds_room.0 in record { whole = (ceilings_of_ready _ _ c.requires.joined_tables.ready, l.some, l.in_form); bounds_room = r }
 
-pub rise_check-rises-requires : goal.rise_check-rises-requires
-rise_check-rises-requires c = record { joined_tables = c.requires.joined_tables; weights_ready = record { counted = c.requires.lined.counted; table = c.fill_weights.ensures.weights_table; begins = c.fill_weights.ensures.begins_table }; rule_room = c.requires.rule_room }
+pub rise_check-requires : goal.rise_check-requires
+rise_check-requires c = record { joined_tables = c.requires.joined_tables; weights_ready = record { counted = c.requires.lined.counted; table = c.fill_weights.ensures.weights_table; begins = c.fill_weights.ensures.begins_table }; rule_room = c.requires.rule_room }
 
-pub returns-then-not-is_safe : goal.returns-then-not-is_safe
+pub returns-in_err-totals : goal.returns-in_err-totals
 unfolding below_weights
-returns-then-not-is_safe c =
-    let z = ends_with _ _ _ _ _ _ _ _ refl c.rise_check-rises.ensures.verdict_value c.is_safe.ensures c.if-not-is_safe.true in record { value = z.0; lent_after = z.1 }
+returns-in_err-totals c =
+    let v = c.in_err-totals.field-0.0 in
+    let b : c.from_residual.result ≡ Err v = search rules in
+    let z = ends_at _ _ _ _ _ v _ _ _ refl c.rise_check.ensures.value (judged_err _ v c.in_err-totals.was) b in record { value = z.0; lent_after = z.1 }
 
 pub slice_bounds-light_verdict-start : goal.slice_bounds-light_verdict-start
 slice_bounds-light_verdict-start c = let l = long _ _ _ _ _ _ c.requires.joined_tables in search rules
@@ -30,8 +31,8 @@ slice_bounds-light_verdict-start c = let l = long _ _ _ _ _ _ c.requires.joined_
 pub slice_bounds-light_verdict-count : goal.slice_bounds-light_verdict-count
 slice_bounds-light_verdict-count c = omega (arith, long _ _ _ _ _ _ c.requires.joined_tables)
 
-pub light_verdict-light-requires : goal.light_verdict-light-requires
-light_verdict-light-requires c =
+pub light_verdict-requires : goal.light_verdict-requires
+light_verdict-requires c =
     let t = c.requires.joined_tables in
     let l = c.requires.lined in
     record {
@@ -40,20 +41,25 @@ light_verdict-light-requires c =
       weights_table = (c.fill_weights.ensures.weights_table, c.requires.bounds_room.1);
     }
 
-pub returns-then-not-is_safe-2 : goal.returns-then-not-is_safe-2
+pub returns-in_err-light_verdict : goal.returns-in_err-light_verdict
 unfolding below_weights
-returns-then-not-is_safe-2 c =
-    let z = ends_with _ _ _ _ _ _ _ _ (goes_by _ _ _ refl (passed _ _ _ (rise_refuses _ _ _ _) c.rise_check-rises.ensures.verdict_value c.is_safe.ensures c.if-not-is_safe.false)) c.light_verdict-light.ensures c.is_safe-2.ensures c.if-not-is_safe-2.true in record { value = z.0; lent_after = z.1 }
+returns-in_err-light_verdict c =
+    let v = c.in_err-light_verdict.field-0.0 in
+    let b : c.from_residual-in_err-light_verdict.result ≡ Err v = search rules in
+    let z = ends_at _ _ _ _ _ v _ _ _ (goes_past _ _ _ _ refl c.rise_check.ensures.value (judged_ok _ _ c.in_ok-totals.was)) c.light_verdict.ensures c.in_err-light_verdict.was b in record { value = z.0; lent_after = z.1 }
 
 pub space_verdict-requires : goal.space_verdict-requires
-space_verdict-requires c = record {
-  joined_tables = c.requires.joined_tables;
-  rule_room = room_kept _ _ _ _ _ _ c.requires.rule_room.0 c.rise_check-rises.auto.tos c.rise_check-rises.auto.others;
-  totalled = c.rise_check-rises.ensures.totalled;
-}
+space_verdict-requires c =
+    record {
+      joined_tables = c.requires.joined_tables;
+      rule_room = room_kept _ _ _ _ _ _ c.requires.rule_room.0 c.rise_check.auto.tos c.rise_check.auto.others;
+      totalled = holds_of _ _ _ c.in_ok-totals.was c.rise_check.ensures.totalled;
+    }
 
 pub returns : goal.returns
 unfolding below_weights
 returns c =
-    let rise = passed _ _ _ (rise_refuses _ _ _ _) c.rise_check-rises.ensures.verdict_value c.is_safe.ensures c.if-not-is_safe.false in
-    let light = passed _ _ _ (light_refuses _ _ _ _ _) c.light_verdict-light.ensures c.is_safe-2.ensures c.if-not-is_safe-2.false in record { value = c.space_verdict.ensures.value ∙ sym (ap answer (goes_by _ _ _ (goes_by _ _ _ refl rise) light)); lent_after = c.space_verdict.ensures.lent_after }
+    record {
+      value = c.space_verdict.ensures.value ∙ sym (ap outcome (goes_past _ _ _ _ (goes_past _ _ _ _ refl c.rise_check.ensures.value (judged_ok _ _ c.in_ok-totals.was)) c.light_verdict.ensures c.in_ok-light_verdict.was));
+      lent_after = c.space_verdict.ensures.lent_after;
+    }

@@ -1,15 +1,10 @@
-use Prim.Native.Nat.{◌-◌}
 use native.Mathlib.Omega.{arith}
-use mathlib.Core.Path.{◌≡◌, refl, ◌∙◌}
+use mathlib.Core.Path.{◌≡◌, ◌∙◌}
 use lib.ListN.{length, length-set}
 use lib.Seq.{take-length}
-use borrow.Author.Rules.{rules}
 use Rattle.model.specs.Words.{words}
 use Rattle.words.proofs.Words.{words_length, put_next}
 use Rattle.words.proofs.decode.Goals as goal
-
-pub loop-i-init : goal.loop-i-init
-loop-i-init c = (refl, refl, search rules)
 
 pub loop-i-preserved : goal.loop-i-preserved
 loop-i-preserved c =
@@ -17,7 +12,7 @@ loop-i-preserved c =
     let h = c.loop-i in
     let l = words_length a.bytes.now in
     let next = put_next h.i (words a.bytes.now) a.into.now (omega arith) (omega arith) in
-    (rw (h.invariant.0, c.word.ensures) next, length-set h.into h.i c.word.result ∙ h.invariant.1, search rules)
+    (rw (h.invariant.0, c.word.ensures) next, length-set h.into h.i c.word.result ∙ h.invariant.1)
 
 pub returns : goal.returns
 returns c =

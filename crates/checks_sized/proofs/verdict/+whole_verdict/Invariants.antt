@@ -1,6 +1,4 @@
-use Prim.Native.Nat.{ℕ, ◌<◌, ◌-◌}
-use native.Mathlib.Omega.{arith}
-use borrow.Author.Rules.{rules}
+use Prim.Native.Nat.{◌-◌}
 use Rattle.checks_sized.proofs.verdict.+whole_verdict.Given as goal
 
 abbrev pub decreases-whole_verdict : goal.decreases-whole_verdict

@@ -3,7 +3,6 @@ use mathlib.Core.Path.{sym, ap, ◌∙◌}
 use lib.ListN.{length}
 use Rattle.words.proofs.Words.{words_length}
 use Rattle.checks_sized.proofs.Decoding.{decoded, parts_whole, whole_told, whole_written}
-use borrow.Author.Rules.{rules}
 use Rattle.checks_sized.proofs.verdict.decoded_verdict.Goals as goal
 
 pub slice_bounds-sized_verdict-end-2 : goal.slice_bounds-sized_verdict-end-2

@@ -1,6 +1,7 @@
+use Rattle.std.proofs.Common.{rules}
 use Rattle.corpus.specs.Digest.{with_byte}
 use Rattle.corpus.proofs.digest.add_byte.Goals as goal
 
 pub returns : goal.returns
 unfolding with_byte
-returns c = c.times_prime.ensures
+returns c = search rules

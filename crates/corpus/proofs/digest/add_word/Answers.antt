@@ -1,5 +1,7 @@
-use Rattle.corpus.proofs.Digesting.{four_bytes}
+use Rattle.std.proofs.Common.{ap, ◌∙◌}
+use Rattle.corpus.specs.Digest.{digest_from, with_word}
 use Rattle.corpus.proofs.digest.add_word.Goals as goal
 
 pub returns : goal.returns
-returns c = four_bytes _ _ _ _ _ _ c.add_byte-first.ensures c.add_byte-second.ensures c.add_byte-third.ensures c.add_byte.ensures
+unfolding digest_from with_word
+returns c = c.add_bytes.ensures ∙ ap (digest_from c.args.digest) c.to_le_bytes.ensures

@@ -4,44 +4,11 @@ use mathlib.Core.Path.{sym, ◌∙◌}
 use Rattle.layout.proofs.Ending.{ends_bound, ends_case, ends_receive, ends_pattern, ends_row, num_word, arity_of}
 use Rattle.layout.proofs.ends.end_row.Goals as goal
 
-pub overflow_add-next : goal.overflow_add-next
-overflow_add-next c = record { fits = omega (arith, c.requires.r_lt_rows, c.requires.whole.rows) }
-
-pub num-n-requires : goal.num-n-requires
-num-n-requires c = c.requires.whole
-
-pub tag-requires : goal.tag-requires
-tag-requires c = c.requires.whole
-
-pub num-count-requires : goal.num-count-requires
-num-count-requires c = c.requires.whole
-
-pub overflow_add-first : goal.overflow_add-first
-overflow_add-first c = record { fits = omega (arith, c.requires.r_lt_rows, c.requires.whole.rows) }
-
 pub overflow_mul-count : goal.overflow_mul-count
 overflow_mul-count c = omega (arith, c.num-count.ensures, num_word c.args.ws.now c.args.s (c.args.r + 1) (λ i. (c.type_inv.ws i).fits))
 
-pub hops-requires : goal.hops-requires
-hops-requires c = tt
-
 pub overflow_mul-n : goal.overflow_mul-n
 overflow_mul-n c = omega (arith, c.num-n.ensures, num_word c.args.ws.now c.args.s c.args.r (λ i. (c.type_inv.ws i).fits))
-
-pub hops-requires-in-9 : goal.hops-requires-in-9
-hops-requires-in-9 c = tt
-
-pub num-arity-requires : goal.num-arity-requires
-num-arity-requires c = c.requires.whole
-
-pub hops-requires-in-31 : goal.hops-requires-in-31
-hops-requires-in-31 c = tt
-
-pub rest_row-rest-requires : goal.rest_row-rest-requires
-rest_row-rest-requires c = record { whole = c.requires.whole; r_lt_rows = c.requires.r_lt_rows; after_from = (c.requires.after_from) }
-
-pub entry-requires : goal.entry-requires
-entry-requires c = tt
 
 pub returns-in-8 : goal.returns-in-8
 returns-in-8 c = ends_case _ _ _ _ _ _ (sym c.tag.ensures ∙ c.in-8.is) c.num-count.ensures c.hops.ensures c.requires.after_from

@@ -3,38 +3,11 @@ use Prim.Native.Nat.{◌+◌}
 use Rattle.layout.proofs.Ending.{rest_2, rest_3, rest_4, rest_5, rest_6, rest_none, num_word}
 use Rattle.layout.proofs.ends.rest_row.Goals as goal
 
-pub overflow_add-next : goal.overflow_add-next
-overflow_add-next c = record { fits = omega (arith, c.requires.r_lt_rows, c.requires.whole.rows) }
-
-pub overflow_add-second : goal.overflow_add-second
-overflow_add-second c = record { fits = omega (arith, c.requires.r_lt_rows, c.requires.whole.rows) }
-
-pub overflow_add-third : goal.overflow_add-third
-overflow_add-third c = record { fits = omega (arith, c.requires.r_lt_rows, c.requires.whole.rows) }
-
-pub tag-requires : goal.tag-requires
-tag-requires c = c.requires.whole
-
-pub num-k-requires : goal.num-k-requires
-num-k-requires c = c.requires.whole
-
-pub num-n-requires : goal.num-n-requires
-num-n-requires c = c.requires.whole
-
 pub overflow_add-result : goal.overflow_add-result
 overflow_add-result c = omega (arith, c.num-n.ensures, num_word c.args.ws.now c.args.s c.num-k.result (λ i. (c.type_inv.ws i).fits))
 
-pub num-n-requires-in-3 : goal.num-n-requires-in-3
-num-n-requires-in-3 c = c.requires.whole
-
 pub overflow_add-body : goal.overflow_add-body
 overflow_add-body c = omega (arith, c.num-n-in-3.ensures, num_word c.args.ws.now c.args.s (c.args.r + 1) (λ i. (c.type_inv.ws i).fits))
-
-pub entry-requires : goal.entry-requires
-entry-requires c = tt
-
-pub num-n-requires-in-4 : goal.num-n-requires-in-4
-num-n-requires-in-4 c = c.requires.whole
 
 pub overflow_add-result-in-4 : goal.overflow_add-result-in-4
 overflow_add-result-in-4 c = omega (arith, c.num-n-in-4.ensures, num_word c.args.ws.now c.args.s (c.args.r + 2) (λ i. (c.type_inv.ws i).fits))

@@ -1,17 +1,10 @@
-use Prim.Native.Nat.{◌-◌}
 use native.Mathlib.Omega.{arith}
 use Rattle.model.specs.Words.{columns}
 use Rattle.model.specs.Rows.{program}
 use Rattle.matching.proofs.Subpatterns.{pattern_within}
-use Rattle.matching.proofs.Arguments.{match_flow, arguments_begin, arguments_end, argument_here, arguments_none, arguments_next, built_row, count_low}
+use Rattle.matching.proofs.Arguments.{arguments_begin, arguments_end, argument_here, arguments_none, arguments_next, built_row, count_low}
 use borrow.Author.Rules.{rules}
 use Rattle.matching.proofs.codes.arguments_code.Goals as goal
-
-pub num-made-requires : goal.num-made-requires
-num-made-requires c = c.requires.cases.ready.whole
-
-pub num-arity-requires : goal.num-arity-requires
-num-arity-requires c = c.requires.cases.ready.whole
 
 pub overflow_add-sub : goal.overflow_add-sub
 unfolding program columns
@@ -26,13 +19,11 @@ overflow_add-v c = omega (arith, (built_row c.requires.cases.ready _ _ c.require
 pub overflow_add-v-in-loop-i : goal.overflow_add-v-in-loop-i
 overflow_add-v-in-loop-i c = omega (arith, (built_row c.requires.cases.ready _ _ c.requires.same_made.same).2, count_low c.requires.cases.ready c.loop-i.invariant)
 
-pub num-name-requires : goal.num-name-requires
-num-name-requires c = c.requires.cases.ready.whole
-
-pub values_code-code-requires : goal.values_code-code-requires
+pub values_code-code-requires-clause-pattern_asked : goal.values_code-code-requires-clause-pattern_asked
 unfolding program columns
-values_code-code-requires c =
-    let h = argument_here c.requires.cases c.loop-i.invariant (search rules) _ c.num-name.ensures in record { flow_ready = match_flow c.requires.cases; pattern_asked = (record { row = h.values.row; stands = h.stands }, h.matched) }
+values_code-code-requires-clause-pattern_asked c =
+    let h = argument_here c.requires.cases c.loop-i.invariant (search rules) _ c.num-name.ensures in
+    (record { row = h.values.row; stands = h.stands }, h.matched)
 
 pub returns-then-code-eq0 : goal.returns-then-code-eq0
 returns-then-code-eq0 c = arguments_none c.requires.cases c.loop-i.invariant (search rules) _ c.num-name.ensures _ c.values_code-code.ensures c.if-code-eq0.true

@@ -6,6 +6,3 @@ use Rattle.matching.proofs.codes.arguments_code.Given as goal
 
 abbrev pub invariant-loop-i : goal.invariant-loop-i
 invariant-loop-i l = Arguments (program l.ws l.s) (tables l.ws l.s) l.q l.v l.arity l.worst l.sub l.i
-
-abbrev pub decreases-loop-i : goal.decreases-loop-i
-decreases-loop-i l = l.arity - l.i

@@ -3,17 +3,11 @@ use mathlib.Core.Path.{ap}
 use Rattle.matching.proofs.Leaves.{leaf_row, leaf_none, leaf_any, leaf_name, leaf_flow, held_code, lack_code}
 use Rattle.matching.proofs.codes.leaf_code.Goals as goal
 
-pub meets-requires : goal.meets-requires
-meets-requires c = let r = leaf_row _ _ _ _ c.width-w.ensures c.requires.pattern_asked.0.row in (r, r)
-
 pub returns-then-not-meets : goal.returns-then-not-meets
 returns-then-not-meets c = leaf_none _ _ _ _ _ _ c.width-w.ensures c.requires.pattern_asked.1 _ c.meets.ensures (ap not c.if-not-meets.true)
 
 pub returns-then-kind-ne-TAG_PATTERN_NAME : goal.returns-then-kind-ne-TAG_PATTERN_NAME
 returns-then-kind-ne-TAG_PATTERN_NAME c = leaf_any _ _ _ _ _ _ c.width-w.ensures c.requires.pattern_asked.1 _ c.meets.ensures (ap not c.if-not-meets.false) c.if-kind-ne-TAG_PATTERN_NAME.true
-
-pub num-name-requires : goal.num-name-requires
-num-name-requires c = c.requires.flow_ready.ready.whole
 
 pub within-requires : goal.within-requires
 within-requires c = (leaf_row _ _ _ _ c.width-w.ensures c.requires.pattern_asked.0.row, leaf_row _ _ _ _ c.width-w.ensures (leaf_flow c.requires.flow_ready _ _ c.requires.pattern_asked.0.stands c.requires.pattern_asked.1 c.if-kind-ne-TAG_PATTERN_NAME.false c.num-name.ensures).row)

@@ -3,9 +3,6 @@ use Rattle.model.specs.Rows.{program}
 use Rattle.matching.proofs.Leaves.{leaf_row, made_values, held_values}
 use Rattle.matching.proofs.codes.values_code.Goals as goal
 
-pub tag-kind-requires : goal.tag-kind-requires
-tag-kind-requires c = c.requires.flow_ready.ready.whole
-
 pub common-requires : goal.common-requires
 unfolding program columns
 common-requires c = (leaf_row _ _ _ _ c.width-w.ensures c.requires.pattern_asked.0.row, leaf_row _ _ _ _ c.width-w.ensures c.requires.pattern_asked.1.may_row, leaf_row _ _ _ _ c.width-w.ensures c.requires.pattern_asked.1.held_row)
@@ -19,6 +16,3 @@ met_code-requires c = (leaf_row _ _ _ _ c.width-w-then-kind-eq-TAG_PATTERN_HELD.
 
 pub returns-then-kind-eq-TAG_PATTERN_HELD : goal.returns-then-kind-eq-TAG_PATTERN_HELD
 returns-then-kind-eq-TAG_PATTERN_HELD c = held_values _ _ _ _ _ _ _ _ _ c.width-w-then-kind-eq-TAG_PATTERN_HELD.ensures c.requires.pattern_asked.1 c.tag-kind.ensures c.if-kind-eq-TAG_PATTERN_HELD.true _ c.met_code.ensures
-
-pub leaf_code-requires : goal.leaf_code-requires
-leaf_code-requires c = record { flow_ready = c.requires.flow_ready; pattern_asked = (c.requires.pattern_asked.0, (c.tag-kind.ensures, c.if-kind-eq-TAG_PATTERN_CONSTRUCTOR.false, c.if-kind-eq-TAG_PATTERN_HELD.false)) }

@@ -1,4 +1,4 @@
-use Prim.Native.Nat.{◌-◌, ◌≤◌}
+use Prim.Native.Nat.{◌≤◌}
 use Rattle.model.specs.Rows.{program}
 use Rattle.matching_sets.specs.Sets.{Joined}
 use Rattle.matching_sets.proofs.Joining.{equals_before}
@@ -6,6 +6,3 @@ use Rattle.matching_sets.proofs.equals.fill_equals.Given as goal
 
 abbrev pub invariant-loop-u : goal.invariant-loop-u
 invariant-loop-u l = Joined l.w l.q (equals_before (program l.ws l.s) l.flow l.w l.n l.q l.u) l.initial.may l.may × (l.u ≤ l.u-end)
-
-abbrev pub decreases-loop-u : goal.decreases-loop-u
-decreases-loop-u l = l.u-end - l.u

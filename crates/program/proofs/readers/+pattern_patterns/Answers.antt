@@ -1,14 +1,15 @@
 use borrow.Author.Rules.{rules}
 use Prim.Native.Nat.{◌+◌, ◌-◌, ◌<◌}
 use native.Mathlib.Omega.{arith}
-use mathlib.Core.Path.{◌≡◌, refl, sym, ◌∙◌}
+use mathlib.Core.Path.{◌≡◌, sym, ◌∙◌}
+use Rattle.std.proofs.Common.{Ok, Err}
 use mathlib.Core.List.{[], ◌∷◌}
 use lib.ListN.{replicate}
 use borrow.Author.Tests.{lt-ltb, le-ltb, eq-eqb, ne_eqb}
 use Rattle.model.specs.Rows.{program, pattern, arity}
 use Rattle.program.specs.Rows.{from}
 use Rattle.program.proofs.Items.{pattern_named, pattern_31, pattern_32, pattern_other, pattern_none}
-use Rattle.program.proofs.Reading.{past_answer, wrong_answer, came_past, came_wrong, replicate_past, replicate_wrong, replicate_none, replicate_by, from_stop, past_upto, takes_row, last_row, refuses_row, yes_fits, no_fits}
+use Rattle.program.proofs.Reading.{past_answer, wrong_answer, came_past, came_wrong, handed_on, replicate_past, replicate_wrong, replicate_none, replicate_by, from_stop, past_upto, takes_row, last_row, refuses_row, yes_fits, no_fits}
 use Rattle.program.proofs.readers.+pattern_patterns.Goals as goal
 
 pub pattern-returns-then-d-eq0 : goal.pattern-returns-then-d-eq0
@@ -58,26 +59,20 @@ pattern-returns-in_default t c =
     refuses_row _ _ (pattern _) _ _ _ c.tag.ensures c.num-n.ensures
     (pattern_other _ _ _ _ _ c.in_default.in_default-own.rest.0.0.1 c.in_default.in_default-own.rest.0.1 c.in_default.in_default-own.rest.1)
 
-pub patterns-loop-left-init : goal.patterns-loop-left-init
-patterns-loop-left-init t c = (search rules, refl)
+pub patterns-returns-in_err-q : goal.patterns-returns-in_err-q
+patterns-returns-in_err-q t c =
+    let l = c.loop in
+    let wrong : c.pattern.result ≡ Err c.in_err-q.field-0.0 = search rules in
+    handed_on _ _ (search rules) (l.invariant.1 ∙ replicate_wrong _ _ _ l.q _ (omega arith) (came_wrong _ _ c.pattern.ensures wrong))
 
-pub patterns-pattern-requires : goal.patterns-pattern-requires
-patterns-pattern-requires t c = (omega arith, (search rules, search rules))
-
-pub patterns-returns-in-Wrong : goal.patterns-returns-in-Wrong
-patterns-returns-in-Wrong t c =
-    let l = c.loop-left in
-    wrong_answer _
-    (l.invariant.1 ∙
-    replicate_wrong _ _ l.left l.q _ (search rules) (came_wrong _ _ c.pattern.ensures c.in-Wrong.is))
-
-pub patterns-loop-left-preserved : goal.patterns-loop-left-preserved
-patterns-loop-left-preserved t c =
-    let l = c.loop-left in
-    let x = c.pattern in (
-      (past_upto _ _ (pattern _ ∷ []) _ l.q _ (search rules) x.ensures c.in-Past.is).1,
-      l.invariant.1 ∙ replicate_past _ _ l.left l.q _ (search rules) (came_past _ _ x.ensures c.in-Past.is),
+pub patterns-loop-preserved : goal.patterns-loop-preserved
+patterns-loop-preserved t c =
+    let l = c.loop in
+    let x = c.pattern in
+    let past : x.result ≡ Ok c.in_ok-q.q = search rules in (
+      (past_upto _ _ (pattern _ ∷ []) _ l.q _ l.invariant.0 x.ensures past).1,
+      l.invariant.1 ∙ replicate_past _ _ _ _ l.q _ (omega arith) (came_past _ _ x.ensures past),
     )
 
 pub patterns-returns : goal.patterns-returns
-patterns-returns t c = let l = c.loop-left in past_answer l.q (l.invariant.1 ∙ replicate_none _ _ l.left l.q (search rules))
+patterns-returns t c = let l = c.loop in past_answer l.q (l.invariant.1 ∙ replicate_none _ _ _ l.q (omega arith))

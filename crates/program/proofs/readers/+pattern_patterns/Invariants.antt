@@ -11,9 +11,6 @@ decreases-pattern l = 2 * l.d
 abbrev pub decreases-patterns : goal.decreases-patterns
 decreases-patterns l = 2 * l.d + 1
 
-abbrev pub invariant-patterns-loop-left : goal.invariant-patterns-loop-left
-invariant-patterns-loop-left l =
-    (l.q ≤ l.s.rows) × (from (program l.ws l.s) (replicate l.n (pattern l.d)) l.r ≡ from (program l.ws l.s) (replicate l.left (pattern l.d)) l.q)
-
-abbrev pub decreases-patterns-loop-left : goal.decreases-patterns-loop-left
-decreases-patterns-loop-left l = l.left
+abbrev pub invariant-patterns-loop : goal.invariant-patterns-loop
+invariant-patterns-loop l =
+    (l.q ≤ l.s.rows) × (from (program l.ws l.s) (replicate l.n (pattern l.d)) l.r ≡ from (program l.ws l.s) (replicate (l.n - l.counter) (pattern l.d)) l.q)

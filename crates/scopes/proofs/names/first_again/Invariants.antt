@@ -1,4 +1,3 @@
-use Prim.Native.Nat.{◌≤◌, ◌-◌}
 use mathlib.Core.Path.{◌≡◌}
 use Rattle.model.specs.Index.{first}
 use Rattle.model.specs.Rows.{program}
@@ -6,7 +5,4 @@ use Rattle.model.specs.Scopes.{bound_again}
 use Rattle.scopes.proofs.names.first_again.Given as goal
 
 abbrev pub invariant-loop-r : goal.invariant-loop-r
-invariant-loop-r l = (l.r ≤ l.s.rows) × (first 0 l.s.rows (bound_again (program l.ws l.s)) ≡ first l.r l.s.rows (bound_again (program l.ws l.s)))
-
-abbrev pub decreases-loop-r : goal.decreases-loop-r
-decreases-loop-r l = l.s.rows - l.r
+invariant-loop-r l = first 0 l.s.rows (bound_again (program l.ws l.s)) ≡ first l.r l.s.rows (bound_again (program l.ws l.s))

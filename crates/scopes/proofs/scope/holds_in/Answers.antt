@@ -4,12 +4,6 @@ use mathlib.Core.Path.{sym, ◌∙◌, ap}
 use Rattle.scopes.proofs.Scoping.{holds_rest, holds_next}
 use Rattle.scopes.proofs.scope.holds_in.Goals as goal
 
-pub tag-requires : goal.tag-requires
-tag-requires c = c.requires.laid.fitted.whole
-
-pub rest_of-requires : goal.rest_of-requires
-rest_of-requires c = record { fitted = c.requires.laid.fitted; ends = (c.requires.laid.after, c.requires.b_lt_rows) }
-
 pub returns-then-is_head : goal.returns-then-is_head
 returns-then-is_head c = holds_rest _ _ _ (ap is_head_of (sym c.tag.ensures) ∙ (sym c.is_head.ensures ∙ c.if-is_head.true)) c.rest_of.ensures
 

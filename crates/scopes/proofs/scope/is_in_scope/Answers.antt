@@ -8,9 +8,6 @@ use Rattle.scopes.proofs.scope.is_in_scope.Goals as goal
 pub returns-then-tag-eq-TAG_GLOBAL : goal.returns-then-tag-eq-TAG_GLOBAL
 returns-then-tag-eq-TAG_GLOBAL c = scope_global _ _ _ (sym c.tag.ensures ∙ c.if-tag-eq-TAG_GLOBAL.true)
 
-pub holds_in-from-requires : goal.holds_in-from-requires
-holds_in-from-requires c = record { laid = c.requires.laid; b_lt_rows = c.requires.r_lt_rows.1 }
-
 pub returns-then-from-r : goal.returns-then-from-r
 returns-then-from-r c = scope_before _ _ _ _ (λ y. c.if-tag-eq-TAG_GLOBAL.false (c.tag.ensures ∙ y)) c.holds_in-from.ensures c.if-from-r.true
 

@@ -21,9 +21,9 @@ overflow_add-r-2 c = omega (arith, (row_below c.requires.starts_ready.ready c.ar
 pub num-count-requires : goal.num-count-requires
 num-count-requires c = c.requires.starts_ready.ready.whole
 
-pub word-j-requires : goal.word-j-requires
+pub word-from-requires : goal.word-from-requires
 unfolding program
-word-j-requires c = omega (arith, (read_name c.requires.starts_ready.ready c.args.r _ (omega (arith, c.requires.r_value)) (omega (arith, c.requires.r_value)) c.num-callee.ensures), c.requires.starts_ready.begins.room)
+word-from-requires c = omega (arith, (read_name c.requires.starts_ready.ready c.args.r _ (omega (arith, c.requires.r_value)) (omega (arith, c.requires.r_value)) c.num-callee.ensures), c.requires.starts_ready.begins.room)
 
 pub overflow_add-callee : goal.overflow_add-callee
 unfolding program
@@ -34,7 +34,7 @@ unfolding program
 word-to-requires c = omega (arith, (read_name c.requires.starts_ready.ready c.args.r _ (omega (arith, c.requires.r_value)) (omega (arith, c.requires.r_value)) c.num-callee.ensures), c.requires.starts_ready.begins.room)
 
 pub loop-j-init : goal.loop-j-init
-loop-j-init c = (callees_all _ _ _ _ _ _ c.num-callee.ensures (starts_range c.requires.starts_ready.ready c.requires.starts_ready.begins _ _ _ (read_name c.requires.starts_ready.ready c.args.r _ (omega (arith, c.requires.r_value)) (omega (arith, c.requires.r_value)) c.num-callee.ensures) c.word-j.ensures.0 c.word-to.ensures.0 _).0, omega (arith, c.word-to.ensures.1))
+loop-j-init c = (callees_all _ _ _ _ _ _ c.num-callee.ensures (starts_range c.requires.starts_ready.ready c.requires.starts_ready.begins _ _ _ (read_name c.requires.starts_ready.ready c.args.r _ (omega (arith, c.requires.r_value)) (omega (arith, c.requires.r_value)) c.num-callee.ensures) c.word-from.ensures.0 c.word-to.ensures.0 _).0, omega (arith, c.word-to.ensures.1))
 
 pub returns-then-not-callee_here : goal.returns-then-not-callee_here
 returns-then-not-callee_here c = sym (c.loop-j.invariant.0 ∙ all_miss _ _ _ (search rules) (sym (callee_told _ _ _ _ _ _ _ _ c.flow_value-f.ensures c.num-count.ensures c.callee_here.ensures) ∙ c.if-not-callee_here.true))

@@ -9,6 +9,3 @@ use Rattle.stated.proofs.calls.callees_here.Given as goal
 
 abbrev pub invariant-loop-j : goal.invariant-loop-j
 invariant-loop-j l = (callees_of (program l.ws l.s) (tables l.ws l.s) (state_at (tables l.ws l.s) l.i) l.r ≡ all l.j l.to (callee_at (program l.ws l.s) (tables l.ws l.s) (state_at (tables l.ws l.s) l.i) l.r)) × (l.to ≤ 65536)
-
-abbrev pub decreases-loop-j : goal.decreases-loop-j
-decreases-loop-j l = l.to - l.j

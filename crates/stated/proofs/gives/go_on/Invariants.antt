@@ -7,6 +7,3 @@ use Rattle.stated.proofs.gives.go_on.Given as goal
 
 abbrev pub invariant-loop-j : goal.invariant-loop-j
 invariant-loop-j l = all l.from l.to (goes_on (tables l.ws l.s) l.r) ≡ all l.j l.to (goes_on (tables l.ws l.s) l.r)
-
-abbrev pub decreases-loop-j : goal.decreases-loop-j
-decreases-loop-j l = l.to - l.j

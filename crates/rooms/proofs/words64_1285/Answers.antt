@@ -1,5 +1,0 @@
-use Rattle.rooms.proofs.Clearing.{cleared}
-use Rattle.rooms.proofs.words64_1285.Goals as goal
-
-pub returns : goal.returns
-returns c = cleared 1285
