@@ -49,10 +49,11 @@ pub fn ceilings_on(
     start_verdict(ws, s, narrow, n, limits)?;
     met_verdict(ws, s, &narrow[LETTER_AT..], letters, n, limits, sums)?;
     let mut at = row_words16();
-    let totals = leaks_on(
+    let (totals, leaks) = leaks_on(
         ws, s, narrow, fitting, names, letters, n, limits, ceiling_at, holders, group, near,
         &mut at, tos, others,
-    )?;
+    );
+    leaks?;
     space_verdict(
         ws, s, narrow, fitting, names, letters, totals, &mut at, tos, others, lent,
     )

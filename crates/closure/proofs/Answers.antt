@@ -34,6 +34,10 @@ pub err_not_ok : {A : Type 0} (v : Verdict) → ◌≡◌ {A = Result Unit Verdi
 unfolding outcome
 err_not_ok v e = absurd (some-ne-none v (nothing_found (some v) (Err v) refl e))
 
+-- the states before the first one that lacks something
+pub told_first : {p : Program} {t : Tables} {branches : List ℕ} {i : ℕ} → first_open_of p t ≡ i → Told p t branches i → Told p t branches (first_open_of p t)
+told_first e h = rw e h
+
 -- state i is the first that lacks something, or none does
 module _ (s : Sizes) (p : Program) (t : Tables) (i : ℕ) (first_is : first_open_of p t ≡ i) where
   pub state_lacks : i < t.states.size → (v : Verdict) → v ≡ open_state s i → Err v ≡ outcome (states_check s p t)

@@ -11,7 +11,7 @@ ghost use Rattle.branches.specs.Taken.{LayoutReady};
 ghost use Rattle.settled.specs.Settled.{ClosureReady};
 ghost use Rattle.codes.specs.Codes.{Codes};
 ghost use Rattle.stated.specs.Stated.{Stated};
-ghost use Rattle.closure.specs.Told.{Told, open_state, states_check};
+ghost use Rattle.closure.specs.Told.{Told, first_open_of, open_state, states_check};
 ghost use Rattle.closure.specs.Lent.{Indexed, Cleared, OpenScratch, Openable, Opened};
 
 use branches::LACKS;
@@ -88,7 +88,8 @@ fn open_state(s: Sizes, i: usize) -> Verdict
     Verdict::Open(place)
 }
 
-// The refusal of the first state that lacks something; where none does, the branches of all states have their bits.
+// The refusal of the first state that lacks something, and the branches of the states before it have their bits; where
+// none does, those of all states.
 fn states_check(
     ws: &[u16],
     s: Sizes,
@@ -107,6 +108,8 @@ fn states_check(
         × Codes (program ws.now s) (tables ws.now s) codes.old }
     ensures says { result ≡ outcome (states_check s (program ws.now s) (tables ws.now s)) }
     ensures told { result ≡ Ok tt → Told (program ws.now s) (tables ws.now s) branches.new s.states }
+    ensures told_before { Told (program ws.now s) (tables ws.now s) branches.new
+        (first_open_of (program ws.now s) (tables ws.now s)) }
 {
     for i in 0..s.states {
         guess_class(ws, s, at, i);

@@ -2,12 +2,12 @@
 // test.
 #![tactic(auto)]
 
-ghost use Rattle.std.specs.Prelude.{◌≡◌, ◌≤◌, length, IfOk};
+ghost use Rattle.std.specs.Prelude.{◌≡◌, ◌≤◌, length};
 ghost use Rattle.model.specs.Rows.{program};
 ghost use Rattle.model.specs.Tables.{tables};
 ghost use Rattle.model.specs.Rules.{rules};
 ghost use Rattle.model.specs.Ceilings.{ceilings_of, leak_check_of};
-ghost use Rattle.model.specs.Verify.{judged, outcome};
+ghost use Rattle.model.specs.Verify.{outcome};
 ghost use Rattle.lists.specs.Ready.{Ready};
 ghost use Rattle.system_letters.specs.Letters.{ClassLetters};
 ghost use Rattle.rules.specs.Derived.{RuleRoom};
@@ -37,7 +37,8 @@ fn spare_words(ws: &[u16], s: Sizes, letter_at: &[u16], room: usize) -> usize
     for_letters.min(for_values).min(for_counters)
 }
 
-// Refusal 13, or the totals of the rules, which are counted on the way, over lent sets of ceilings and lists of rules.
+// The totals of the rules, refused or not, which are counted on the way, and refusal 13, over lent sets of ceilings and
+// lists of rules.
 pub fn leaks_on(
     ws: &[u16],
     s: Sizes,
@@ -54,15 +55,15 @@ pub fn leaks_on(
     at: &mut [u16],
     tos: &mut [u16],
     others: &mut [u16],
-) -> Result<Totals, Verdict>
+) -> (Totals, Result<(), Verdict>)
     requires joined_tables { JoinedTables ws.now s narrow.now fitting.now names.now letters.now }
     requires limited { Limited ws.now s n limits.now ceiling_at.now }
     requires mask_room { MaskRoom n holders.old group.old near.old }
     requires rule_room { RuleRoom ws.now s tos.old others.old × (length tos.old ≤ 65536) }
-    ensures value { judged result ≡
+    ensures value { result.1 ≡
         outcome (leak_check_of ws.now s (ceilings_of ws.now s n)
         (rules (program ws.now s) (tables ws.now s))) }
-    ensures totalled { IfOk result (Totalled (program ws.now s) (tables ws.now s)) }
+    ensures totalled { Totalled (program ws.now s) (tables ws.now s) result.0 }
 {
     fill_holders(limits, s.ceilings, n, holders);
     let letter_at = &narrow[LETTER_AT..];
@@ -87,9 +88,9 @@ pub fn leaks_on(
         group,
     );
     let kept = gathered.kept;
-    leak_check(
+    let leaks = leak_check(
         ws, s, narrow, fitting, names, letters, n, limits, ceiling_at, holders, group, kept,
         &first_at, at, tos, others, near,
-    )?;
-    Ok(gathered.totals)
+    );
+    (gathered.totals, leaks)
 }

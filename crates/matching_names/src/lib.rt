@@ -75,7 +75,9 @@ fn fill_names(ws: &[u16], s: Sizes, may: &[u64], fitting: &mut [u64], q: usize)
     }
 }
 
-// The sets of names of all patterns that ask for one, in a table of zeros.
+// The sets of names of all patterns that ask for one, in a table of zeros. (A function of its own for LLVM: within the
+// check that calls it too few registers were left, and the innermost loop read two addresses anew from the stack.)
+#[inline(never)]
 pub fn fill_fitting(ws: &[u16], s: Sizes, may: &[u64], fitting: &mut [u64])
     requires ready { Ready ws.now s }
     requires room { Room (width s.rows) s.rows may.now }

@@ -42,21 +42,21 @@ pub const LIMIT_ROOM: usize = MAX_COUNTERS * MAX_CEILINGS;
 pub fn words16<const N: usize>() -> [u16; N]
     ensures { Cleared N result }
 {
-    [0; N]
+    [0u16; N]
 }
 
 // So many words of 32 bits.
 pub fn words32<const N: usize>() -> [u32; N]
     ensures { Cleared N result }
 {
-    [0; N]
+    [0u32; N]
 }
 
 // So many words of 64 bits.
 pub fn words64<const N: usize>() -> [u64; N]
     ensures { Cleared N result }
 {
-    [0; N]
+    [0u64; N]
 }
 
 // A word for each row, and two behind them.

@@ -29,12 +29,15 @@ pub const BRANCHES: usize = 2 * ROW_ROOM;
 // From here on stands where the letters of each class begin.
 pub const LETTER_AT: usize = 3 * ROW_ROOM;
 
-// The first n words of a, put from word p of t on.
+// The first n words of a, put from word p of t on. (Word by word: of the library's `copy_from_slice` LLVM makes a call
+// of `memmove`, and the archive for C asks for `memcpy` and `memset` alone from outside, as its header says.)
 fn copy_words(t: &mut [u16], a: &[u16], p: usize, n: usize)
     requires { (p + n ≤ length t.old) × (n ≤ length a.now) }
     ensures { Filled t.old t.new p n (λ j. get_or a.now j 0) }
 {
-    t[p..p + n].copy_from_slice(&a[..n]);
+    for j in 0..n {
+        t[p + j] = a[j];
+    }
 }
 
 // Where flow begins and the branches that may match, put into their places; all words before them stay.

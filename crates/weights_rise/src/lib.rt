@@ -1,7 +1,7 @@
 // Refusal 17: a rule raises a line's weighed sum. The rules are counted on the way.
 #![tactic(auto)]
 
-ghost use Rattle.std.specs.Prelude.{◌≡◌, ◌+◌, ◌≤◌, length, get_or, eqb, IfOk};
+ghost use Rattle.std.specs.Prelude.{◌≡◌, ◌+◌, ◌≤◌, length, get_or, eqb};
 ghost use Rattle.model.specs.declared.Verdict.TheVariants.{Rise};
 ghost use Rattle.model.specs.Limits.{present};
 ghost use Rattle.model.specs.Index.{first};
@@ -12,7 +12,7 @@ ghost use Rattle.model.specs.Tables.{tables};
 ghost use Rattle.model.specs.Counters.{counter_count};
 ghost use Rattle.model.specs.Rules.{rules};
 ghost use Rattle.model.specs.Weights.{lines_of, raised, rise_check_of};
-ghost use Rattle.model.specs.Verify.{judged, outcome};
+ghost use Rattle.model.specs.Verify.{outcome};
 ghost use Rattle.model.specs.Demands.{WithinLimits};
 ghost use Rattle.rules.specs.Derived.{RuleRoom};
 ghost use Rattle.rule_tables.specs.Joined.{JoinedTables};
@@ -91,8 +91,8 @@ fn verdict_at(s: Sizes, starts: &[u16], line: usize) -> Result<(), Verdict>
     Err(Verdict::Rise(place))
 }
 
-// Refusal 17: the first line that a rule raises, at its first entry. Nothing is promised of the guesses and of the
-// lists of rules afterwards.
+// The totals of the rules, refused or not, and refusal 17: the first line that a rule raises, at its first entry.
+// Nothing is promised of the guesses and of the lists of rules afterwards.
 pub fn rise_check(
     ws: &[u16],
     s: Sizes,
@@ -106,18 +106,18 @@ pub fn rise_check(
     at: &mut [u16],
     tos: &mut [u16],
     others: &mut [u16],
-) -> Result<Totals, Verdict>
+) -> (Totals, Result<(), Verdict>)
     requires joined_tables { JoinedTables ws.now s narrow.now fitting.now names.now letters.now }
     requires weights_ready { WeightsReady ws.now s n weights.now starts.now }
     requires rule_room { RuleRoom ws.now s tos.old others.old × (length tos.old ≤ 65536) }
-    ensures value { judged result ≡
+    ensures value { result.1 ≡
         outcome (rise_check_of ws.now s (lines_of ws.now s n)
         (rules (program ws.now s) (tables ws.now s))) }
-    ensures totalled { IfOk result (Totalled (program ws.now s) (tables ws.now s)) }
+    ensures totalled { Totalled (program ws.now s) (tables ws.now s) result.0 }
 {
     let risen = raised_line(
         ws, s, narrow, fitting, names, letters, n, weights, at, tos, others,
     );
-    verdict_at(s, starts, risen.line)?;
-    Ok(risen.totals)
+    let raised = verdict_at(s, starts, risen.line);
+    (risen.totals, raised)
 }

@@ -45,9 +45,10 @@ fn weights_on(
 {
     fill_weights(ws, s, n, weights, starts);
     let mut at = row_words16();
-    let totals = rise_check(
+    let (totals, raised) = rise_check(
         ws, s, narrow, fitting, names, letters, n, weights, starts, &mut at, tos, others,
-    )?;
+    );
+    raised?;
     light_verdict(
         ws,
         s,

@@ -4,7 +4,7 @@ use Rattle.std.proofs.Common.{Err}
 use Rattle.model.specs.Verify.{outcome}
 use Rattle.system_totals.proofs.Walk.{room_kept}
 use Rattle.stages.specs.Order.{below_ceilings}
-use Rattle.stages.proofs.Answering.{goes_past, ends_at, judged_ok, judged_err, holds_of}
+use Rattle.stages.proofs.Answering.{goes_past, ends_at}
 use Rattle.rule_tables.proofs.Joining.{long, lent_letters}
 use Rattle.stages.proofs.Laying.{ceilings_of_ready}
 use borrow.Author.Rules.{rules}
@@ -50,8 +50,8 @@ returns-in_err-met_verdict c =
     let b : c.from_residual-in_err-met_verdict.result ≡ Err v = search rules in
     let z = ends_at _ _ _ _ _ v _ _ _ (goes_past _ _ _ _ refl c.start_verdict.ensures c.in_ok-start_verdict.was) c.met_verdict.ensures c.in_err-met_verdict.was b in record { value = z.0; lent_after = z.1 }
 
-pub leaks_on-requires : goal.leaks_on-requires
-leaks_on-requires c =
+pub leaks_on-leaks-requires : goal.leaks_on-leaks-requires
+leaks_on-leaks-requires c =
     let n = c.requires.numbered in
     record {
       joined_tables = c.requires.joined_tables;
@@ -60,25 +60,25 @@ leaks_on-requires c =
       rule_room = c.requires.rule_room;
     }
 
-pub returns-in_err-totals : goal.returns-in_err-totals
+pub returns-in_err-leaks : goal.returns-in_err-leaks
 unfolding below_ceilings
-returns-in_err-totals c =
-    let v = c.in_err-totals.field-0.0 in
-    let b : c.from_residual-in_err-totals.result ≡ Err v = search rules in
-    let z = ends_at _ _ _ _ _ v _ _ _ (goes_past _ _ _ _ (goes_past _ _ _ _ refl c.start_verdict.ensures c.in_ok-start_verdict.was) c.met_verdict.ensures c.in_ok-met_verdict.was) c.leaks_on.ensures.value (judged_err _ v c.in_err-totals.was) b in record { value = z.0; lent_after = z.1 }
+returns-in_err-leaks c =
+    let v = c.in_err-leaks.field-0.0 in
+    let b : c.from_residual-in_err-leaks.result ≡ Err v = search rules in
+    let z = ends_at _ _ _ _ _ v _ _ _ (goes_past _ _ _ _ (goes_past _ _ _ _ refl c.start_verdict.ensures c.in_ok-start_verdict.was) c.met_verdict.ensures c.in_ok-met_verdict.was) c.leaks_on-leaks.ensures.value c.in_err-leaks.was b in record { value = z.0; lent_after = z.1 }
 
 pub space_verdict-requires : goal.space_verdict-requires
 space_verdict-requires c =
     record {
       joined_tables = c.requires.joined_tables;
-      rule_room = room_kept _ _ _ _ _ _ c.requires.rule_room.0 c.leaks_on.auto.tos c.leaks_on.auto.others;
-      totalled = holds_of _ _ _ c.in_ok-totals.was c.leaks_on.ensures.totalled;
+      rule_room = room_kept _ _ _ _ _ _ c.requires.rule_room.0 c.leaks_on-leaks.auto.tos c.leaks_on-leaks.auto.others;
+      totalled = c.leaks_on-leaks.ensures.totalled;
     }
 
 pub returns : goal.returns
 unfolding below_ceilings
 returns c =
     record {
-      value = c.space_verdict.ensures.value ∙ sym (ap outcome (goes_past _ _ _ _ (goes_past _ _ _ _ (goes_past _ _ _ _ refl c.start_verdict.ensures c.in_ok-start_verdict.was) c.met_verdict.ensures c.in_ok-met_verdict.was) c.leaks_on.ensures.value (judged_ok _ _ c.in_ok-totals.was)));
+      value = c.space_verdict.ensures.value ∙ sym (ap outcome (goes_past _ _ _ _ (goes_past _ _ _ _ (goes_past _ _ _ _ refl c.start_verdict.ensures c.in_ok-start_verdict.was) c.met_verdict.ensures c.in_ok-met_verdict.was) c.leaks_on-leaks.ensures.value c.in_ok-leaks.was));
       lent_after = c.space_verdict.ensures.lent_after;
     }

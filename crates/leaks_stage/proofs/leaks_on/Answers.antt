@@ -1,11 +1,7 @@
 use native.Mathlib.Omega.{arith}
-use mathlib.Core.Path.{◌≡◌, sym, ◌∙◌}
-use Rattle.std.proofs.Common.{Err}
 use Rattle.model.specs.Ceilings.{ceilings_of}
-use Rattle.model.specs.Verify.{judged}
 use Rattle.system_totals.proofs.Walk.{room_kept}
 use Rattle.rule_tables.proofs.Joining.{long, lent_letters}
-use Rattle.stages.proofs.Answering.{judged_err}
 use Rattle.leaks_stage.proofs.Laying.{rules_fit, spare_room, states_few, with_holders}
 use borrow.Author.Rules.{rules}
 use Rattle.leaks_stage.proofs.leaks_on.Goals as goal
@@ -44,8 +40,8 @@ fill_groups-gathered-requires c =
       states_in_bounds = omega (arith, c.requires.mask_room.states, states_few _ _ _ l.counted);
     }
 
-pub leak_check-requires : goal.leak_check-requires
-leak_check-requires c =
+pub leak_check-leaks-requires : goal.leak_check-leaks-requires
+leak_check-leaks-requires c =
     let l = c.requires.limited in
     let m = c.requires.mask_room in
     record {
@@ -57,12 +53,5 @@ leak_check-requires c =
       rooms = record { rules = room_kept _ _ _ _ _ _ c.requires.rule_room.0 c.fill_groups-gathered.auto.tos c.fill_groups-gathered.auto.others; near_room = m.beside };
     }
 
-pub returns-in_err-leak_check : goal.returns-in_err-leak_check
-returns-in_err-leak_check c =
-    let v = c.in_err-leak_check.field-0.0 in
-    let b : c.from_residual.result ≡ Err v = search rules in
-    record { value = judged_err _ v b ∙ sym c.in_err-leak_check.was ∙ c.leak_check.ensures; totalled = search rules }
-
 pub returns : goal.returns
-unfolding judged
-returns c = record { value = sym c.in_ok-leak_check.was ∙ c.leak_check.ensures; totalled = c.fill_groups-gathered.ensures.totalled }
+returns c = record { value = c.leak_check-leaks.ensures; totalled = c.fill_groups-gathered.ensures.totalled }
